@@ -1,4 +1,4 @@
--- Lemmas of schedules and traces: reading and spelling lines, which events they are, and writing what came of them.
+-- Lemmas of schedules and traces: how lines are read and spelled, which events they are, and how their results are written.
 pub mod Decoding
 pub mod LineEvents
 pub mod Lines

@@ -1,6 +1,6 @@
-//! The laws of the mutex: those of `lfm_laws`, which are passed on, and what they say of the type `State` and of the lines of
-//! a schedule. Each function here does nothing: its contract is the law, and its comment names the definition of the law and
-//! the file that proves it.
+//! The laws of the mutex: those of `lfm_laws`, which are re-exported, and laws of the type `State` and of the lines of a
+//! schedule. Each function here does nothing. Its contract is the law, and its comment names the definition of the law and the
+//! file that proves it.
 
 pub mod abstract_mutex;
 pub mod schedules;

@@ -1,5 +1,5 @@
-//! The mutex as a state that makes one atomic step at a time. Every state that a caller has is steady: no other can be built,
-//! and each turn keeps it so. The turns and readers themselves are the machine's.
+//! The mutex as a state that makes one atomic step at a time. Every state that a caller can have is steady: no other can be
+//! built, and each turn keeps it so. The turns and readers themselves are those of the machine.
 ghost use Rattle.std.specs.Prelude.{◌≡◌, ◌≤◌, true, false, length, reverse, slice_get, vec_capacity, IfOk, IfErr};
 ghost use Rattle.std.specs.Option.{option_map};
 ghost use Rattle.lfm_laws.specs.laws.Lawful.{Lawful};
@@ -20,7 +20,7 @@ use lfm_words::{Handoff, Record};
 use std::alloc::Global;
 use std::marker::Model;
 
-/// A mutex of some seats, word for word, as calls and steps have led it from its start.
+/// The state of a mutex: its words and seats after the calls and steps made since its start.
 #[derive(Drop)]
 pub struct State {
     machine: Machine,
@@ -39,9 +39,9 @@ impl Model for State {
 
 /// The turns.
 impl State {
-    /// A mutex at its start, of this many seats (1 to 4,095) with this budget of takes each (1 to 2^36). Outside these limits
-    /// it answers Limit and asks for no memory. It makes four requests for memory, each of the size that is needed, and answers
-    /// Memory if one was refused.
+    /// Makes a mutex at its start, with this many seats (1 to 4,095) and this budget of takes for each (1 to 2^36). Outside
+    /// these limits it returns Limit and allocates nothing. It allocates four times, each time the size that is needed, and
+    /// returns Memory if an allocation failed.
     pub fn new(alloc: Global, seats: u64, budget: u64) -> Result<State, NewFault>
         ensures ok { IfOk result (λ m. m ≡ start (record { seats = seats; budget = budget })) }
         ensures limit { are_in_limits seats budget ≡ false → result ≡ Err NewFault.Limit }
@@ -58,8 +58,8 @@ impl State {
     }
 
     /// Seat s begins a call: the checks in the order of the refusals, the charge of a take, and the first point. It is refused
-    /// as NoSuchSeat if no seat has this number, then as InCall if a call of the seat is open, then by the mutex. A refused
-    /// turn changes nothing.
+    /// as NoSuchSeat if no seat has this number, then as InCall if a call of the seat is open, then by the checks of the mutex.
+    /// A refused turn changes nothing.
     pub fn begin(&mut self, s: u64, call: Call) -> Turn
         ensures core { self.new ≡ (begin self.old s call).core }
         ensures turn { result ≡ (begin self.old s call).turn }
@@ -68,8 +68,8 @@ impl State {
     }
 
     /// Seat s makes the one atomic step at its point. It is refused as NoSuchSeat if no seat has this number, then as Idle if
-    /// no call of the seat is open; both change nothing. Busy and NotWaiting from a step end the call, and Busy gives its
-    /// charge back.
+    /// no call of the seat is open; both change nothing. A step that is refused as Busy or NotWaiting ends the call, and Busy
+    /// gives its charge back.
     pub fn step(&mut self, s: u64) -> Turn
         ensures core { self.new ≡ (step self.old s).core }
         ensures turn { result ≡ (step self.old s).turn }
@@ -82,14 +82,14 @@ impl State {
 impl State {
     ghost use Rattle.lfm_laws.specs.steady.Steady.{Steady};
 
-    /// Every state is steady. `laws::every_state_is_steady` is the same fact for callers.
+    /// Every state is steady. `laws::every_state_is_steady` states the same for callers.
     pub(crate) fn steady(&self)
         ensures { Steady self.now }
     {
         let _ = &self.machine;
     }
 
-    /// Every state is lawful, since it is steady. `laws::every_state_is_lawful` is the same fact for callers.
+    /// Every state is lawful, since it is steady. `laws::every_state_is_lawful` states the same for callers.
     pub(crate) fn law(&self)
         ensures { Lawful self.now }
     {
@@ -97,7 +97,7 @@ impl State {
     }
 }
 
-/// The readers of a state. None changes anything or takes memory.
+/// The readers of a state. None changes anything or allocates memory.
 impl State {
     /// The number of seats, at most 4,095. Seats are numbered from 1.
     pub fn seats(&self) -> u64
@@ -114,7 +114,7 @@ impl State {
         self.machine.is_seat(s)
     }
 
-    /// How many hold the mutex or want it.
+    /// How many seats hold the mutex or want it.
     pub fn count(&self) -> u64
         ensures { result ≡ self.now.count }
     {
@@ -128,21 +128,22 @@ impl State {
         self.machine.owner()
     }
 
-    /// The posted handoff; its seat is 0 if none is posted.
+    /// The posted hand-off; its seat is 0 if none is posted.
     pub fn handoff(&self) -> Handoff
         ensures { result ≡ self.now.handoff }
     {
         self.machine.handoff()
     }
 
-    /// No call makes more steps than this while no other seat makes one.
+    /// The greatest number of steps that a call makes while no other seat makes a step.
     pub fn longest_call(&self) -> u64
         ensures { result ≡ longest_call self.now }
     {
         self.machine.longest_call()
     }
 
-    /// How many times seat s holds the mutex: 0 to 65,535. A seat that isn't there reads as one at rest that did nothing.
+    /// How many times seat s holds the mutex: 0 to 65,535. For a number that no seat has, it returns the value of a seat at
+    /// rest that did nothing.
     pub fn depth(&self, s: u64) -> u64
         ensures { result ≡ (seat self.now.seats s).depth }
     {
@@ -156,29 +157,29 @@ impl State {
         self.machine.takes(s)
     }
 
-    /// How many handoffs seat s has posted.
+    /// How many hand-offs seat s has posted.
     pub fn posts(&self, s: u64) -> u64
         ensures { result ≡ (seat self.now.seats s).posts }
     {
         self.machine.posts(s)
     }
 
-    /// Where the responsibility lies, read from the words and the points: with the owner, in the posted handoff, with a
-    /// seat whose grant isn't loaded, or with a call that carries it. It looks at each seat at most twice.
+    /// Where the responsibility is, read from the words and the points: with the owner, in the posted hand-off, with a seat
+    /// whose grant isn't loaded, or with a call that carries it. It reads each seat at most twice.
     pub fn place(&self) -> Place
         ensures { result ≡ place_of self.now }
     {
         self.machine.place()
     }
 
-    /// How many records are queued. It walks the links of those that are in no pop list.
+    /// How many records are queued. It follows the links of those that are in no pop list.
     pub fn queue_len(&self) -> u64
         ensures { result ≡ length (queue_of self.now) }
     {
         self.machine.queue_len()
     }
 
-    /// The seat and stamp of the record that i others are older than: 0 is the oldest. None past the newest. It walks the
+    /// The seat and stamp of the record with index i in the queue, where 0 is the oldest. None past the newest. It follows the
     /// links of those that are in no pop list.
     pub fn queued(&self, i: u64) -> Option<(SeatNo, u64)>
         ensures { result ≡ option_map pair_of (slice_get (queue_of self.now) i) }
@@ -186,7 +187,7 @@ impl State {
         self.machine.queued(i)
     }
 
-    /// Gathers the queue's records, newest first, into room that was reserved for a record of each seat.
+    /// Collects the queue's records, newest first, into a vector with reserved room for a record of each seat.
     pub(crate) fn gather(&self, room: &mut Vec<Record>)
         requires { length self.now.seats ≤ vec_capacity room.old }
         ensures gathered { reverse room.new.items ≡ queue_of self.now }

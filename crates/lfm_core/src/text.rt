@@ -1,4 +1,4 @@
-//! Schedules and traces as text, the replay from the one to the other, and what a program reports at its end.
+//! Schedules and traces as text, the replay of a schedule into a trace, and what a program reports at its end.
 
 pub mod faults;
 pub mod grammar_laws;

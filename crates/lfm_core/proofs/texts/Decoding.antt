@@ -1,4 +1,4 @@
--- A line or a first line of a schedule that is written is read back as itself, and has no line feed.
+-- A line or a first line of a schedule, once written, is read back as itself, and has no line feed.
 use Rattle.std.proofs.Common.{◌≡◌, ◌≤◌, ◌<◌, ◌^◌, ◌&&◌, nat_le, ℕ, true, List, [], ◌∷◌, ◌++◌, Some, refl, sym, ◌∙◌, ap, arith, tests, codes, decimal, inl, inr}
 use Rattle.lfm_protocol.specs.declared.answers.Call.{Call}
 use Rattle.lfm_protocol.specs.declared.answers.Call.TheVariants.{Lock, TryLock, Unlock, StartWait, SendLock, Receive}
@@ -12,12 +12,12 @@ use Rattle.lfm_core.specs.text.Spelling.{act_spelling, call_spelling, line_spell
 use Rattle.lfm_text.proofs.Numbers.{every}
 use Rattle.lfm_text.proofs.Separators.{Lacks, first_part, only_part, no_space, literal_lacks, no_feed, both_lack}
 
--- a seat and one word
+-- A line of a seat and one word is read as the act that the word spells
 one_word : (s : ℕ) (word : List ℕ) (a : Act) → s < 10 ^ 18 → parts_at 32 word ≡ word ∷ [] → act_of word ≡ Some a
     → line_of (words_of (decimal s ++ 32 ∷ word)) ≡ Some (record { seat = s; act = a })
 one_word s word a small whole says = rw (first_part 32 (decimal s) word (no_space s small), whole, every s small, says) refl
 
--- a seat, its call and a target
+-- A line of a seat, `send_lock` and a target is read as that call
 send_words : (s t : ℕ) → s < 10 ^ 18 → t < 10 ^ 18
     → line_of (words_of (decimal s ++ 32 ∷ (codes "send_lock " ++ decimal t))) ≡ Some (record { seat = s; act = Begin (SendLock t) })
 send_words s t small short =
@@ -45,11 +45,11 @@ act_decodes s (Steps k) small writable =
     one_word s (codes "+" ++ decimal k) (Steps k) small (steps_word k (omega (arith, writable.1))) (steps_said k writable.0 writable.1)
 act_decodes s ToEnd small writable = one_word s (codes "*") ToEnd small refl refl
 
--- a line that is written in full
+-- A line that is written in full is read back
 pub line_decodes : (l : Line) → IsWritable l → line_of (words_of (line_spelling l)) ≡ Some l
 line_decodes l writable = act_decodes l.seat l.act writable.seat writable.act
 
--- the other form of one step
+-- A line in the other form of one step is read back
 pub one_step_decodes : (s : ℕ) → s < 10 ^ 18 → line_of (words_of (one_step_spelling s)) ≡ Some (record { seat = s; act = Steps 1 })
 one_step_decodes s small = one_word s (codes ".") (Steps 1) small refl refl
 
@@ -60,7 +60,7 @@ header_decodes n b small short =
 pub short_header_decodes : (n : ℕ) → n < 10 ^ 18 → header_of (words_of (short_header_spelling n)) ≡ Some (record { seats = n; budget = max_budget })
 short_header_decodes n small = rw (only_part 32 (decimal n) (no_space n small), every n small) refl
 
--- a first line, in either form
+-- A first line is read back, in either form
 pub spelled_header_decodes : (text : List ℕ) (n b : ℕ) → SpellsHeader text n b → n < 10 ^ 18 → b < 10 ^ 18 → header_of (words_of text) ≡ Some (record { seats = n; budget = b })
 spelled_header_decodes text n b spells small short =
     elim spells [
@@ -68,7 +68,7 @@ spelled_header_decodes text n b spells small short =
       | inr largest ↦ ap (λ t. header_of (words_of t)) largest.1 ∙ short_header_decodes n small ∙ ap (λ m. Some (record { seats = n; budget = m })) (sym largest.0)
     ]
 
--- a line, in either form
+-- A line is read back, in either form
 pub spelled_decodes : (text : List ℕ) (l : Line) → Spells text l → IsWritable l → line_of (words_of text) ≡ Some l
 spelled_decodes text l spells writable =
     elim spells [

@@ -1,4 +1,4 @@
--- A schedule of events does to a state what lines do, with the same answers.
+-- Events change a state as the lines that they belong to do, with the same answers.
 use Rattle.std.proofs.Common.{◌≡◌, ℕ, zero, suc, Bool, true, false, ◌+◌, ◌&&◌, nat_eq, nat_lt, List, [], ◌∷◌, ◌++◌, if◌then◌else◌, refl, sym, ap, ◌∙◌, inl, inr}
 use Rattle.std.proofs.lemmas.Bool.{cases_Bool}
 use Rattle.std.proofs.lemmas.List.{append_assoc, append-nil}
@@ -83,13 +83,13 @@ lines_turn c (line ∷ lines) =
 
 -- The answers
 
--- a turn that leaves the call open answers nothing
+-- a turn that leaves the call open has no answer
 open_answers : (s : ℕ) (turn : Turn) → is_open turn ≡ true → answered_by s turn ≡ []
 open_answers s Open on = refl
 open_answers s (Ended answer) on = absurd (cc)
 open_answers s (Refused why) on = refl
 
--- the start of a call answers no Held
+-- the start of a call has no answer Held
 abbrev IsSilent : ℕ → Stepped → Type 0
 IsSilent s m = answered_by s m.turn ≡ []
 

@@ -1,4 +1,5 @@
--- A whole text is read as a schedule exactly if it spells it, and Limit is answered exactly if it is too long or out of range.
+-- A whole text is read as a schedule if and only if it spells it. Limit is returned if and only if the text is too long or out
+-- of range.
 use Rattle.std.proofs.Common.{◌≡◌, ◌≢◌, ◌≤◌, ◌<◌, ◌^◌, ◌⊎◌, inl, inr, ℕ, Bool, true, false, cond, List, Result, Ok, Err, refl, ◌∙◌, arith, tests}
 use Rattle.lfm_core.specs.declared.text.schedule.Line.{Line}
 use Rattle.lfm_core.specs.declared.text.faults.ReplayFault.{ReplayFault}
@@ -24,7 +25,7 @@ apart = record { number = λ m n e. cc; limit = λ n e. cc; whole = whole_no_lin
         by_test true = λ e. cc
         by_test false = λ e. cc
 
--- single lines of schedules say exactly what they spell
+-- a single line is read as a line of a schedule if and only if it spells it
 spelled : AreSpelled schedules SpellsFirst SpellsWritable
 spelled = record {
   first_only = λ text limits e. header_only text limits.seats limits.budget e;
@@ -36,7 +37,7 @@ spelled = record {
 within : (n b : ℕ) → are_in_limits n b ≡ true → ((1 ≤ n) × (n ≤ max_seats)) × ((1 ≤ b) × (b ≤ max_budget))
 within n b inside = search (tests, arith)
 
--- a text that says a plan
+-- a text that is read as a plan spells it
 pub plan_only : (text : List ℕ) (p : Plan) → plan_in text ≡ Ok p → SpellsPlan text p
 plan_only text p e =
     let says = said_only schedules SpellsFirst SpellsWritable spelled text p e in
@@ -50,13 +51,13 @@ plan_only text p e =
         rw (← plan) (record { lines = says.spells; seats = limits.0; budget = limits.1 })
     by_test says false inside e = absurd (cc)
 
--- a text whose lines are those of a plan
+-- a text whose lines spell a plan is read as it
 pub plan_all : (text : List ℕ) (p : Plan) → SpellsPlan text p → plan_in text ≡ Ok p
 plan_all text p spells =
     let inside : are_in_limits p.seats p.budget ≡ true = search (tests, arith, spells.seats.0, spells.seats.1, spells.budget.0, spells.budget.1) in
     said_all schedules SpellsFirst SpellsWritable spelled text (record { seats = p.seats; budget = p.budget }) p.lines spells.lines ∙ rw inside refl
 
--- a text that is too long, or one whose numbers are out of range
+-- a text for which Limit is returned is too long, or its numbers are out of range
 pub plan_limit : (text : List ℕ) → plan_in text ≡ Err Limit → (is_past_limit text ≡ true) ⊎ SpellsOutOfRange text
 plan_limit text e = elim (limit_only schedules SpellsFirst SpellsWritable spelled apart text e) [ inl past ↦ inl past | inr says ↦ inr (by_test says (are_in_limits says.head.seats says.head.budget) refl says.answers) ]
   where
@@ -65,13 +66,13 @@ plan_limit text e = elim (limit_only schedules SpellsFirst SpellsWritable spelle
     by_test says true inside e = absurd (cc)
     by_test says false inside e = record { limits = says.head; lines = says.lines; spells = says.spells; outside = inside }
 
--- numbers that are out of range are the fault of a text that has no other
+-- a text whose only fault is that its numbers are out of range has the fault Limit
 pub plan_range : (text : List ℕ) → SpellsOutOfRange text → plan_in text ≡ Err Limit
 plan_range text spells =
     let outside = spells.outside in
     said_all schedules SpellsFirst SpellsWritable spelled text spells.limits spells.lines spells.spells ∙ rw outside refl
 
--- a whole plan that is written in full
+-- A whole plan that is written in full is read back
 pub plan_decodes : (p : Plan) → IsWritablePlan p → plan_in (plan_spelling p) ≡ Ok p
 plan_decodes p writable =
     let small : p.seats < 10 ^ 18 = omega (arith, writable.seats.1) in

@@ -1,4 +1,4 @@
--- The text of a queue, of which the oldest record is written first.
+-- The text of a queue, in which the oldest record is written first.
 use Rattle.std.proofs.Common.{◌≡◌, ◌<◌, ◌≤◌, ◌^◌, ℕ, List, [], ◌∷◌, ◌++◌, length, Option, Result, Ok, Err, reverse, codes, decimal, sym, ◌∙◌, ap, append-nil, arith}
 use Rattle.std.proofs.lemmas.Fmt.{length-decimal-le}
 use Rattle.std.proofs.lemmas.List.{reverse-append}
@@ -9,12 +9,12 @@ use Rattle.lfm_text.specs.Writing.{Writes, joined}
 use Rattle.lfm_text.proofs.Writes.{wrote_then, failed_within, written_nothing}
 use Rattle.lfm_words.specs.declared.pop_lists.Record.{Record}
 
--- the record at the end is the oldest
+-- the last record of the items is the oldest
 oldest_first : (items rest : List Record) (x : Record) → items ≡ rest ++ x ∷ [] → reverse items ≡ x ∷ reverse rest
 oldest_first items rest x is = ap reverse is ∙ reverse-append rest (x ∷ [])
 
 module _ (old mid : Option (List ℕ)) (items rest : List Record) (x : Record) (is : items ≡ rest ++ x ∷ []) where
-  -- the oldest was written, so what writes the others writes all
+  -- the oldest record was written, so if the others are written next, the whole queue is
   pub oldest_written : Writes {T = Unit {0}} old mid (record_text x) (Ok tt) → (new : Option (List ℕ)) (r : Result (Unit {0}) WriteFault)
       → Writes mid new (further_text (reverse rest)) r → Writes old new (queue_text (reverse items)) r
   oldest_written p new r q = rw (oldest_first items rest x is) (wrote_then old mid new (record_text x) (further_text (reverse rest)) tt r p q)
@@ -23,7 +23,7 @@ module _ (old mid : Option (List ℕ)) (items rest : List Record) (x : Record) (
       → Writes old mid (queue_text (reverse items)) r
   oldest_failed fault r p e = rw (oldest_first items rest x is) (failed_within old mid (record_text x) (further_text (reverse rest)) fault r p e)
 
-  -- the same of one of the others, which stands behind a comma
+  -- the same for one of the others, which is written after a comma
   pub further_written : Writes {T = Unit {0}} old mid (joined (codes "," ∷ record_text x ∷ [])) (Ok tt) → (new : Option (List ℕ)) (r : Result (Unit {0}) WriteFault)
       → Writes mid new (further_text (reverse rest)) r → Writes old new (further_text (reverse items)) r
   further_written p new r q = rw (oldest_first items rest x is) (wrote_then old mid new _ (further_text (reverse rest)) tt r p q)
@@ -32,7 +32,7 @@ module _ (old mid : Option (List ℕ)) (items rest : List Record) (x : Record) (
       → IsErrAnd r (λ y. y ≡ fault) → Writes old mid (further_text (reverse items)) r
   further_failed fault r p e = rw (oldest_first items rest x is) (failed_within old mid _ (further_text (reverse rest)) fault r p e)
 
--- nothing is left to write if there is no record
+-- if there is no record, nothing is left to write
 pub none_left : (a : Option (List ℕ)) (items : List Record) → length items ≡ 0 → Writes {T = Unit {0}} a a (further_text (reverse items)) (Ok tt)
 none_left a [] e = written_nothing a tt
 none_left a (x ∷ items) e = absurd (omega (arith, e))
@@ -47,7 +47,7 @@ pub record_put : (r : Record) (end separator start : List ℕ) → end ≡ decim
 unfolding joined
 record_put r end separator start e s t = t ∙ ap (λ l. decimal r.seat ++ l) (s ∙ ap (λ l. 35 ∷ l) e)
 
--- and that of a record behind a comma
+-- the text of a record after a comma
 pub further_put : (r : Record) (later start : List ℕ) → later ≡ record_text r → start ≡ 44 ∷ later → start ≡ joined (codes "," ∷ record_text r ∷ [])
 unfolding joined
 further_put r later start e s = s ∙ ap (λ l. 44 ∷ l) (e ∙ sym (append-nil (record_text r)))

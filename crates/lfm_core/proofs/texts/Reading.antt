@@ -1,4 +1,4 @@
--- What is known of the lines that a text spells: those that ask for steps ask for 1 to 999.
+-- A fact about the lines that a text spells: those that ask for steps ask for 1 to 999.
 use Rattle.std.proofs.Common.{◌≡◌, ◌+◌, ◌==◌, ◌&&◌, nat_le, ℕ, Bool, true, false, cond, List, [], ◌∷◌, Option, Some, None, Result, Ok, Err, IfSome, IfOk, All, refl, arith, tests, codes}
 use Rattle.std.proofs.lemmas.List.Elements.{All-nil, All-cons}
 use Rattle.std.specs.Str.{bytes_eq}
@@ -12,7 +12,7 @@ use Rattle.lfm_text.specs.Text.{number_of, words_of}
 use Rattle.lfm_text.specs.Grammar.{in_front, lines_from}
 use Rattle.lfm_core.specs.text.Grammar.{max_steps, steps_of, plain_act_of, act_of, seat_line, send_act, line_of, schedules, HasFewSteps}
 
--- an act that asks for few steps, if any
+-- the act, if there is one, asks for few steps
 record FewSteps (act : Option Act) : Type 0 where
   few : IfSome act HasFewSteps
 
@@ -78,6 +78,6 @@ few_in_lines number [] = All-nil (λ l. HasFewSteps l.act)
 few_in_lines number (text ∷ texts) =
     few_in_front (Syntax number) (line_of (words_of text)) (lines_from schedules (number + 1) texts) (few_in_line (words_of text)) (few_in_lines (number + 1) texts)
 
--- lines that were spelled ask for 1 to 999 steps
+-- Lines that were read ask for 1 to 999 steps. By induction on the texts
 pub few_steps : (number : ℕ) (texts : List (List ℕ)) (lines : List Line) → lines_from schedules number texts ≡ Ok lines → All (λ l. HasFewSteps l.act) lines
 few_steps number texts lines e = rw e at (few_in_lines number texts)

@@ -1,4 +1,4 @@
--- What was written and answered is what the input says.
+-- What was written and returned is the trace and the verdict of the input.
 use Rattle.std.proofs.Common.{◌≡◌, ◌≢◌, ◌++◌, ℕ, Bool, true, List, Option, Some, None, Result, Ok, Err, IfOk, IfSome, inl, inr, refl, sym, ◌∙◌, ap, subst, append-nil}
 use Rattle.std.specs.Prelude.{IsErrAnd}
 use Rattle.std.proofs.lemmas.Bool.{cases_Bool}
@@ -16,12 +16,12 @@ use Rattle.lfm_core.specs.text.Trace.{answer_of, opening_text, lines_text, none_
 use Rattle.lfm_text.specs.Writing.{AppendsPrefix, Writes}
 use Rattle.lfm_text.proofs.LineCount.{is_past_limit-append}
 
--- what a replay answers that ends as a run did
+-- what a replay returns, from how its run ended
 abbrev pub ended : Result Bool WriteFault → Result Bool ReplayFault
 ended (Ok b) = Ok b
 ended (Err fault) = Err Write
 
--- the verdict after its text, or a prefix of the text
+-- the verdict was returned after its text, or a prefix of the text was written
 told : (r : Result Bool WriteFault) (text : List ℕ) (b : Bool) (old new : Option (List ℕ)) → Writes old new text r → IfOk r (λ x. x ≡ b) → Tells (ended r) text (Ok b) old new
 told (Ok x) text b old new p e = (p.outcome, ap Ok (sym e))
 told (Err fault) text b old new p e = p.outcome
@@ -37,17 +37,17 @@ run_told r p state lines old new opens same writes verdict =
     (subst (Text (opening p)) same (subst (λ c. Text c lines) opens writes))
     (subst (Verdict (opening p)) same (subst (λ c. Verdict c lines) opens verdict))
 
--- the fault that `?` makes of a writer's, after a prefix of the text
+-- `?` makes a fault of a failed write, after a prefix of the text was written
 pub write_failed : (r : Result Bool ReplayFault) (text : List ℕ) (verdict : Result Bool ReplayFault) (old new : Option (List ℕ)) → IsErrAnd r (λ y. y ≡ Write)
     → AppendsPrefix old new text → Tells r text verdict old new
 write_failed (Ok b) text verdict old new e p = absurd e
 write_failed (Err y) text verdict old new e p = subst (λ x. Tells (Err x) text verdict old new) (sym e) p
 
--- a text past the limits is answered Limit
+-- a text past the limits has the fault Limit
 past_limit : (xs : List ℕ) → is_past_limit xs ≡ true → plan_in xs ≡ Err Limit
 past_limit xs past = rw past refl
 
--- the bytes that were taken say what all the bytes say
+-- the bytes that were taken are read as all the bytes are
 same_plan : (xs : List ℕ) (new : Option (List ℕ)) (taken : List ℕ) → Takes (Some xs) new taken → plan_in xs ≡ plan_in taken
 same_plan xs None taken takes = absurd takes.taken
 same_plan xs (Some ys) taken takes =
@@ -56,7 +56,7 @@ same_plan xs (Some ys) taken takes =
       | inr fits ↦ ap plan_in (takes.taken ∙ ap (λ l. taken ++ l) (takes.whole fits) ∙ append-nil taken)
     ]
 
--- what was answered of an input that was taken, if no read failed
+-- what was returned for an input that was taken, if no read failed
 some : (r : Result Bool ReplayFault) (input : List ℕ) (before after old new : Option (List ℕ)) → r ≢ Err Read
     → Takes before after input → Replays r input old new → SomeReplay r before after old new
 some (Ok b) input before after old new no_read takes p = record { input = input; takes = takes; replays = p }
@@ -66,7 +66,7 @@ some (Err Read) input before after old new no_read takes p = absurd (no_read ref
 some (Err Write) input before after old new no_read takes p = record { input = input; takes = takes; replays = p }
 some (Err Memory) input before after old new no_read takes p = p
 
--- the same of what was read of it
+-- the same for the schedule that was read
 pub some_reading : (r : Result Schedule ReplayFault) (input : List ℕ) (before after old new : Option (List ℕ)) → r ≢ Err Read
     → Takes before after input → Reads r input old new → SomeReading r before after old new
 some_reading (Ok s) input before after old new no_read takes p = record { input = input; takes = takes; says = p }
@@ -76,7 +76,7 @@ some_reading (Err Read) input before after old new no_read takes p = absurd (no_
 some_reading (Err Write) input before after old new no_read takes p = record { input = input; takes = takes; replays = p }
 some_reading (Err Memory) input before after old new no_read takes p = p
 
--- what was read of the bytes that were taken was read of all the bytes
+-- what was read from the bytes that were taken is what is read from all the bytes
 pub exact_reading : (before after : Option (List ℕ)) (taken : List ℕ) (r : Result Schedule ReplayFault) (old new : Option (List ℕ))
     → Takes before after taken → Reads r taken old new → IfSome before (λ xs. Reads r xs old new)
 exact_reading None after taken r old new takes p = tt
@@ -84,20 +84,20 @@ exact_reading (Some xs) after taken (Ok s) old new takes p = same_plan xs after 
 exact_reading (Some xs) after taken (Err fault) old new takes p =
     let same : plan_in xs ≡ plan_in taken = same_plan xs after taken takes in rw same p
 
--- the run of the schedule that an input says is the replay of the input
+-- the run of the schedule that an input spells is the replay of the input
 replayed : (s : Schedule) (r : Result Bool ReplayFault) (input : List ℕ) (old between new : Option (List ℕ)) → plan_in input ≡ Ok (plan_of s) → between ≡ old
     → Tells r (plan_text (plan_of s)) (Ok (none_refused (opening (plan_of s)) (plan_of s).lines)) between new → Replays r input old new
 replayed s r input old between new says unwritten p =
     subst (λ said. Tells r (text_of said) (answer_of said) old new) (sym says)
     (subst (λ bytes. Tells r (plan_text (plan_of s)) (Ok (none_refused (opening (plan_of s)) (plan_of s).lines)) bytes new) unwritten p)
 
--- the replay of the input that was taken
+-- the replay of the input that was taken from the reader
 pub some_replayed : (s : Schedule) (r : Result Bool ReplayFault) (before after old between new : Option (List ℕ)) → r ≢ Err Read → ReadsTaken s before after → between ≡ old
     → Tells r (plan_text (plan_of s)) (Ok (none_refused (opening (plan_of s)) (plan_of s).lines)) between new → SomeReplay r before after old new
 some_replayed s r before after old between new no_read taken unwritten p =
     some r taken.input before after old new no_read taken.takes (replayed s r taken.input old between new taken.says unwritten p)
 
--- the replay of the input that is known
+-- the replay of the input, if it is known
 pub exact_replayed : (s : Schedule) (r : Result Bool ReplayFault) (before old between new : Option (List ℕ)) → IfSome before (λ xs. Reads (Ok s) xs old between) → between ≡ old
     → Tells r (plan_text (plan_of s)) (Ok (none_refused (opening (plan_of s)) (plan_of s).lines)) between new → IfSome before (λ xs. Replays r xs old new)
 exact_replayed s r None old between new says unwritten p = tt

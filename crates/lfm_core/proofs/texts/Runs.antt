@@ -12,7 +12,7 @@ use Rattle.lfm_protocol.specs.Turns.{is_refused}
 use Rattle.lfm_text.specs.Writing.{Writes}
 use Rattle.lfm_text.proofs.Writes.{wrote_then, failed_within, written_nothing}
 
--- the text of the lines that are left begins with that of the first of them
+-- the text of the remaining lines begins with that of the first of them
 lines_text-drop : (n i : ℕ) (c : Core) (lines : List Line) (d : Line) → i < length lines
     → lines_text n c (drop i lines)
     ≡ line_text n (get_or lines i d) (line_moved c (get_or lines i d)).turn (line_moved c (get_or lines i d)).core
@@ -35,7 +35,7 @@ module _ (i : ℕ) (c after : Core) (turn : Turn) (lines : List Line) (d : Line)
       let next : i + 1 + 2 ≡ i + 2 + 1 = omega arith in
       rw (at_core, at_turn, next) (lines_text-drop (i + 2) i c lines d more)
 
-  -- the line was written, so what writes the text of those after it writes the text from it on
+  -- the line was written, so if the text of those after it is written next, the text from this line on is
   pub line_written : (old mid new : Option (List ℕ)) (r : Result Bool WriteFault) → Writes {T = Unit {0}} old mid (line_text (i + 2) (get_or lines i d) turn after) (Ok tt)
       → Writes mid new (lines_text (i + 1 + 2) after (drop (i + 1) lines)) r → Writes old new (lines_text (i + 2) c (drop i lines)) r
   line_written old mid new r p q = rw begins (wrote_then old mid new _ _ tt r p q)
@@ -50,6 +50,6 @@ module _ (i : ℕ) (c after : Core) (turn : Turn) (lines : List Line) (d : Line)
       and_assoc b (not refused) (none_refused after (drop (i + 1) lines))
       ∙ ap (λ x. b && x) (rw (told, at_core, at_turn) (sym (none_refused-drop i c lines d more)))
 
--- no line is left, so all of the text is written
+-- no line remains, so the whole text was written
 pub lines_end : (a : Option (List ℕ)) (n i : ℕ) (c : Core) (lines : List Line) (b : Bool) → length lines ≤ i → Writes a a (lines_text n c (drop i lines)) (Ok b)
 lines_end a n i c lines b past = rw (drop_all i lines past) (written_nothing a b)

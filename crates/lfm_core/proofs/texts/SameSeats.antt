@@ -23,6 +23,6 @@ seats-act_moved c s ToEnd = seats-steps (longest_call c) c s
 pub seats-line_moved : (c : Core) (line : Line) → length (line_moved c line).core.seats ≡ length c.seats
 seats-line_moved c line = seats-act_moved c line.seat line.act
 
--- the same of the state after a line
+-- the same for the state after a line
 pub seats_kept : (c after : Core) (line : Line) → after ≡ (line_moved c line).core → length after.seats ≡ length c.seats
 seats_kept c after line is = ap (λ m. length m.seats) is ∙ seats-line_moved c line

@@ -16,7 +16,7 @@ use Rattle.lfm_core.specs.text.Spelling.{act_spelling, IsWritableAct, IsWritable
 use Rattle.lfm_text.proofs.Numbers.{only}
 use Rattle.lfm_text.proofs.Spelled.{choose}
 
--- the word is an act, in one of its forms
+-- the word is a spelling of the act, in one of its forms
 record IsForm (word : List ℕ) (a : Act) : Type 0 where
   written : (word ≡ act_spelling a) ⊎ ((a ≡ Steps 1) × (word ≡ codes "."))
   writable : IsWritableAct a
@@ -55,7 +55,7 @@ act_only (c ∷ cs) a e = by_test (c == 43) refl e
     by_test true plus e = let is_plus : c ≡ 43 = search (tests, arith) in rw is_plus (steps_only cs (number_of cs) a refl e)
     by_test false plus e = plain_only (c ∷ cs) a e
 
--- a text that is a line, with what its numbers keep to
+-- a text that spells a line whose numbers are within their limits
 record IsLine (text : List ℕ) (l : Line) : Type 0 where
   spells : Spells text l
   writable : IsWritable l
@@ -92,13 +92,13 @@ words_only (s ∷ c ∷ t ∷ []) l e = by_test (bytes_eq c (codes "send_lock"))
     by_test false same e = absurd (cc)
 words_only (a ∷ b ∷ c ∷ d ∷ more) l e = absurd (cc)
 
--- a text that says a line is that line, in one of its forms
+-- a text that is read as a line is a spelling of it
 pub line_only : (text : List ℕ) (l : Line) → line_of (words_of text) ≡ Some l → Spells text l × IsWritable l
 line_only text l e =
     let line : IsLine text l = rw (join_with_byte-slice_split 32 text) at (words_only (words_of text) l e) in
     (line.spells, line.writable)
 
--- a text that is a first line, with what its numbers keep to
+-- a text that spells a first line whose numbers are within their limits
 record IsHeader (text : List ℕ) (n b : ℕ) : Type 0 where
   spells : SpellsHeader text n b
   small : n < 10 ^ 18
@@ -139,7 +139,7 @@ header_words_only (w ∷ s ∷ m ∷ []) n b e = by_test (bytes_eq w (codes "sea
     by_test false same e = absurd (cc)
 header_words_only (a ∷ w ∷ c ∷ d ∷ more) n b e = absurd (cc)
 
--- a text that says a first line is that line, in one of its forms
+-- a text that is read as a first line is a spelling of it
 pub header_only : (text : List ℕ) (n b : ℕ) → header_of (words_of text) ≡ Some (record { seats = n; budget = b }) → SpellsHeader text n b × (n < 10 ^ 18) × (b < 10 ^ 18)
 header_only text n b e =
     let line : IsHeader text n b = rw (join_with_byte-slice_split 32 text) at (header_words_only (words_of text) n b e) in

@@ -17,12 +17,12 @@ use Rattle.lfm_text.specs.Text.{number_of}
 abbrev pub max_steps : ℕ
 max_steps = 999
 
--- from 1 to 999 steps
+-- 1 to 999 steps
 abbrev pub steps_of : Option ℕ → Option Act
 steps_of None = None
 steps_of (Some k) = if nat_le 1 k && nat_le k max_steps then Some (Steps k) else None
 
--- what one word says that is no number of steps
+-- the act that one word spells, if it is not a number of steps
 abbrev pub plain_act_of : List ℕ → Option Act
 plain_act_of word =
     if bytes_eq word (codes ".") then Some (Steps 1)
@@ -34,12 +34,12 @@ plain_act_of word =
     else if bytes_eq word (codes "receive") then Some (Begin Receive)
     else None
 
--- what one word after the seat says; a number of steps has a plus sign before it
+-- the act that one word after the seat spells; a number of steps has a plus sign before it
 abbrev pub act_of : List ℕ → Option Act
 act_of [] = plain_act_of []
 act_of (c ∷ cs) = if c == 43 then steps_of (number_of cs) else plain_act_of (c ∷ cs)
 
--- a seat and what it does, if both are spelled
+-- a seat and its act, if both can be read
 abbrev pub seat_line : Option ℕ → Option Act → Option Line
 seat_line None act = None
 seat_line (Some s) None = None
@@ -52,25 +52,25 @@ send_act (Some t) = Some (Begin (SendLock t))
 abbrev pub send_of : List ℕ → List ℕ → List ℕ → Option Line
 send_of seat call target = if bytes_eq call (codes "send_lock") then seat_line (number_of seat) (send_act (number_of target)) else None
 
--- what the words of a line after the first say
+-- the line that the words after the first line spell
 abbrev pub line_of : List (List ℕ) → Option Line
 line_of (seat ∷ act ∷ []) = seat_line (number_of seat) (act_of act)
 line_of (seat ∷ call ∷ target ∷ []) = send_of seat call target
 line_of _ = None
 
--- a number of seats and a budget, if both are spelled
+-- a number of seats and a budget, if both can be read
 abbrev pub header : Option ℕ → Option ℕ → Option Limits
 header None budget = None
 header (Some n) None = None
 header (Some n) (Some b) = Some (record { seats = n; budget = b })
 
--- what the words of the first line say: the largest budget if it names none
+-- the limits that the words of the first line spell, with the largest budget if they name none
 abbrev pub header_of : List (List ℕ) → Option Limits
 header_of (word ∷ seats ∷ []) = if bytes_eq word (codes "seats") then header (number_of seats) (Some max_budget) else None
 header_of (word ∷ seats ∷ budget ∷ []) = if bytes_eq word (codes "seats") then header (number_of seats) (number_of budget) else None
 header_of _ = None
 
--- a schedule without where its lines lie in memory
+-- a schedule, regardless of where its lines are in memory
 pub record Plan : Type 0 where
   pub seats : ℕ
   pub budget : ℕ
@@ -90,7 +90,7 @@ schedules = record { first = header_of; line = line_of; whole = in_limits; synta
 abbrev pub plan_in : List ℕ → Result Plan ReplayFault
 plan_in text = said_in schedules text
 
--- the result, seen by view, is what the text says, unless memory was refused
+-- the result, as shown by view, is what was read from the text, unless an allocation failed
 abbrev pub Gives : {X Y : Type 0} → (X → Y) → Result X ReplayFault → Result Y ReplayFault → Type 0
 Gives view (Ok x) said = said ≡ Ok (view x)
 Gives view (Err (Syntax n)) said = said ≡ Err (Syntax n)
@@ -99,7 +99,7 @@ Gives view (Err Read) said = ⊥
 Gives view (Err Write) said = ⊥
 Gives view (Err Memory) said = ⊤
 
--- steps that an act asks for are 1 to 999
+-- an act that asks for steps asks for 1 to 999
 abbrev pub HasFewSteps : Act → Type 0
 HasFewSteps (Begin call) = ⊤
 HasFewSteps (Steps k) = (1 ≤ k) × (k ≤ max_steps)

@@ -1,5 +1,5 @@
--- The lines of a schedule as calls that begin and single steps: which events a line is, and that a line does what these do and
--- answers what the last of them answers.
+-- The lines of a schedule as starts of calls and single steps: which events a line is, and that a line does what these do and
+-- has the turn of the last of them.
 use Rattle.std.specs.Prelude.{◌≡◌, ℕ, zero, suc, List, [], ◌∷◌, ◌++◌, if◌then◌else◌}
 use Rattle.lfm_protocol.specs.declared.answers.Turn.{Turn}
 use Rattle.lfm_protocol.specs.declared.answers.Turn.TheVariants.{Open}
@@ -14,13 +14,13 @@ use Rattle.lfm_protocol.specs.Step.{step}
 use Rattle.lfm_core.specs.text.Lines.{line_moved, lines_core, lines_turns}
 use Rattle.lfm_protocol.specs.Turns.{is_open, longest_call}
 
--- at most this number of steps of seat s, each but the last of which leaves its call open
+-- at most this number of steps of seat s; each except the last leaves its call open
 abbrev pub events_of_steps : ℕ → Core → ℕ → List Event
 events_of_steps zero c s = []
 events_of_steps (suc most) c s =
     makes s ∷ (if is_open (step c s).turn then events_of_steps most (step c s).core s else [])
 
--- a call that begins, a given number of steps, or all steps to the end of the call
+-- the start of a call, a given number of steps, or all steps to the end of the call
 abbrev pub events_of_act : Core → ℕ → Act → List Event
 events_of_act c s (Begin call) = begins s call ∷ []
 events_of_act c s (Steps most) = events_of_steps most c s
@@ -29,7 +29,7 @@ events_of_act c s ToEnd = events_of_steps (longest_call c) c s
 abbrev pub events_of_line : Core → Line → List Event
 events_of_line c line = events_of_act c line.seat line.act
 
--- the events of one line after another, each from the state that the events before it have led to
+-- the events of the lines in order, each from the state after the events before it
 abbrev pub events_of_lines : Core → List Line → List Event
 events_of_lines c [] = []
 events_of_lines c (line ∷ lines) = events_of_line c line ++ events_of_lines (run_of c (events_of_line c line)) lines
@@ -44,19 +44,19 @@ abbrev pub last_turns : Core → List Line → List Turn
 last_turns c [] = []
 last_turns c (line ∷ lines) = last_turn c (events_of_line c line) Open ∷ last_turns (run_of c (events_of_line c line)) lines
 
--- the seat and stamp of each answer Held(Queued) of some lines, in order: of all steps of a line only the last one's turn can
--- answer
+-- the seat and stamp of each answer Held(Queued) of some lines, in order: among the steps of a line, only the last can end a
+-- call with an answer
 abbrev pub answer_record_of_lines : Core → List Line → List Record
 answer_record_of_lines c [] = []
 answer_record_of_lines c (line ∷ lines) =
     answered_by line.seat (line_moved c line).turn ++ answer_record_of_lines (line_moved c line).core lines
 
--- lines lead to the state to which their events lead, and answer what these answer
+-- lines lead to the state to which their events lead, and have the same answers
 pub record LinesGoBy (c : Core) (lines : List Line) : Type 0 where
   pub core : lines_core c lines ≡ run_of c (events_of_lines c lines)
   pub turns : lines_turns c lines ≡ last_turns c lines
   pub answers : answer_record_of_lines c lines ≡ answer_record c (events_of_lines c lines)
 
--- so that every law of events is one of lines
+-- lines are their events, so that every law of events holds of lines
 abbrev pub LinesAreEvents : Type 0
 LinesAreEvents = (c : Core) (lines : List Line) → LinesGoBy c lines

@@ -1,4 +1,4 @@
--- What a line of a schedule does to a state, and what a list of lines does.
+-- How a line of a schedule changes a state, and how a list of lines does.
 use Rattle.std.specs.Prelude.{ℕ, List, [], ◌∷◌}
 use Rattle.lfm_protocol.specs.declared.answers.Turn.{Turn}
 use Rattle.lfm_core.specs.declared.text.schedule.Act.{Act}

@@ -24,7 +24,7 @@ act_spelling (Begin call) = call_spelling call
 act_spelling (Steps k) = codes "+" ++ decimal k
 act_spelling ToEnd = codes "*"
 
--- a line after the first
+-- the text of a line after the first
 abbrev pub line_spelling : Line → List ℕ
 line_spelling l = decimal l.seat ++ (codes " " ++ act_spelling l.act)
 
@@ -32,18 +32,18 @@ line_spelling l = decimal l.seat ++ (codes " " ++ act_spelling l.act)
 abbrev pub one_step_spelling : ℕ → List ℕ
 one_step_spelling seat = decimal seat ++ codes " ."
 
--- the text is a line, in one of its forms
+-- the text is a spelling of the line, in one of its forms
 abbrev pub Spells : List ℕ → Line → Type 0
 Spells text l = (text ≡ line_spelling l) ⊎ ((l.act ≡ Steps 1) × (text ≡ one_step_spelling l.seat))
 
--- a first line, with a budget and without one
+-- the text of a first line, with a budget and without one
 abbrev pub header_spelling : ℕ → ℕ → List ℕ
 header_spelling seats budget = codes "seats " ++ (decimal seats ++ (codes " " ++ decimal budget))
 
 abbrev pub short_header_spelling : ℕ → List ℕ
 short_header_spelling seats = codes "seats " ++ decimal seats
 
--- the text is a first line with this number of seats and this budget, in one of its forms
+-- the text is a spelling of the first line with this number of seats and this budget, in one of its forms
 abbrev pub SpellsHeader : List ℕ → ℕ → ℕ → Type 0
 SpellsHeader text seats budget = (text ≡ header_spelling seats budget) ⊎ ((budget ≡ max_budget) × (text ≡ short_header_spelling seats))
 
@@ -61,12 +61,12 @@ IsWritableAct (Begin call) = HasShortTarget call
 IsWritableAct (Steps k) = (1 ≤ k) × (k ≤ max_steps)
 IsWritableAct ToEnd = ⊤
 
--- a line whose numbers a schedule may name
+-- a line whose numbers a schedule may contain
 pub record IsWritable (l : Line) : Type 0 where
   pub seat : l.seat < 10 ^ 18
   pub act : IsWritableAct l.act
 
--- a whole plan: each line is ended by a line feed
+-- the text of a whole plan: each line is ended by a line feed
 abbrev pub plan_spelling : Plan → List ℕ
 plan_spelling p = lines_spelling line_spelling (header_spelling p.seats p.budget) p.lines
 
@@ -77,11 +77,11 @@ pub record IsWritablePlan (p : Plan) : Type 0 where
   pub lines : All IsWritable p.lines
   pub short : is_past_limit (plan_spelling p) ≡ false
 
--- the text is a first line, in one of its forms, and its numbers have at most 18 digits
+-- the text is a spelling of a first line, in one of its forms, and its numbers have at most 18 digits
 abbrev pub SpellsFirst : List ℕ → Limits → Type 0
 SpellsFirst text limits = SpellsHeader text limits.seats limits.budget × (limits.seats < 10 ^ 18) × (limits.budget < 10 ^ 18)
 
--- the text is a line, in one of its forms, whose numbers a schedule may name
+-- the text is a spelling of the line, in one of its forms, and a schedule may contain the numbers of the line
 abbrev pub SpellsWritable : List ℕ → Line → Type 0
 SpellsWritable text l = Spells text l × IsWritable l
 

@@ -1,4 +1,4 @@
--- The text of a run: a line for the start, and a line for each line of the schedule with the state after it.
+-- The text of a run: one line for the start, and one for each line of the schedule, with the state after it.
 use Rattle.std.specs.Prelude.{ℕ, Bool, true, ◌+◌, ◌++◌, ◌&&◌, not, List, [], ◌∷◌, Option, Some, None, Result, Ok, Err, codes, decimal, nat_eq, if◌then◌else◌}
 use Rattle.lfm_protocol.specs.declared.answers.Answer.{Answer}
 use Rattle.lfm_protocol.specs.declared.answers.Answer.TheVariants.{Asked, Locked, Unlocked, Waiting, Got, Sent}
@@ -32,7 +32,7 @@ use Rattle.lfm_model.specs.Refusals.{name_of}
 use Rattle.lfm_words.specs.declared.handoffs.Handoff.{Handoff}
 use Rattle.lfm_words.specs.declared.pop_lists.Record.{Record}
 
--- ---- what came of a line
+-- ---- the result of a line
 
 abbrev pub how_text : How → List ℕ
 how_text How.Free = codes "Free"
@@ -78,7 +78,7 @@ why_text InCall = codes "InCall"
 why_text Idle = codes "Idle"
 why_text (By refusal) = name_of refusal
 
--- what a call that is open does on a line that begins one, or on one that makes steps
+-- a call that is open: a line that starts it writes one word, a line that makes steps another
 abbrev pub open_text : Act → List ℕ
 open_text (Begin call) = codes "begins"
 open_text (Steps most) = codes "goes on"
@@ -105,7 +105,7 @@ place_text (Place.Carried seat) = joined (codes "carried." ∷ decimal seat ∷ 
 abbrev pub record_text : Record → List ℕ
 record_text r = joined (decimal r.seat ∷ codes "#" ∷ decimal r.stamp ∷ [])
 
--- records behind another one, each behind a comma
+-- further records, each after a comma
 abbrev pub further_text : List Record → List ℕ
 further_text [] = []
 further_text (r ∷ records) = joined (codes "," ∷ record_text r ∷ []) ++ further_text records
@@ -129,7 +129,7 @@ state_text c = joined (words_text c ∷ codes " " ∷ place_text (place_of c) �
 abbrev pub opening_text : ℕ → Core → List ℕ
 opening_text seats c = joined (codes "1 seats " ∷ decimal seats ∷ codes " | " ∷ state_text c ∷ codes "\n" ∷ [])
 
--- a line's number, its seat, and what came of it
+-- the number of a line, its seat, and its result
 abbrev pub outcome_text : ℕ → Line → Turn → List ℕ
 outcome_text number line turn = joined (decimal number ∷ codes " " ∷ decimal line.seat ∷ codes " " ∷ turn_text line.act turn ∷ [])
 
@@ -137,7 +137,7 @@ outcome_text number line turn = joined (decimal number ∷ codes " " ∷ decimal
 abbrev pub line_text : ℕ → Line → Turn → Core → List ℕ
 line_text number line turn c = joined (outcome_text number line turn ∷ codes " | " ∷ state_text c ∷ codes "\n" ∷ [])
 
--- a line of text for each line from the given number on, each with the state that it leaves to the next
+-- a line of text for each line, numbered from the given number, each from the state after the line before
 abbrev pub lines_text : ℕ → Core → List Line → List ℕ
 lines_text number c [] = []
 lines_text number c (line ∷ lines) =
@@ -173,6 +173,6 @@ answer_of (Err fault) = Err fault
 abbrev pub trace_of : List ℕ → List ℕ
 trace_of input = text_of (plan_in input)
 
--- what is answered for an input: whether no line is refused, or its fault
+-- what is returned for an input: whether no line is refused, or its fault
 abbrev pub verdict_of : List ℕ → Result Bool ReplayFault
 verdict_of input = answer_of (plan_in input)

@@ -1,4 +1,4 @@
-//! Refinement: each `State` stands for a state of the abstract mutex. The laws of all states and runs are passed on.
+//! Refinement: each `State` stands for a state of the abstract mutex. The laws of all states and runs are re-exported.
 ghost use Rattle.lfm_laws.specs.laws.Lawful.{Lawful};
 
 use crate::stepped::State;
@@ -6,7 +6,7 @@ pub use lfm_laws::abstract_mutex::{
     events_are_their_cases, runs_are_abstract_runs, states_are_lawful,
 };
 
-/// Each value of type `State` has a reading with which its words agree, however a caller came by it.
+/// Each value of type `State` has a reading with which its words agree, however it was made.
 ///
 /// Definition: `Lawful` in `crates/lfm_laws/specs/laws/Lawful.antt`. Proof:
 /// `crates/lfm_laws/proofs/lawful/states/StateLaws.antt`.

@@ -1,4 +1,4 @@
-//! The invariant: each `State` is steady. The laws of all states and turns are passed on.
+//! The invariant: each `State` is steady. The laws of all states and turns are re-exported.
 ghost use Rattle.lfm_laws.specs.steady.Steady.{Steady};
 
 use crate::stepped::State;

@@ -4,7 +4,7 @@ use crate::stepped::State;
 use std::fmt::{Debug, Formatter, Result, Write};
 
 impl Debug for State {
-    /// Shows what belongs to no single seat. The readers tell what each seat has.
+    /// Shows what belongs to no single seat. What each seat has can be read with the readers.
     fn fmt<W: Write>(&self, f: &mut Formatter<W>) -> Result {
         f.debug_struct("State")
             .field("seats", &self.seats())

@@ -6,7 +6,7 @@ use crate::stepped::State;
 use lfm_protocol::points::Point;
 use lfm_words::{Link, Wake};
 
-/// For a number that no seat has, each reader answers as for a seat at rest with empty words.
+/// For a number that no seat has, each reader returns the value of a seat at rest with empty words.
 impl State {
     /// The push word: the newest stamp (0 to 2^48 - 1), and the head of the push list (0 is none).
     pub fn push_word(&self) -> Link

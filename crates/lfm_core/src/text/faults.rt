@@ -8,11 +8,11 @@ use thiserror::Error;
 
 /// Why no schedule was read or replayed to its end.
 ///
-/// The faults of this crate have numbers: 1 Syntax, 2 Limit, 6 Read, 7 Write, 8 Memory; 3 to 5 are those of a refused
-/// turn.
+/// The faults of this crate have numbers: 1 Syntax, 2 Limit, 6 Read, 7 Write, 8 Memory. The numbers 3 to 5 are those of a
+/// refused turn.
 #[derive(Clone, Copy, Debug, PartialEq, Eq, Drop, Error)]
 pub enum ReplayFault {
-    /// The line of this number, counted from 1, is not one that a schedule may have there.
+    /// The line with this number, counted from 1, is not one that a schedule may have there.
     #[error("line {0} is not a line of a schedule")]
     Syntax(u64),
     /// The input has too many bytes or lines, or the first line names a number that is out of range.
@@ -21,10 +21,10 @@ pub enum ReplayFault {
     /// The reader failed.
     #[error("read fault")]
     Read,
-    /// The writer failed, or took no byte.
+    /// The writer failed, or accepted no byte.
     #[error("write fault")]
     Write,
-    /// A request for memory was refused.
+    /// An allocation failed.
     #[error("out of memory")]
     Memory,
 }
@@ -44,7 +44,7 @@ impl From<InputFault> for ReplayFault {
 impl From<WriteFault> for ReplayFault {
     ghost from_gives = { λ e r. r ≡ output_fault e };
 
-    /// A writer has one fault, whatever it did.
+    /// A failed write is always this fault, whatever the writer did.
     fn from(_fault: WriteFault) -> ReplayFault {
         ReplayFault::Write
     }

@@ -1,4 +1,5 @@
-//! Laws of the grammar of schedules, in the subject's own words. Each is the contract of a function that does nothing.
+//! Laws of the grammar of schedules, stated by how lines and plans are spelled. Each is the contract of a function that does
+//! nothing.
 
 ghost use Rattle.std.specs.Prelude.{◌≡◌, ◌<◌, ◌^◌, ◌⊎◌, ℕ, true, false, List, Ok, Err, Some};
 ghost use Rattle.lfm_text.specs.Grammar.{IsFirstFault};
@@ -9,7 +10,7 @@ ghost use Rattle.lfm_core.specs.declared.text.schedule.Line.{Line};
 
 use crate::text::faults::ReplayFault;
 
-/// A text says a line after the first exactly if it is that line, in one of its forms.
+/// A text is read as a line after the first if and only if it is a spelling of that line, in one of its forms.
 pub fn lines_are_spelled()
     ensures only { (text : List ℕ) (l : Line) →
         line_of (words_of text) ≡ Some l → Spells text l × IsWritable l }
@@ -17,7 +18,8 @@ pub fn lines_are_spelled()
         Spells text l → IsWritable l → line_of (words_of text) ≡ Some l }
 {}
 
-/// A text says a first line exactly if it is that line, in one of its forms: the one without a budget has the largest.
+/// A text is read as a first line if and only if it is a spelling of that line, in one of its forms. The form without a budget
+/// has the largest budget.
 pub fn headers_are_spelled()
     ensures only { (text : List ℕ) (n : ℕ) (b : ℕ) →
         header_of (words_of text) ≡ Some (record { seats = n; budget = b }) →
@@ -27,16 +29,16 @@ pub fn headers_are_spelled()
         header_of (words_of text) ≡ Some (record { seats = n; budget = b }) }
 {}
 
-/// A text says a plan exactly if its lines are those of the plan, one by one. So does the text that is written with a line feed
-/// after each line.
+/// A text is read as a plan if and only if its lines spell the lines of the plan, in order. The text that is written with a
+/// line feed after each line is read as the plan too.
 pub fn plans_are_spelled()
     ensures only { (text : List ℕ) (p : Plan) → plan_in text ≡ Ok p → SpellsPlan text p }
     ensures all { (text : List ℕ) (p : Plan) → SpellsPlan text p → plan_in text ≡ Ok p }
     ensures written { (p : Plan) → IsWritablePlan p → plan_in (plan_spelling p) ≡ Ok p }
 {}
 
-/// Syntax is answered exactly if a text is not too long and has a line that says nothing, and it names the first such line. So
-/// it comes after the limits of length, and before those of the numbers.
+/// Syntax is returned if and only if a text is not too long and has a line that can't be read, and it names the first such
+/// line. So it comes after the limits of length, and before those of the numbers.
 pub fn first_faults_are_named()
     ensures only { (text : List ℕ) (n : ℕ) → plan_in text ≡ Err (ReplayFault.Syntax n) →
         (is_past_limit text ≡ false) × IsFirstFault schedules (lines_of text) n }
@@ -45,8 +47,8 @@ pub fn first_faults_are_named()
         plan_in text ≡ Err (ReplayFault.Syntax n) }
 {}
 
-/// Limit is answered exactly if a text is too long, or if all its lines are those of a schedule and the number of seats or the
-/// budget is out of range.
+/// Limit is returned if and only if a text is too long, or if all its lines are those of a schedule and the number of seats or
+/// the budget is out of range.
 pub fn limits_are_answered()
     ensures only { (text : List ℕ) → plan_in text ≡ Err ReplayFault.Limit →
         (is_past_limit text ≡ true) ⊎ SpellsOutOfRange text }

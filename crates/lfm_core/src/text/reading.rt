@@ -1,4 +1,4 @@
-//! A schedule from a reader. If the input has a fault, the fault's line is written.
+//! Reads a schedule from a reader. If the input has a fault, the fault's line is written.
 
 ghost use Rattle.std.specs.Prelude.{All, ◌≡◌, ◌≢◌, ◌<◌, length, true, Err, IfOk, IfSome, IsErrOf};
 ghost use Rattle.std.specs.Io.KnownBytes.{Keeps};
@@ -16,7 +16,7 @@ use lfm_text::{WriteFault, flush, read_input};
 use std::alloc::Global;
 use std::io::{Read, Write};
 
-/// Writes the line of an input's fault, and flushes the writer.
+/// Writes the line for a fault of the input, and flushes the writer.
 fn write_fault<W: Write>(writer: &mut W, fault: ReplayFault) -> Result<(), WriteFault>
     ensures { Writes (W.contents writer.old) (W.contents writer.new) (fault_text fault) result }
 {
@@ -25,7 +25,7 @@ fn write_fault<W: Write>(writer: &mut W, fault: ReplayFault) -> Result<(), Write
     Ok(())
 }
 
-/// Decodes a schedule from bytes already read. On a fault of theirs it writes the fault's line.
+/// Decodes a schedule from bytes already read. If they have a fault, it writes the fault's line.
 fn schedule_in<W: Write>(
     alloc: Global,
     input: &[u8],
@@ -49,17 +49,17 @@ fn schedule_in<W: Write>(
 }
 
 /// Reads a schedule. On a fault of the input, Syntax or Limit, it writes the fault's line, flushes the writer and returns the
-/// fault. After Read and Memory, and if there is no fault, nothing was written. Makes two requests for memory: one for the
-/// input, and one for the lines.
+/// fault. After Read and Memory, and if there is no fault, nothing was written. It allocates twice: for the input, and for the
+/// lines.
 pub fn schedule_from<R: Read, W: Write>(
     alloc: Global,
     reader: &mut R,
     writer: &mut W,
 ) -> Result<Schedule, ReplayFault>
-    // Some input was read, and this is its schedule or its fault.
+    // Some input was read, and the result is its schedule or its fault.
     ensures some { SomeReading result (R.remaining reader.old) (R.remaining reader.new)
         (W.contents writer.old) (W.contents writer.new) }
-    // If it is known what the reader has, this is the schedule or the fault of exactly that.
+    // If the contents of the reader are known, the result is the schedule or the fault of exactly these.
     ensures exact { IfSome (R.remaining reader.old) (λ input.
         Reads result input (W.contents writer.old) (W.contents writer.new)) }
     ensures unwritten { IfOk result (λ _. W.contents writer.new ≡ W.contents writer.old) }

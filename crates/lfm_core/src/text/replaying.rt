@@ -1,4 +1,4 @@
-//! The replay of a reader's schedule into a writer.
+//! The replay of a schedule from a reader into a writer.
 
 ghost use Rattle.std.specs.Prelude.{All, ◌≡◌, ◌≢◌, ◌++◌, ◌+◌, ◌<◌, ◌≤◌, length, vec_capacity, true, Err, Ok, IfErr, IfOk, IfSome, IsErrOf};
 ghost use Rattle.std.specs.Io.KnownBytes.{Keeps};
@@ -20,7 +20,7 @@ use lfm_words::Record;
 use std::alloc::Global;
 use std::io::{Read, Write};
 
-/// For each line in turn: runs it, and writes its line of the trace. Returns whether no line was refused.
+/// Runs each line in turn, and writes its line of the trace. Returns whether no line was refused.
 fn write_lines<W: Write>(
     writer: &mut W,
     state: &mut State,
@@ -48,7 +48,7 @@ fn write_lines<W: Write>(
     Ok(none_refused)
 }
 
-/// Writes the opening state, then runs the lines and writes the trace, and at the end flushes the writer. Returns whether no
+/// Writes the opening state, then runs the lines and writes the trace, and flushes the writer at the end. Returns whether no
 /// line was refused.
 fn write_run<W: Write>(
     writer: &mut W,
@@ -69,8 +69,8 @@ fn write_run<W: Write>(
     Ok(none_refused)
 }
 
-/// The state that a schedule starts from, and room for its queue: a record of each seat. Makes 5 requests for memory, 4 for the
-/// state and one for the queue. Memory if one was refused, and no other fault.
+/// The state that a schedule starts from, and room for its queue: a record of each seat. It allocates 5 times, 4 times for the
+/// state and once for the queue. Its only fault is Memory, if an allocation failed.
 pub fn start_run(alloc: Global, schedule: &Schedule) -> Result<(State, Vec<Record>), ReplayFault>
     requires limits { are_in_limits schedule.now.seats schedule.now.budget ≡ true }
     ensures starts { IfOk result (λ r. r.0 ≡ opening (plan_of schedule.now)) }
@@ -86,7 +86,7 @@ pub fn start_run(alloc: Global, schedule: &Schedule) -> Result<(State, Vec<Recor
     Ok((state, records))
 }
 
-/// Runs a schedule from a new state. Every request for memory precedes the first write.
+/// Runs a schedule from a new state. Every allocation is made before the first write.
 fn replay_schedule<W: Write>(
     alloc: Global,
     schedule: &Schedule,
@@ -111,20 +111,21 @@ fn replay_schedule<W: Write>(
 /// - Memory and Read: nothing. Read is a failure of the reader, before the input was past a limit.
 /// - Limit and Syntax: the line of the fault, and nothing else. `read_schedule` says which comes when. No byte is read
 ///   after the first that is past a limit of length.
-/// - Write: a prefix of the text. The writer failed, took no byte, or failed to flush.
+/// - Write: a prefix of the text. The writer failed, accepted no byte, or failed to flush.
 ///
-/// Any error of the reader or the writer is a failure, even an interruption. After the last line the writer is flushed. Makes 7
-/// requests for memory, each of them before the first write: one for the input, one for the lines, 4 for the state, and one for
-/// its queue.
+/// Any error of the reader or the writer is a failure, even an interruption. After the last line the writer is flushed. It
+/// allocates 7 times, each time before the first write: once for the input, once for the lines, 4 times for the state, and once
+/// for its queue.
 pub fn replay<R: Read, W: Write>(
     alloc: Global,
     reader: &mut R,
     writer: &mut W,
 ) -> Result<bool, ReplayFault>
-    // Some input was read, and this is its replay. It says nothing of bytes of a reader or a writer that are not known.
+    // Some input was read, and the result is its replay. This states nothing about a reader or a writer whose bytes are not
+    // known.
     ensures some { SomeReplay result (R.remaining reader.old) (R.remaining reader.new)
         (W.contents writer.old) (W.contents writer.new) }
-    // If it is known what the reader has, this is the replay of exactly that.
+    // If the contents of the reader are known, the result is the replay of exactly these.
     ensures exact { IfSome (R.remaining reader.old) (λ input.
         Replays result input (W.contents writer.old) (W.contents writer.new)) }
     // After these two faults nothing was written, whatever was read.

@@ -6,7 +6,7 @@ use crate::text::faults::ReplayFault;
 use lfm_text::tell_fault;
 
 /// The exit status of a replay: 0 if no line was refused; 1 if a line was refused, or the input had a fault of syntax or was
-/// past a limit; 3 if the reader or the writer failed; 4 if memory was refused.
+/// past a limit; 3 if the reader or the writer failed; 4 if an allocation failed.
 pub fn replay_status(outcome: &Result<bool, ReplayFault>) -> u8
     ensures { result ≡ replay_status outcome.now }
 {
@@ -18,8 +18,8 @@ pub fn replay_status(outcome: &Result<bool, ReplayFault>) -> u8
     }
 }
 
-/// Prints on standard error the fault that ended the program early, if there was one, after the program's name. Returns the
-/// exit status of the outcome. A message that can't be written changes no status.
+/// Prints the program's name and the fault that ended the program early, if there was one, on standard error. Returns the exit
+/// status of the outcome. If the message can't be written, the status is the same.
 pub fn report<R: Eprint>(rt: &R, program: &'static str, outcome: &Result<bool, ReplayFault>) -> u8
     ensures { result ≡ replay_status outcome.now }
 {

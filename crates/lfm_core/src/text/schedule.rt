@@ -1,4 +1,4 @@
-//! What a schedule is, and how it is read from its bytes. How its lines are run is in `schedule_runs`.
+//! What a schedule is, and how it is read from its bytes. Its lines are run in `schedule_runs`.
 
 ghost use Rattle.std.specs.Prelude.{◌≡◌, ◌+◌, ◌^◌, ◌≤◌, ◌<◌, length, All, IfOk, IsErrOf};
 ghost use Rattle.lfm_text.specs.Grammar.{lines_from};
@@ -11,7 +11,7 @@ use lfm_protocol::{Call, Limits, MAX_BUDGET};
 use lfm_text::{LineWords, count_lines, first_line, read_number, split_words};
 use std::alloc::Global;
 
-/// What a line of a schedule has its seat do.
+/// What the seat of a line does.
 #[derive(Clone, Copy, Debug, PartialEq, Eq)]
 pub enum Act {
     /// The seat begins this call.
@@ -25,13 +25,13 @@ pub enum Act {
 /// A line of a schedule after the first.
 #[derive(Clone, Copy, Debug, PartialEq, Eq)]
 pub struct Line {
-    /// The number of the seat as it was written, below 10^18: there may be no such seat.
+    /// The number of the seat as it was written, below 10^18. There may be no such seat.
     pub seat: u64,
     /// What the seat does.
     pub act: Act,
 }
 
-/// A schedule: how many seats there are, and what they do in turn.
+/// A schedule: how many seats there are, and what they do, in order.
 #[derive(Debug, Drop)]
 pub struct Schedule {
     /// The number of seats: 1 to 4,095 in a schedule that was read.
@@ -42,18 +42,18 @@ pub struct Schedule {
     pub lines: Vec<Line>,
 }
 
-/// The most steps that one line may ask for.
+/// The greatest number of steps that one line may ask for.
 pub const MAX_STEPS: u64 = 999;
 
 /// The number of the line with this index among the lines after the first, in a schedule and in its trace. The first line has
-/// number 1, so the line with index 0 has number 2. A text has too few lines for the number to wrap.
+/// number 1, so the line with index 0 has number 2. The number can't wrap, since a text has at most 65,536 lines.
 pub fn line_number(index: usize) -> u64
     ensures { index + 2 < 2 ^ 64 → result ≡ index + 2 }
 {
     (index as u64).wrapping_add(2)
 }
 
-/// What a word after the seat says, unless it is a number of steps.
+/// The act that a word after the seat spells, if it is not a number of steps.
 fn read_plain_act(word: &[u8]) -> Option<Act>
     ensures { result ≡ plain_act_of word.now }
 {
@@ -76,7 +76,7 @@ fn read_plain_act(word: &[u8]) -> Option<Act>
     }
 }
 
-/// What a word after the seat says.
+/// The act that a word after the seat spells.
 fn read_act(word: &[u8]) -> Option<Act>
     ensures { result ≡ act_of word.now }
 {
@@ -89,7 +89,7 @@ fn read_act(word: &[u8]) -> Option<Act>
     }
 }
 
-/// What three words say: a seat's `send_lock` and its target.
+/// The line that three words spell: a seat's `send_lock` and its target.
 fn read_send(seat: &[u8], call: &[u8], target: &[u8]) -> Option<Line>
     ensures { result ≡ send_of seat.now call.now target.now }
 {
@@ -104,7 +104,7 @@ fn read_send(seat: &[u8], call: &[u8], target: &[u8]) -> Option<Line>
     })
 }
 
-/// What a line after the first says. `None` if it is no line of a schedule.
+/// The line that a text after the first line spells. `None` if it is not a line of a schedule.
 fn read_line(text: &[u8]) -> Option<Line>
     ensures { result ≡ line_of (words_of text.now) }
 {
@@ -119,7 +119,7 @@ fn read_line(text: &[u8]) -> Option<Line>
     }
 }
 
-/// The number of seats and the budget that the first line names. `None` if it is no such line.
+/// The number of seats and the budget that the first line names. `None` if it is not such a line.
 fn read_header(text: &[u8]) -> Option<Limits>
     ensures { result ≡ header_of (words_of text.now) }
 {
@@ -139,8 +139,8 @@ fn read_header(text: &[u8]) -> Option<Limits>
     Some(Limits { seats, budget })
 }
 
-/// What the `count` lines of a text say, of which the first has number 2, or the fault of the first that is no line of a
-/// schedule. Makes one request for memory, for all of them, before it reads them.
+/// The `count` lines that a text spells, of which the first has number 2, or the fault of the first that is not a line of a
+/// schedule. It allocates once, for all of them, before it reads them.
 fn read_lines(alloc: Global, text: &[u8], count: usize) -> Result<Vec<Line>, ReplayFault>
     requires counted { length (lines_of text.now) ≡ count }
     requires few { count < max_lines }
@@ -164,17 +164,17 @@ fn read_lines(alloc: Global, text: &[u8], count: usize) -> Result<Vec<Line>, Rep
 
 /// Reads a schedule from its bytes.
 ///
-/// A text may have several faults. This one is returned:
-/// 1. Limit, if it is longer than 1,048,576 bytes or has more than 65,536 lines;
-/// 2. Syntax, if some line is no line of a schedule, with the number of the first such line. The numbers begin at 1, and a text
-///    without lines has this fault in line 1;
+/// A text may have several faults. The first of these is returned: 1. Limit, if it is longer than 1,048,576 bytes or has more
+/// than 65,536 lines; 2. Syntax, if some line is not a line of a schedule, with the number of the first such line. The numbers
+/// begin at 1, and a
+///    text without lines has this fault in line 1;
 /// 3. Limit, if no mutex may have this number of seats or this budget.
 ///
-/// Makes one request for memory, for the lines after the first, and none if there are no such lines: Memory if it is refused,
-/// before those lines are read. Never Read or Write.
+/// It allocates once, for the lines after the first, or not at all if there are no such lines. If the allocation fails it
+/// returns Memory, before those lines are read. It never returns Read or Write.
 pub fn read_schedule(alloc: Global, text: &[u8]) -> Result<Schedule, ReplayFault>
     ensures exact { Gives plan_of result (plan_in text.now) }
-    // Memory comes only if there are lines to be kept.
+    // Memory is returned only if there are lines to store.
     ensures memory { IsErrOf result ReplayFault.Memory → 1 < line_count text.now }
 
     ensures few { IfOk result (λ s. length s.lines.items < max_lines) }
@@ -193,7 +193,8 @@ pub fn read_schedule(alloc: Global, text: &[u8]) -> Result<Schedule, ReplayFault
         return Err(ReplayFault::Syntax(1));
     };
     let lines = read_lines(alloc, rest, count - 1)?;
-    // `State::new` tests them too, since others call it. Here they are a fault of the text, which comes before a state is made.
+    // `State::new` checks the limits too, for its other callers. Here they are a fault of the text, which is found before a
+    // state is made.
     if !limits.are_allowed() {
         return Err(ReplayFault::Limit);
     }

@@ -1,4 +1,4 @@
-//! Runs the lines of a schedule on a state. Nothing is read or written here.
+//! Runs the lines of a schedule on a state. Nothing is read from a reader or written to a writer here.
 
 ghost use Rattle.std.specs.Prelude.{◌≡◌, length, All, IfOk, OnErr};
 ghost use Rattle.lfm_core.specs.text.Grammar.{HasFewSteps};
@@ -11,7 +11,7 @@ use lfm_protocol::Turn;
 use std::alloc::{AllocError, Global};
 
 impl State {
-    /// Makes up to this many steps of seat s, and stops when its call ends or a step is refused. Returns the last turn; if no
+    /// Makes up to this many steps of seat s, and stops when its call ends or a step is refused. Returns the last turn. If no
     /// step was made, that is Open.
     pub fn steps(&mut self, s: u64, most: u64) -> Turn
         ensures core { self.new ≡ (steps most self.old s).core }
@@ -55,10 +55,9 @@ fn follow_all(state: &mut State, lines: &[Line], turns: &mut [Turn])
     }
 }
 
-/// Follows each line in turn, and returns the last turn of each, in their order. A line that asks for steps asks for 1 to
-/// 999.
+/// Follows each line in turn, and returns the last turn of each, in order. A line that asks for steps asks for 1 to 999.
 ///
-/// Makes one request for memory, for the turns, before the first line: if it is refused, the state is unchanged.
+/// It allocates once, for the turns, before the first line. If the allocation fails, the state is unchanged.
 pub fn run(alloc: Global, state: &mut State, lines: &[Line]) -> Result<Vec<Turn>, AllocError>
     requires steps { All (λ l. HasFewSteps l.act) lines.now }
     ensures core { IfOk result (λ _. state.new ≡ lines_core state.old lines.now) }

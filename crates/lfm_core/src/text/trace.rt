@@ -17,7 +17,7 @@ use lfm_text::{
 use lfm_words::{Handoff, Record};
 use std::io::Write;
 
-/// Writes a word, and a number after it.
+/// Writes a word, followed by a number.
 fn write_labelled<W: Write>(writer: &mut W, label: &[u8], number: u64) -> Result<(), WriteFault>
     ensures { Writes (W.contents writer.old) (W.contents writer.new)
         (joined (label.now ∷ decimal number ∷ [])) result }
@@ -97,7 +97,7 @@ fn write_waiting<W: Write>(writer: &mut W, answer: Unlocked) -> Result<(), Write
     Ok(())
 }
 
-/// Writes an answer: `Held Queued 1`, `Asleep` and the others.
+/// Writes an answer, such as `Held Queued 1` or `Asleep`.
 pub fn write_answer<W: Write>(writer: &mut W, answer: Answer) -> Result<(), WriteFault>
     ensures { Writes (W.contents writer.old) (W.contents writer.new) (answer_text answer) result }
 {
@@ -154,7 +154,7 @@ fn write_refused<W: Write>(writer: &mut W, why: Why) -> Result<(), WriteFault>
     Ok(())
 }
 
-/// Writes what came of a turn.
+/// Writes the result of a turn.
 fn write_turn<W: Write>(writer: &mut W, act: Act, turn: Turn) -> Result<(), WriteFault>
     ensures { Writes (W.contents writer.old) (W.contents writer.new) (turn_text act turn) result }
 {
@@ -165,7 +165,7 @@ fn write_turn<W: Write>(writer: &mut W, act: Act, turn: Turn) -> Result<(), Writ
     }
 }
 
-/// Writes a handoff: 0, or the seat and its post number, as in `1.1`.
+/// Writes a hand-off: 0, or the seat and its post number, as in `1.1`.
 pub fn write_handoff<W: Write>(writer: &mut W, handoff: Handoff) -> Result<(), WriteFault>
     ensures { Writes (W.contents writer.old) (W.contents writer.new) (handoff_text handoff) result }
 {
@@ -178,7 +178,7 @@ pub fn write_handoff<W: Write>(writer: &mut W, handoff: Handoff) -> Result<(), W
     Ok(())
 }
 
-/// Writes where the responsibility lies: `owner.1`, `posted` and the others.
+/// Writes where the responsibility is, such as `owner.1` or `posted`.
 pub fn write_place<W: Write>(writer: &mut W, place: Place) -> Result<(), WriteFault>
     ensures { Writes (W.contents writer.old) (W.contents writer.new) (place_text place) result }
 {
@@ -191,10 +191,10 @@ pub fn write_place<W: Write>(writer: &mut W, place: Place) -> Result<(), WriteFa
     }
 }
 
-/// The most bytes of a record's text with a comma before it: two numbers of 20 digits, and two separators.
+/// The greatest number of bytes of a record's text with a comma before it: two numbers of 20 digits, and two separators.
 const RECORD_SIZE: usize = 42;
 
-/// Puts a number's digits into a buffer, so that they end at `end`, and returns where they start.
+/// Writes a number's digits into a buffer, so that they end at `end`, and returns where they start.
 fn put_number(buffer: &mut [u8; RECORD_SIZE], number: u64, end: usize) -> usize
     requires { (20 ≤ end) × (end ≤ RECORD_SIZE) }
     ensures start { (end ≤ result + 20) × (result ≤ end) }
@@ -203,7 +203,7 @@ fn put_number(buffer: &mut [u8; RECORD_SIZE], number: u64, end: usize) -> usize
     write_digits(number, buffer, end)
 }
 
-/// Puts a byte before a text that ends a buffer, and returns where it stands.
+/// Writes a byte into a buffer, before a text that starts at `end`, and returns where the byte is.
 fn put_byte(buffer: &mut [u8; RECORD_SIZE], byte: u8, end: usize) -> usize
     requires { (1 ≤ end) × (end ≤ RECORD_SIZE) }
     ensures place { result + 1 ≡ end }
@@ -214,7 +214,7 @@ fn put_byte(buffer: &mut [u8; RECORD_SIZE], byte: u8, end: usize) -> usize
     start
 }
 
-/// Puts a record's text at the end of a buffer, so that a comma fits before it, and returns where it starts.
+/// Writes a record's text at the end of a buffer, so that a comma fits before it, and returns where the text starts.
 fn put_record(buffer: &mut [u8; RECORD_SIZE], queued: Record) -> usize
     ensures start { (1 ≤ result) × (result ≤ RECORD_SIZE) }
     ensures text { drop result buffer.new ≡ record_text queued }
@@ -224,7 +224,7 @@ fn put_record(buffer: &mut [u8; RECORD_SIZE], queued: Record) -> usize
     put_number(buffer, queued.seat.get(), separator)
 }
 
-/// Writes a record in one piece, since a queue may have many.
+/// Writes a record by one write, since a queue may have many.
 fn write_record<W: Write>(writer: &mut W, queued: Record) -> Result<(), WriteFault>
     ensures { Writes (W.contents writer.old) (W.contents writer.new) (record_text queued) result }
 {
@@ -260,7 +260,7 @@ fn write_queue<W: Write>(writer: &mut W, records: &mut Vec<Record>) -> Result<()
     Ok(())
 }
 
-/// Writes the count, the owner and the handoff of a state.
+/// Writes the count, the owner and the hand-off of a state.
 fn write_words<W: Write>(writer: &mut W, state: &State) -> Result<(), WriteFault>
     ensures { Writes (W.contents writer.old) (W.contents writer.new) (words_text state.now) result }
 {
@@ -272,7 +272,7 @@ fn write_words<W: Write>(writer: &mut W, state: &State) -> Result<(), WriteFault
     Ok(())
 }
 
-/// Writes a state. Its queue is gathered in `records`, which has capacity for a record of each seat.
+/// Writes a state. Its queue is collected in `records`, which has capacity for a record of each seat.
 fn write_state<W: Write>(
     writer: &mut W,
     state: &State,
@@ -317,13 +317,13 @@ pub fn write_opening<W: Write>(
 pub struct Outcome {
     /// The number of the line.
     pub number: u64,
-    /// What its seat was to do.
+    /// What the line has its seat do.
     pub line: Line,
     /// The last turn that it made.
     pub turn: Turn,
 }
 
-/// Writes what came of a line, but not the state after it.
+/// Writes the result of a line, but not the state after it.
 pub fn write_outcome<W: Write>(writer: &mut W, outcome: Outcome) -> Result<(), WriteFault>
     ensures { Writes (W.contents writer.old) (W.contents writer.new)
         (outcome_text outcome.number outcome.line outcome.turn) result }
@@ -337,7 +337,7 @@ pub fn write_outcome<W: Write>(writer: &mut W, outcome: Outcome) -> Result<(), W
     Ok(())
 }
 
-/// Writes what came of a line, and the state after it.
+/// Writes the result of a line, and the state after it.
 pub fn write_line<W: Write>(
     writer: &mut W,
     outcome: Outcome,
@@ -356,8 +356,8 @@ pub fn write_line<W: Write>(
     Ok(())
 }
 
-/// Writes the line of a fault of the input: the number of the first line that is no line of a schedule, or Limit for every
-/// other fault. The callers pass no other than these two.
+/// Writes the line for a fault of the input: the number of the first line that is not a line of a schedule, or Limit for every
+/// other fault. The callers pass only Syntax and Limit.
 pub fn write_fault_line<W: Write>(writer: &mut W, fault: ReplayFault) -> Result<(), WriteFault>
     ensures { Writes (W.contents writer.old) (W.contents writer.new) (fault_text fault) result }
 {

@@ -6,7 +6,7 @@ use Rattle.lfm_core.proofs.texts.Runs.{line_written, line_failed, verdict_next, 
 use Rattle.lfm_core.proofs.texts.SameSeats.{seats_kept}
 use Rattle.lfm_core.proofs.text.replaying.write_lines.Goals as goal
 
--- a line, as the loop reads it
+-- the line with this index, as the loop reads it
 abbrev read : List Line → ℕ → Line
 read lines i = get_or lines i (record { seat = 0; act = Begin Lock })
 

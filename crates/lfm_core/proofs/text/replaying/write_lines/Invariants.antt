@@ -4,7 +4,7 @@ use Rattle.lfm_core.specs.text.Trace.{lines_text, none_refused}
 use Rattle.lfm_text.specs.Writing.{Writes}
 use Rattle.lfm_core.proofs.text.replaying.write_lines.Given as goal
 
--- What writes the text of the lines that are left also writes, with what came before, the text of all.
+-- If the text of the remaining lines is written next, then the whole text was written, with what came before.
 abbrev pub invariant-running : goal.invariant-running
 invariant-running g l = record {
   finishes : (new : Option (List ℕ)) (r : Result Bool WriteFault) → Writes (g.W.Write.contents l.writer) new (lines_text (l.index + 2) l.state (drop l.index l.lines)) r

@@ -6,7 +6,7 @@ use Rattle.lfm_core.specs.declared.text.faults.ReplayFault.TheVariants.{Syntax, 
 use Rattle.lfm_core.specs.text.Trace.{fault_text}
 use Rattle.lfm_core.proofs.text.trace.write_fault_line.Goals as goal
 
--- every fault but a line that says nothing is reported as Limit
+-- every fault except a line that can't be read is reported as Limit
 limit_told : (fault : ReplayFault) → ((n : ℕ) → fault ≢ Syntax n) → fault_text fault ≡ limit_text
 limit_told (Syntax n) other = absurd (other n refl)
 limit_told Limit other = refl

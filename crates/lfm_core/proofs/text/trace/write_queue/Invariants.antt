@@ -5,7 +5,7 @@ use Rattle.lfm_core.specs.text.Trace.{queue_text, further_text}
 use Rattle.lfm_text.specs.Writing.{Writes}
 use Rattle.lfm_core.proofs.text.trace.write_queue.Given as goal
 
--- What writes the text of the records that are left also writes, with what came before, the text of all.
+-- If the text of the remaining records is written next, then the whole text was written, with what came before.
 abbrev pub invariant-writing : goal.invariant-writing
 invariant-writing g l = record {
   finishes : (new : Option (List ℕ)) (r : Result (Unit {0}) WriteFault) → Writes (g.W.Write.contents l.writer) new (further_text (reverse l.records.items)) r

@@ -1,4 +1,4 @@
--- From what an event changes to what it keeps: each other seat and each condvar by itself.
+-- What an event keeps, derived from what it changes: each other seat and each condvar separately.
 use Rattle.std.proofs.Common.{◌≡◌, ◌≢◌, ℕ, ◌+◌, ◌-◌, ◌<◌, ◌≤◌, refl, sym, ap, ◌∙◌, inl, inr, arith}
 use Rattle.std.proofs.lemmas.Bool.{cases_eq, cases_lt}
 use Rattle.lfm_protocol.specs.declared.answers.Call.TheVariants.{StartWait}
@@ -11,14 +11,14 @@ use Rattle.lfm_condvar_laws.proofs.Invariant.{CondvarGhost, StartsAt, Locks, Sta
 use Rattle.lfm_condvar_laws.proofs.Tickets.{waiters_of}
 use Rattle.lfm_condvar_laws.proofs.mutex.MutexMoves.{OthersStay, same_turn, seat_after}
 
--- what a condvar and its claims are
+-- a condvar and its count of claims are kept
 pub record KeepsCondvar (k l : CondvarCore) (g h : CondvarGhost) (v : ℕ) : Type 0 where
   pub condvar : l.condvar v ≡ k.condvar v
   pub claimed : h.claimed v ≡ g.claimed v
 
--- what an event of seat s leaves: the views and calls of all other seats, each condvar whose lock another seat has, and which
--- seat each ticket was given to; tickets are only added, and claims too; and a seat that waits for a claim waits until it
--- comes, and no longer
+-- What an event of seat s keeps: the views and calls of all other seats, each condvar whose lock another seat has, and the seat
+-- to which each ticket was given. The numbers of tickets and of claims don't fall. A seat that waits for a claim waits until
+-- the claim is made, and no longer
 pub record Frame (k l : CondvarCore) (g h : CondvarGhost) (s : ℕ) : Type 0 where
   pub leaves : OthersStay k.mutex l.mutex s
   pub stage : (t : ℕ) → t ≢ s → l.stage t ≡ k.stage t
@@ -130,7 +130,7 @@ pending_after k l g h s t v ticket frame other unclaimed (inl starts) = inl (fra
 pending_after k l g h s t v ticket frame other unclaimed (inr waits) =
     inr (frame.stage t other ∙ waits.0, frame.receiving_waits t v ticket waits.0 unclaimed waits.1)
 
--- what an event has to show of each condvar
+-- what has to be shown of each condvar after an event
 pub record CondvarAfter (k l : CondvarCore) (g h : CondvarGhost) (v : ℕ) : Type 0 where
   pub order : (l.condvar v).sent ≤ (l.condvar v).added
   pub counted : (l.condvar v).sent ≤ h.claimed v
@@ -138,7 +138,7 @@ pub record CondvarAfter (k l : CondvarCore) (g h : CondvarGhost) (v : ℕ) : Typ
   pub free : (l.condvar v).holder ≡ 0 → h.claimed v ≡ (l.condvar v).sent
   pub late : (ticket : ℕ) → (k.condvar v).added < ticket → ticket ≤ (l.condvar v).added → IsPending l v ticket (h.given v ticket)
 
--- and of the acting seat
+-- what has to be shown of the acting seat
 pub record OwnAfter (k l : CondvarCore) (g h : CondvarGhost) (s : ℕ) : Type 0 where
   pub stage : StageFits l h s (l.stage s)
   pub pending : (v ticket : ℕ) → h.claimed v < ticket → IsPending k v ticket s → IsPending l v ticket s
@@ -176,7 +176,7 @@ own_or_other k l g h s t fits frame own =
       | inr other ↦ rw (frame.stage t other) (stage_after k l g h s t (k.stage t) frame other refl (fits.stages t))
     ]
 
--- an event that shows all this keeps the state fitting
+-- an event of which all this is shown keeps the state fitting
 pub fits_after : (k l : CondvarCore) (g h : CondvarGhost) (s : ℕ) → CoreFits k g → Fits l.mutex h.mutex → Frame k l g h s
     → OwnAfter k l g h s → ((v : ℕ) → CondvarAfter k l g h v) → CoreFits l h
 fits_after k l g h s fits mutex frame own condvars =

@@ -1,4 +1,4 @@
--- What every state of a mutex and its condvars keeps, and the ghost that it speaks of.
+-- The invariant of every state of a mutex and its condvars, and the ghost that it refers to.
 use Rattle.std.specs.Prelude.{◌≡◌, ◌≢◌, ◌⊎◌, ℕ, Bool, true, false, ◌+◌, ◌-◌, ◌<◌, ◌≤◌, List, nat_eq}
 use Rattle.lfm_protocol.specs.declared.answers.Call.TheVariants.{StartWait}
 use Rattle.lfm_protocol.specs.declared.points.Carrier.{Carrier}
@@ -19,7 +19,7 @@ use Rattle.lfm_protocol.specs.Step.{begin}
 use Rattle.lfm_condvar_laws.specs.Condvars.{Waiter, Stage, outside, locking_to_wait, starting, receiving, locking_to_wake, claiming, sending, unlocking, CondvarCore, point_of}
 use Rattle.lfm_condvar_laws.proofs.Tickets.{waiters_of}
 
--- `given v y` is the seat to which condvar v gave the ticket y, and `claimed v` tells how many of its tickets were claimed
+-- `given v y` is the seat to which condvar v gave the ticket y, and `claimed v` is how many of its tickets were claimed
 pub record CondvarGhost : Type 0 where
   pub mutex : Ghost
   pub given : ℕ → ℕ → ℕ
@@ -61,7 +61,7 @@ carries_to_wait (Carrier.Releaser Releaser.Waiter) = true
 carries_to_wait (Carrier.Reclaimer Releaser.Waiter) = true
 carries_to_wait _ = false
 
--- a start_wait
+-- a step of start_wait
 abbrev pub waits_at : Point → Bool
 waits_at (ReleaseOwnerStore Releaser.Waiter) = true
 waits_at (ReleaseCountSubtract Releaser.Waiter) = true
@@ -74,14 +74,14 @@ waits_at (TakeLinkLoad carrier next) = carries_to_wait carrier
 waits_at (GrantWakeStore carrier oldest) = carries_to_wait carrier
 waits_at _ = false
 
--- a point that calls on condvars alone come to: the claim of a send, a start_wait, and the sleep after it
+-- a point that only calls on condvars reach: the claim of a send, a start_wait, and the sleep after it
 abbrev pub is_of_condvar : Point → Bool
 is_of_condvar (SendWakeExchange t) = true
 is_of_condvar (Asleep Sleeper.Waiter) = true
 is_of_condvar (ReceiveWakeLoad Sleeper.Waiter) = true
 is_of_condvar p = waits_at p
 
--- a seat of this depth receives what a send gives it, or has received it and holds
+-- a seat with this depth either receives what a send gives it, or has received it and holds
 abbrev pub comes_to_hold_at : ℕ → Point → Bool
 comes_to_hold_at depth Rest = nat_eq depth 1
 comes_to_hold_at depth (Asleep Sleeper.Waiter) = true
@@ -95,7 +95,7 @@ comes_to_hold x = comes_to_hold_at x.depth x.point
 
 -- What a call on a condvar knows
 
--- seat s is at a start_wait, or sleeps since one and was not claimed
+-- seat s is in start_wait, or has slept since start_wait and was not claimed
 abbrev pub StartsAt : Core → ℕ → Type 0
 StartsAt c s =
     (waits_at (seat c.seats s).point ≡ true) ⊎ (((seat c.seats s).point ≡ Asleep Sleeper.Waiter) × (wake c.wakes s ≡ Waiting))
@@ -105,7 +105,7 @@ pub record Locks (k : CondvarCore) (s v : ℕ) : Type 0 where
   pub is : IsSeat k.mutex.seats s
   pub holds : (k.condvar v).holder ≡ s
 
--- it has added the last ticket, and is at start_wait or waits
+-- the call has added the last ticket, and its seat is in start_wait or waits
 pub record StartingFits (k : CondvarCore) (g : CondvarGhost) (s v ticket : ℕ) : Type 0 where
   pub locks : Locks k s v
   pub given : g.given v ticket ≡ s
@@ -114,7 +114,7 @@ pub record StartingFits (k : CondvarCore) (g : CondvarGhost) (s v ticket : ℕ) 
   pub unclaimed : g.claimed v ≡ (k.condvar v).sent
   pub at : StartsAt k.mutex s
 
--- it waits until its ticket is claimed, and no longer
+-- the seat waits until its ticket is claimed, and no longer
 pub record ReceivingFits (k : CondvarCore) (g : CondvarGhost) (s v ticket : ℕ) : Type 0 where
   pub given : g.given v ticket ≡ s
   pub some : 0 < ticket
@@ -158,7 +158,7 @@ StageFits k g s (unlocking v) = UnlockingFits k g s v
 
 -- A condvar
 
--- seat t stands in the list of condvar v with this ticket, and nobody has claimed it: its wait has the lock, or it waits
+-- seat t is in the list of condvar v with this ticket, which was not claimed: its wait has the lock, or the seat waits
 abbrev pub IsPending : CondvarCore → ℕ → ℕ → ℕ → Type 0
 IsPending k v ticket t =
     (k.stage t ≡ starting v ticket) ⊎ ((k.stage t ≡ receiving v ticket) × (wake k.mutex.wakes t ≡ Waiting))
@@ -177,6 +177,6 @@ pub record CoreFits (k : CondvarCore) (g : CondvarGhost) : Type 0 where
 
 -- What runs have claimed
 
--- the waiters of condvar v whose claim the ghost tells
+-- the waiters of condvar v that were claimed, according to the ghost
 abbrev pub claims_told : CondvarGhost → ℕ → List Waiter
 claims_told g v = waiters_of (g.given v) 0 (g.claimed v)

@@ -1,5 +1,5 @@
--- The laws of condition variables over the core: the invariant, what steps of the mutex keep of it, each event, and the laws
--- of the states that runs reach.
+-- The laws of condition variables over the core: the invariant, how steps of the mutex keep it, each event, and the laws of the
+-- states that runs reach.
 pub mod Tickets
 pub mod Invariant
 pub mod points

@@ -1,4 +1,4 @@
--- What one event does to the stages of seats and to the locks of condvars.
+-- How one event changes the stages of seats and the locks of condvars.
 use Rattle.std.proofs.Common.{◌≡◌, ◌≢◌, ◌⊎◌, ℕ, Bool, true, false, ◌+◌, ◌&&◌, List, [], ◌∷◌, nat_eq, refl, sym, ap, ◌∙◌, inl, inr, if◌then◌else◌}
 use Rattle.std.proofs.lemmas.Bool.{cases_Bool, cases_eq, eq-eqb, ne_eqb, and_parts, false≢true}
 use Rattle.lfm_protocol.specs.declared.answers.Call.TheVariants.{StartWait, SendLock, Receive}
@@ -15,13 +15,14 @@ use Rattle.lfm_condvar_laws.specs.Events.{CondvarEvent, begins, waits, wakes, ma
 use Rattle.lfm_condvar_laws.specs.Stages.{has_lock}
 use Rattle.lfm_condvar_laws.proofs.Invariant.{CondvarGhost, StageFits}
 
--- the lock of condvar w stays with the one that has it, is given back, or is that of seat s, whose call goes on with it
+-- one of these is true of the lock of condvar w: it stays with the seat that has it, it is released, or seat s has it and its
+-- call continues with it
 abbrev pub LockMoves : CondvarCore → CondvarCore → ℕ → ℕ → Type 0
 LockMoves k l s w =
     (((l.condvar w).holder ≡ (k.condvar w).holder) × (has_lock w (k.stage s) ≡ true → has_lock w (l.stage s) ≡ true))
     ⊎ (((l.condvar w).holder ≡ 0) ⊎ (((l.condvar w).holder ≡ s) × (has_lock w (l.stage s) ≡ true)))
 
--- seat s has moved: the stages of the others are as they were, and so are their seats in the user mutex
+-- seat s has moved: the stages of the other seats are unchanged, and so are their seats in the user mutex
 pub record SeatMoves (k l : CondvarCore) (s : ℕ) : Type 0 where
   pub others : (t : ℕ) → t ≢ s → l.stage t ≡ k.stage t
   pub seats : (t : ℕ) → t ≢ s → seat l.mutex.seats t ≡ seat k.mutex.seats t
@@ -34,7 +35,7 @@ moves_if : (b : Bool) (k l m : CondvarCore) (s : ℕ) → SeatMoves m k s → Se
 moves_if true k l m s first second = first
 moves_if false k l m s first second = second
 
--- the seat goes on from d to e, and the condvars stay
+-- the stage of the seat changes from d to e, and the condvars are unchanged
 goes_to : (k m : CondvarCore) (s : ℕ) (d e : Stage) → k.stage s ≡ d → m.stage ≡ k.stage
     → ((t : ℕ) → t ≢ s → seat m.mutex.seats t ≡ seat k.mutex.seats t)
     → ((w : ℕ) → (m.condvar w).holder ≡ (k.condvar w).holder)
@@ -47,7 +48,7 @@ goes_to k m s d e stage stages seats holders keeps =
       locks = λ w. inl (holders w, λ has. rw (changed_same m.stage s e) (keeps w (ap (has_lock w) (sym stage) ∙ has)));
     }
 
--- condvar v is x now, whose holder is the one that it was
+-- setting condvar v to x changes no holder if x has the same holder
 same_holder : (k : CondvarCore) (v w : ℕ) (x : Condvar) → x.holder ≡ (k.condvar v).holder
     → ((put_condvar k v x).condvar w).holder ≡ (k.condvar w).holder
 same_holder k v w x same =
@@ -76,7 +77,7 @@ takes k m s v d e x stage stages condvars seats holder has none =
           ];
     }
 
--- the seat, which had the lock of condvar v alone, gives it back
+-- the seat, which had the lock of condvar v alone, releases it
 gives : (k : CondvarCore) (s v : ℕ) (d e : Stage) → k.stage s ≡ d → ((w : ℕ) → w ≢ v → has_lock w d ≡ false)
     → SeatMoves k (put_stage (gives_back k v) s e) s
 gives k s v d e stage none =
@@ -168,14 +169,14 @@ step_moves k s (sending v all oldest) stage =
     (goes_to k (put_condvar k v (removed (k.condvar v))) s (sending v all oldest) (unlocking v) stage refl (λ t other. refl) (λ w. same_holder k v w _ refl) (λ w has. has)))
 step_moves k s (unlocking v) stage = gives k s v (unlocking v) outside stage (λ w other. is_other v w other)
 
--- A call on a condvar goes on by the steps of its own seat alone
+-- The stage of a call on a condvar is changed only by steps of its own seat
 
 stage_if : (b : Bool) (k l : CondvarCore) (s : ℕ) (d : Stage) → (b ≡ true → k.stage s ≡ d) → l.stage s ≡ d
     → (if b then k else l).stage s ≡ d
 stage_if true k l s d first second = first refl
 stage_if false k l s d first second = second
 
--- a seat that begins something is outside of calls on condvars
+-- a seat that begins something is in no call on a condvar
 begins_elsewhere : (k : CondvarCore) (s t : ℕ) (b : Bool) (e : Stage) → is_outside (k.stage s) ≡ false
     → (is_outside (k.stage t) && b) ≡ true → (put_stage k t e).stage s ≡ k.stage s
 begins_elsewhere k s t b e inside begun =
@@ -210,7 +211,7 @@ pub is_so : (d : Stage) → is_outside d ≡ true → d ≡ outside
 is_so outside is = refl
 is_so _ is = absurd (false≢true is)
 
--- the seat by which an event is
+-- the seat that makes the event
 abbrev pub actor : CondvarEvent → ℕ
 actor (begins s call) = s
 actor (waits s v) = s
@@ -232,7 +233,7 @@ event_moves k (wakes s v all) =
     (λ begun. is_so (k.stage s) (and_parts _ _ begun).0)
 event_moves k (makes s) = step_moves k s (k.stage s) refl
 
--- a call that has the lock is by the seat that holds it
+-- a call that has the lock is by the seat that holds the lock
 pub same_condvar : (v w : ℕ) → nat_eq w v ≡ true → w ≡ v
 same_condvar v w is =
     elim (cases_eq w v) [

@@ -1,4 +1,4 @@
--- The ways in which events change a state, each with what it has to show.
+-- The ways in which events change a state, each with what has to be shown.
 use Rattle.std.proofs.Common.{◌≡◌, ◌≢◌, ◌⊎◌, ℕ, ◌-◌, ◌<◌, ◌≤◌, List, [], ◌∷◌, ◌++◌, refl, sym, ap, ◌∙◌, inl, inr, arith}
 use Rattle.std.proofs.lemmas.Bool.{cases_eq}
 use Rattle.lfm_words.specs.declared.wakes.Wake.TheVariants.{Waiting}
@@ -14,7 +14,7 @@ use Rattle.lfm_condvar_laws.proofs.Tickets.{waiters_of}
 use Rattle.lfm_condvar_laws.proofs.mutex.MutexMoves.{OthersStay, MutexMoves, moves_not}
 use Rattle.lfm_condvar_laws.proofs.Frames.{CondvarAfter, fits_after}
 
--- what an event leads to: a state that fits again, and the claims that the ghost tells go on by those of the event
+-- the outcome of an event: the state fits again, and the claims of the ghost are extended by those of the event
 pub record CondvarOutcome (l : CondvarCore) (g : CondvarGhost) (claims : List Claim) : Type 0 where
   pub to : CondvarGhost
   pub fits : CoreFits l to
@@ -24,7 +24,7 @@ pub append_none : {A : Type 0} (xs : List A) → xs ≡ xs ++ []
 append_none [] = refl
 append_none (x ∷ rest) = ap (λ l. x ∷ l) (append_none rest)
 
--- the ghost whose mutex is this
+-- the ghost with this ghost of the mutex
 abbrev pub with_mutex : CondvarGhost → Ghost → CondvarGhost
 with_mutex g m = record g { mutex = m }
 
@@ -32,7 +32,7 @@ with_mutex g m = record g { mutex = m }
 pub quiet_outcome : (l : CondvarCore) (g : CondvarGhost) (m : Ghost) → CoreFits l (with_mutex g m) → CondvarOutcome l g []
 quiet_outcome l g m fits = record { to = with_mutex g m; fits = fits; history = λ v. append_none (claims_told g v) }
 
--- a condvar that is left as it is
+-- a condvar that is unchanged
 pub condvar_stays : (k l : CondvarCore) (g h : CondvarGhost) (v : ℕ) → CondvarFits k g v → l.condvar v ≡ k.condvar v
     → h.claimed v ≡ g.claimed v → h.given v ≡ g.given v → CondvarAfter k l g h v
 condvar_stays k l g h v fits same claimed given =
@@ -46,7 +46,7 @@ condvar_stays k l g h v fits same claimed given =
           absurd (omega (arith, late, within, size));
     }
 
--- The state once seat s has moved in the user mutex, condvar v is x, and the seat does e next
+-- The state after seat s has moved in the user mutex, condvar v has become x, and the stage of the seat has become e
 
 pub record OneCondvar (k l : CondvarCore) (d : Core) (s v : ℕ) (x : Condvar) (e : Stage) : Type 0 where
   pub mutex : l.mutex ≡ d
@@ -55,7 +55,7 @@ pub record OneCondvar (k l : CondvarCore) (d : Core) (s v : ℕ) (x : Condvar) (
   pub own : l.stage s ≡ e
   pub others : (t : ℕ) → t ≢ s → l.stage t ≡ k.stage t
 
--- what the new condvar has to show: nothing was given or claimed
+-- what has to be shown of the new condvar: no ticket was given or claimed
 pub record CondvarMoves (k : CondvarCore) (g : CondvarGhost) (s v : ℕ) (x : Condvar) : Type 0 where
   pub before : ((k.condvar v).holder ≡ 0) ⊎ ((k.condvar v).holder ≡ s)
   pub added : x.added ≡ (k.condvar v).added
@@ -116,7 +116,7 @@ moves_one k l g d s v x e fits m one moves own pending =
       | inr elsewhere ↦ condvar_stays k l g h w (fits.condvars w) (one.elsewhere w elsewhere) refl refl
     ])
 
--- The state once seat s has moved in the user mutex alone
+-- The state after seat s has moved in the user mutex alone
 
 mutex_pending : (k : CondvarCore) (d : Core) (g : CondvarGhost) (s w ticket : ℕ) → MutexMoves k.mutex d s → IsPending k w ticket s
     → IsPending (put_mutex k d) w ticket s
@@ -142,7 +142,7 @@ moves_mutex k g d s fits m own =
     }) (record { stage = own; pending = λ w ticket unclaimed pending. mutex_pending k d g s w ticket m pending }) (λ w.
     condvar_stays k l g h w (fits.condvars w) refl refl refl)
 
--- The state once a seat does something else next
+-- The state after only the stage of a seat has changed
 
 pub moves_stage : (k : CondvarCore) (g : CondvarGhost) (s : ℕ) (e : Stage) → CoreFits k g → StageFits (put_stage k s e) g s e
     → ((w ticket : ℕ) → g.claimed w < ticket → IsPending k w ticket s → IsPending (put_stage k s e) w ticket s)

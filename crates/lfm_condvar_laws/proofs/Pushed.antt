@@ -1,4 +1,4 @@
--- What every state keeps of the records that the wakes of a run have pushed, beside what it keeps of claims.
+-- The invariant about the records that the wakes of a run have pushed, in addition to that about claims.
 use Rattle.std.proofs.Common.{◌≡◌, ◌≢◌, ℕ, zero, suc, Bool, ◌+◌, ◌<◌, ◌≤◌, Some, List, [], ◌∷◌, ◌++◌, length, get_or, refl, sym, ap, ◌∙◌, subst, inl, inr, arith, length-append}
 use Rattle.std.proofs.lemmas.Bool.{cases_eq, cases_lt}
 use Rattle.std.proofs.lemmas.List.{get_or_append_left, get_or_push}
@@ -13,24 +13,25 @@ use Rattle.lfm_condvar_laws.proofs.points.PushPoints.{to_push}
 abbrev pub Before : Waiter → Waiter → Type 0
 Before first second = first.ticket < second.ticket
 
--- a wake sends this waiter, whom it claimed last; if it may still push a record for it, the pushed ones have lower tickets
+-- A wake sends this waiter, which it claimed last. If it may still push a record for it, the records pushed so far have lower
+-- tickets
 pub record SendFits (k : CondvarCore) (g : CondvarGhost) (pushes : ℕ → List Waiter) (s v : ℕ) (oldest : Waiter) : Type 0 where
   pub last : oldest.ticket ≡ g.claimed v
   pub told : Contains (claims_told g v) oldest
   pub fresh : (t : ℕ) → to_push (point_of k s) ≡ Some t → (t ≡ oldest.seat) × All (λ x. x.ticket < oldest.ticket) (pushes v)
 
--- these records were pushed, by condvar
+-- what is true of the records pushed so far, by condvar
 pub record PushFits (k : CondvarCore) (g : CondvarGhost) (pushes : ℕ → List Waiter) : Type 0 where
   pub ordered : (v : ℕ) → AllPairs Before (pushes v)
   pub within : (v : ℕ) → All (λ x. x.ticket ≤ g.claimed v) (pushes v)
   pub told : (v : ℕ) → All (Contains (claims_told g v)) (pushes v)
   pub sends : (s v : ℕ) (all : Bool) (oldest : Waiter) → k.stage s ≡ sending v all oldest → SendFits k g pushes s v oldest
 
--- as many were claimed as the ghost tells
+-- the number of claims is the one that the ghost has
 pub told_count : (g : CondvarGhost) (v : ℕ) → length (claims_told g v) ≡ g.claimed v
 told_count g v = length-waiters (g.given v) 0 (g.claimed v)
 
--- one more record, whose ticket is above all others
+-- one more record, whose ticket is greater than all others
 pub one_after : (xs : List Waiter) (x : Waiter) → AllPairs Before xs → All (λ y. y.ticket < x.ticket) xs → AllPairs Before (xs ++ x ∷ [])
 one_after xs x ordered below i j d before within =
     let size = length-append xs (x ∷ []) in
@@ -44,13 +45,13 @@ one_after xs x ordered below i j d before within =
           (below i d (omega (arith, before, last)))
     ]
 
--- a seat that sends now sent the same before, and what it may still push it might push before
+-- A seat that sends now sent the same waiter before. A record that it may still push now it might have pushed before
 abbrev pub Back : CondvarCore → CondvarCore → ℕ → Type 0
 Back k l s =
     (v : ℕ) (all : Bool) (oldest : Waiter) → l.stage s ≡ sending v all oldest
     → (k.stage s ≡ sending v all oldest) × ((t : ℕ) → to_push (point_of l s) ≡ Some t → to_push (point_of k s) ≡ Some t)
 
--- so it is for those that did not move
+-- this is true of the seats that did not move
 pub others_back : (k l : CondvarCore) (s t : ℕ) → SeatMoves k l s → t ≢ s → Back k l t
 others_back k l s t moves other v all oldest stage =
     (sym (moves.others t other) ∙ stage, λ u some. ap (λ x. to_push x.point) (sym (moves.seats t other)) ∙ some)
@@ -62,7 +63,7 @@ all_back k l s moves own t =
       | inr other ↦ others_back k l s t moves other
     ]
 
--- nothing was claimed, and nothing pushed
+-- no waiter was claimed, and no record was pushed
 pub quiet_fits : (k l : CondvarCore) (g h : CondvarGhost) (pushes those : ℕ → List Waiter) → PushFits k g pushes
     → ((v : ℕ) → claims_told h v ≡ claims_told g v) → ((v : ℕ) → those v ≡ pushes v) → ((t : ℕ) → Back k l t) → PushFits l h those
 quiet_fits k l g h pushes those fits claims same back =
@@ -87,15 +88,15 @@ all_one : {A : Type 0} (P : A → Type 0) (x : A) → P x → All P (x ∷ [])
 all_one P x holds zero d within = holds
 all_one P x holds (suc i) d within = absurd (omega (arith, within))
 
--- if P implies Q, items of which each is a P are each a Q
+-- a property of all items implies each weaker property of all items
 all_so : {A : Type 0} (P Q : A → Type 0) (xs : List A) → ((x : A) → P x → Q x) → All P xs → All Q xs
 all_so P Q xs so all i d within = so (get_or xs i d) (all i d within)
 
--- what seats that did not move send is sent for other condvars
+-- seats other than s send for other condvars than v
 abbrev pub SendElsewhere : CondvarCore → ℕ → ℕ → Type 0
 SendElsewhere k s v = (t w : ℕ) (all : Bool) (oldest : Waiter) → t ≢ s → k.stage t ≡ sending w all oldest → w ≢ v
 
--- one that did not move, and sends for a condvar of which nothing was claimed or pushed
+-- a seat that did not move sends for a condvar of which no waiter was claimed and no record pushed
 stays_sent : (k l : CondvarCore) (g h : CondvarGhost) (pushes those : ℕ → List Waiter) (s v t w : ℕ) (all : Bool) (oldest : Waiter)
     → PushFits k g pushes → SeatMoves k l s → SendElsewhere k s v → t ≢ s
     → ((u : ℕ) → u ≢ v → claims_told h u ≡ claims_told g u) → ((u : ℕ) → u ≢ v → those u ≡ pushes u)

@@ -1,4 +1,4 @@
--- Every event keeps a state fitting, and so each run reaches one that fits, with the claims that its ghost tells.
+-- Every event keeps a state fitting. So each run reaches a state that fits, with the claims that its ghost has.
 use Rattle.std.proofs.Common.{◌≡◌, ℕ, zero, suc, replicate, Bool, false, List, [], ◌∷◌, ◌++◌, nat_eq, refl, sym, ap, ◌∙◌, inl, inr, arith, append_assoc}
 use Rattle.std.proofs.lemmas.Bool.{cases_Bool}
 use Rattle.lfm_protocol.specs.declared.limits.Limits.{Limits}
@@ -51,7 +51,7 @@ step_outcome k g s (claiming v all oldest) fits stage own = at_claiming k g s v 
 step_outcome k g s (sending v all oldest) fits stage own = at_sending k g s v all oldest fits stage own
 step_outcome k g s (unlocking v) fits stage own = at_unlocking k g s v fits stage own
 
--- every event keeps a state fitting
+-- every event keeps a state fitting. By cases on the event
 pub event_outcome : (k : CondvarCore) (g : CondvarGhost) (e : CondvarEvent) → CoreFits k g
     → CondvarOutcome (happens k e) g (claimed_in k e)
 event_outcome k g (begins s call) fits = at_begins k g s call fits
@@ -112,7 +112,7 @@ start_fits limits m fits =
       stages = λ s. ap (λ x. is_of_condvar x.point) (entry_replicate absent limits.seats s);
     }
 
--- what a run reaches
+-- what a run reaches: a state that fits, with its ghost
 pub record Reached (r : CondvarRun) : Type 0 where
   pub ghost_state : CondvarGhost
   pub fits : CoreFits (reached_by r) ghost_state

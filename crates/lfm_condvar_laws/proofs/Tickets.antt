@@ -1,16 +1,17 @@
--- Lists of waiters whose tickets are consecutive: their length, their first and their last waiter, and the seats of one ticket.
+-- Lists of waiters whose tickets are consecutive: their length, their first and their last waiter, and the seats with one
+-- ticket.
 use Rattle.std.proofs.Common.{◌≡◌, ◌≢◌, ℕ, zero, suc, Bool, true, false, ◌+◌, ◌<◌, ◌≤◌, List, [], ◌∷◌, ◌++◌, length, map, get_or, nat_eq, refl, sym, ap, ◌∙◌, inl, inr, arith, if◌then◌else◌}
 use Rattle.std.proofs.lemmas.Bool.{cases_eq, eq-eqb, ne_eqb}
 use Rattle.std.specs.List.{range_with_len}
 use Rattle.lfm_condvar_laws.specs.Claims.{seats_with}
 use Rattle.lfm_condvar_laws.specs.Condvars.{Waiter, is_listed}
 
--- this number of waiters, whose tickets follow this one and whose seats the function tells
+-- this number of waiters: their tickets follow `last`, and their seats are given by the function
 abbrev pub waiters_of : (ℕ → ℕ) → ℕ → ℕ → List Waiter
 waiters_of given last zero = []
 waiters_of given last (suc n) = record { seat = given (last + 1); ticket = last + 1 } ∷ waiters_of given (last + 1) n
 
--- they are the same if the tickets were given to the same seats
+-- two such lists are the same if the tickets were given to the same seats
 pub waiters_agree : (f f' : ℕ → ℕ) (last n : ℕ) → ((ticket : ℕ) → ticket ≤ last + n → f' ticket ≡ f ticket)
     → waiters_of f' last n ≡ waiters_of f last n
 waiters_agree f f' last zero same = refl
@@ -64,7 +65,7 @@ waiters_last f last (suc n) =
     let there : last + suc n + 1 ≡ last + 1 + n + 1 = omega arith in
     rw there (ap (λ rest. waiter_with (f (last + 1)) (last + 1) ∷ rest) (waiters_last f (last + 1) n))
 
--- so with one waiter more, whose seat and ticket these are
+-- with one more waiter, the list is extended by its seat and ticket
 pub one_more : (f : ℕ → ℕ) (last n s ticket : ℕ) → f (last + n + 1) ≡ s → ticket ≡ last + n + 1
     → waiters_of f last (suc n) ≡ waiters_of f last n ++ waiter_with s ticket ∷ []
 one_more f last n s ticket given next =
@@ -94,7 +95,7 @@ no_seat_above f last zero ticket above = refl
 no_seat_above f last (suc n) ticket above =
     rw (ne_eqb (last + 1) ticket (λ e. omega (arith, e, above))) (no_seat_above f (last + 1) n ticket (omega arith))
 
--- and one of these has exactly the seat that it was given to
+-- a ticket that is one of these has exactly the seat that it was given to
 pub one_seat : (f : ℕ → ℕ) (last n ticket : ℕ) → last < ticket → ticket ≤ last + n
     → seats_with ticket (waiters_of f last n) ≡ f ticket ∷ []
 one_seat f last zero ticket above within = absurd (omega (arith, above, within))

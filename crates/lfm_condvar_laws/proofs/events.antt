@@ -1,4 +1,4 @@
--- That each event keeps the invariant.
+-- Each event keeps the invariant.
 pub mod MutexEvents
 pub mod LockEvents
 pub mod AppendEvent

@@ -1,4 +1,4 @@
--- What the start of a call and a step of the user mutex do to wake words, to other seats and to its own, and runs of them.
+-- How the start of a call and a step of the user mutex change wake words, other seats and the own seat, and runs of them.
 pub mod WakeWords
 pub mod MutexMoves
 pub mod OwnSeat

@@ -1,4 +1,4 @@
--- Walks over the points of the mutex: what a call of one kind goes on as.
+-- Case analyses over the points of the mutex: at which point a call of one kind continues.
 pub mod Outside
 pub mod SendPoints
 pub mod WaitPoints

@@ -1,4 +1,4 @@
--- The laws, from the invariant of the state that a run reaches.
+-- The laws, derived from the invariant of the state that a run reaches.
 pub mod ClaimsFound
 pub mod WaitsSent
 pub mod ListOrder

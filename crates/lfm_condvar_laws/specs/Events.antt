@@ -1,5 +1,5 @@
 -- What the calls on condvars do, one atomic step at a time. All other calls of the user mutex may come in between, but
--- start_wait comes from `wait` alone, and send_lock from wakes alone. There is no choice in an event.
+-- start_wait is made only by `wait`, and send_lock only by wakes. Each event has exactly one outcome.
 use Rattle.std.specs.Prelude.{ℕ, Bool, true, false, ◌+◌, ◌++◌, ◌&&◌, List, [], ◌∷◌, drop, nat_eq, if◌then◌else◌}
 use Rattle.lfm_protocol.specs.declared.answers.Call.{Call}
 use Rattle.lfm_protocol.specs.declared.answers.Call.TheVariants.{StartWait, SendLock, Receive}
@@ -20,7 +20,7 @@ pub data CondvarEvent : Type 0 where
   waits : ℕ → ℕ → CondvarEvent
   -- seat s calls `wake_one` (false) or `wake_all` (true) of condvar v
   wakes : ℕ → ℕ → Bool → CondvarEvent
-  -- the call of seat s goes on by one step
+  -- the call of seat s makes its next step
   makes : ℕ → CondvarEvent
 
 -- seat s makes the atomic step at its point in the user mutex
@@ -33,18 +33,18 @@ mutex_begins k s call = put_mutex k (begin k.mutex s call).core
 
 -- Calls begin
 
--- the calls of the user mutex that come from outside of condvars
+-- the calls of the user mutex that are made outside of condvars
 abbrev pub is_own_call : Call → Bool
 is_own_call StartWait = false
 is_own_call (SendLock t) = false
 is_own_call _ = true
 
--- outside of a call on a condvar
+-- the seat is in no call on a condvar
 abbrev pub is_outside : Stage → Bool
 is_outside outside = true
 is_outside _ = false
 
--- awake, and outside of a call of the user mutex
+-- the seat is awake, and in no call of the user mutex
 abbrev pub is_rest : Point → Bool
 is_rest Rest = true
 is_rest _ = false
@@ -66,7 +66,7 @@ begins_wake k s v all =
 
 -- A wait
 
--- the condvar with one waiter more at its end
+-- the condvar with one more waiter, appended to the list
 abbrev pub enlisted : Condvar → ℕ → Condvar
 enlisted x s =
     record x {
@@ -74,18 +74,18 @@ enlisted x s =
       waiters = x.waiters ++ record { seat = s; ticket = x.added + 1 } ∷ [];
     }
 
--- with the lock: a seat that stands in the list already is refused as Busy; otherwise it is added, and start_wait begins
+-- with the lock: a seat that is already in the list is refused as Busy; otherwise it is added, and start_wait begins
 abbrev pub enlists : CondvarCore → ℕ → ℕ → CondvarCore
 enlists k s v =
     if is_listed s (k.condvar v).waiters
     then put_stage k s (unlocking v)
     else put_stage (put_condvar (mutex_begins k s StartWait) v (enlisted (k.condvar v) s)) s (starting v ((k.condvar v).added + 1))
 
--- the lock is given back
+-- the lock is released
 abbrev pub gives_back : CondvarCore → ℕ → CondvarCore
 gives_back k v = put_holder k v 0
 
--- a wait that has given the lock back: it receives while it sleeps, and ends once it holds
+-- a wait that has released the lock: it receives while it sleeps, and ends when it holds
 abbrev pub receives_at : CondvarCore → ℕ → Point → CondvarCore
 receives_at k s Rest = put_stage k s outside
 receives_at k s (Asleep sleeper) = mutex_begins k s Receive
@@ -93,7 +93,7 @@ receives_at k s _ = mutex_steps k s
 
 -- A wake
 
--- with the lock: it goes on to the oldest waiter, if there is one
+-- with the lock: the wake continues with the oldest waiter, if there is one
 abbrev pub sends_next : CondvarCore → ℕ → ℕ → Bool → List Waiter → CondvarCore
 sends_next k s v all [] = put_stage k s (unlocking v)
 sends_next k s v all (oldest ∷ rest) = put_stage (mutex_begins k s (SendLock oldest.seat)) s (claiming v all oldest)
@@ -107,7 +107,7 @@ claims_waiter k s v all oldest =
 abbrev pub removed : Condvar → Condvar
 removed x = record x { sent = x.sent + 1; waiters = drop 1 x.waiters }
 
--- the waiter was sent: it leaves the list, and a wake of all goes on to the next one
+-- the waiter was sent: it is removed from the list, and a wake of all continues with the next one
 abbrev pub removes : CondvarCore → ℕ → ℕ → Bool → CondvarCore
 removes k s v all =
     if all
@@ -116,11 +116,11 @@ removes k s v all =
 
 -- A step
 
--- a lock that another call has is waited for
+-- a call whose lock another call has makes no progress
 abbrev pub takes_lock : CondvarCore → ℕ → CondvarCore → CondvarCore
 takes_lock k v with_lock = if nat_eq (k.condvar v).holder 0 then with_lock else k
 
--- what the call of seat s does next, from the stage where it stands
+-- what the call of seat s does next, by its stage
 abbrev pub goes_on : CondvarCore → ℕ → Stage → CondvarCore
 goes_on k s outside = mutex_steps k s
 goes_on k s (locking_to_wait v) = takes_lock k v (enlists (put_holder k v s) s v)
@@ -143,18 +143,18 @@ abbrev pub run_of : CondvarCore → List CondvarEvent → CondvarCore
 run_of k [] = k
 run_of k (e ∷ later) = run_of (happens k e) later
 
--- the state that a mutex of these limits and its condvars have reached after some events
+-- the state of a mutex with these limits and its condvars after some events
 abbrev pub reached : Limits → List CondvarEvent → CondvarCore
 reached limits events = run_of (condvar_start limits) events
 
 -- Events of the user mutex
 
--- an event of the user mutex as one of a run
+-- an event of the user mutex as an event of a run
 abbrev pub as_event : Schedules.Event → CondvarEvent
 as_event (Schedules.begins s call) = begins s call
 as_event (Schedules.makes s) = makes s
 
--- by a seat outside of calls on condvars: a call of its own, or a step
+-- an event of a seat outside of calls on condvars: the start of an own call, or a step
 abbrev pub is_own_event : CondvarCore → Schedules.Event → Bool
 is_own_event k (Schedules.begins s call) = is_outside (k.stage s) && is_own_call call
 is_own_event k (Schedules.makes s) = is_outside (k.stage s)

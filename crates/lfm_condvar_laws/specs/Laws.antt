@@ -1,4 +1,4 @@
--- What the laws of condition variables say, of every state that a run reaches.
+-- The laws of condition variables, about every state that a run reaches.
 use Rattle.std.specs.Prelude.{◌≡◌, ◌≢◌, ◌⊎◌, ◌↔◌, ℕ, true, false, ◌+◌, ◌<◌, ◌≤◌, List, [], ◌∷◌, length, map, All, Contains, AllPairs}
 use Rattle.std.specs.List.{range_with_len}
 use Rattle.lfm_protocol.specs.declared.limits.Limits.{Limits}
@@ -16,7 +16,7 @@ use Rattle.lfm_condvar_laws.specs.Events.{CondvarEvent, as_event, is_own_event, 
 use Rattle.lfm_condvar_laws.specs.Pushes.{push_record}
 use Rattle.lfm_condvar_laws.specs.Stages.{has_lock, is_wake, sends_all}
 
--- a run of one user mutex and its condvars, for any number of seats and any budget in their limits
+-- a run of one user mutex and its condvars, for any number of seats and any budget within the limits
 pub record CondvarRun : Type 0 where
   pub limits : Limits
   pub events : List CondvarEvent
@@ -30,21 +30,22 @@ reached_by r = reached r.limits r.events
 abbrev pub claims_of : CondvarRun → ℕ → List Waiter
 claims_of r v = claims_on v (claim_record (condvar_start r.limits) r.events)
 
--- the seats of the claims with this condvar and ticket
+-- the seats of the claims on this condvar with this ticket
 abbrev pub claims_with : CondvarRun → ℕ → ℕ → List ℕ
 claims_with r v ticket = seats_with ticket (claims_of r v)
 
--- the waiters of this condvar for whom its wakes pushed a record, in order
+-- the waiters of this condvar for which its wakes pushed a record, in order
 abbrev pub pushes_of : CondvarRun → ℕ → List Waiter
 pushes_of r v = claims_on v (push_record (condvar_start r.limits) r.events)
 
 -- The user mutex
 
--- calls and single steps of a mutex alone reach the state of the user mutex, so all laws of reached states hold of it
+-- a schedule of the mutex alone reaches the state of the user mutex, so all laws of reached states hold of it
 abbrev pub CoresAreReached : Type 0
 CoresAreReached = (r : CondvarRun) → IsReached (reached_by r).mutex
 
--- own calls and steps of seats outside of calls on condvars do to the user mutex what they do in a schedule, and nothing else
+-- own calls and steps of seats outside of calls on condvars change the user mutex as they do in a schedule, and change nothing
+-- else
 abbrev pub OwnCallsAreFree : Type 0
 OwnCallsAreFree =
     (r : CondvarRun) (events : List Schedules.Event) → All (λ e. is_own_event (reached_by r) e ≡ true) events
@@ -62,14 +63,15 @@ ClaimsNeverFail =
 abbrev pub TicketsAreClaimedOnce : Type 0
 TicketsAreClaimedOnce = (r : CondvarRun) (v ticket : ℕ) → length (claims_with r v ticket) ≤ 1
 
--- the claims of a condvar are of its tickets 1, 2, 3 and so on, in order; while its lock is free, as many as count as sent
+-- the claims of a condvar have the tickets 1, 2, 3 and so on, in order; while its lock is free, their number is the count of
+-- sent tickets
 abbrev pub ClaimsAreInOrder : Type 0
 ClaimsAreInOrder =
     (r : CondvarRun) (v : ℕ)
     → (map (λ x. x.ticket) (claims_of r v) ≡ range_with_len 1 (length (claims_of r v)))
     × (((reached_by r).condvar v).holder ≡ 0 → length (claims_of r v) ≡ ((reached_by r).condvar v).sent)
 
--- The records that the wakes of a condvar push are of claims of theirs, and go up by ticket
+-- Each record that the wakes of a condvar push is for one of their claims, and the records increase by ticket
 abbrev pub PushesAreInOrder : Type 0
 PushesAreInOrder =
     (r : CondvarRun) (v : ℕ)
@@ -77,8 +79,8 @@ PushesAreInOrder =
 
 -- Locks
 
--- The lock of a condvar is that of the seat whose call has taken it and not given it back. Once a wake has made its last event,
--- the lock is free
+-- The lock of a condvar is held by the seat whose call has taken it and not released it. After the last event of a wake the
+-- lock is free
 abbrev pub LocksAreGivenBack : Type 0
 LocksAreGivenBack =
     (r : CondvarRun) (s v : ℕ)
@@ -88,7 +90,7 @@ LocksAreGivenBack =
 
 -- Wakes
 
--- once a wake of all sends no more, nobody is in the list, and it gives the lock back next
+-- when a wake of all stops sending, the list is empty, and its next event releases the lock
 abbrev pub WakesEmptyTheList : Type 0
 WakesEmptyTheList =
     (r : CondvarRun) (s v : ℕ) (e : CondvarEvent) → sends_all v ((reached_by r).stage s) ≡ true
@@ -103,19 +105,20 @@ WaitsAreNew =
     (r : CondvarRun) (s v : ℕ) → (reached_by r).stage s ≡ locking_to_wait v → ((reached_by r).condvar v).holder ≡ 0
     → is_listed s ((reached_by r).condvar v).waiters ≡ false
 
--- when a wait is about to end, exactly one claim was made with its ticket, and for its own seat
+-- when a wait is about to end, exactly one claim has been made with its ticket, and it was for its own seat
 abbrev pub WaitsAreSent : Type 0
 WaitsAreSent =
     (r : CondvarRun) (s v ticket : ℕ) → (reached_by r).stage s ≡ receiving v ticket → point_of (reached_by r) s ≡ Rest
     → claims_with r v ticket ≡ s ∷ []
 
--- of a wait that has given the lock back, no claim was made and it is WAITING, or exactly that claim was made
+-- for a wait that has released the lock, either no claim has been made and its wake word is WAITING, or exactly that claim has
+-- been made
 abbrev pub WaitsSleepUntilSent : Type 0
 WaitsSleepUntilSent =
     (r : CondvarRun) (s v ticket : ℕ) → (reached_by r).stage s ≡ receiving v ticket
     → (((claims_with r v ticket ≡ []) × (wake (reached_by r).mutex.wakes s ≡ Waiting)) ⊎ (claims_with r v ticket ≡ s ∷ []))
 
--- and when it is about to end, its seat holds the user mutex once
+-- when a wait is about to end, its seat holds the user mutex at depth 1
 abbrev pub WaitsEndHolding : Type 0
 WaitsEndHolding =
     (r : CondvarRun) (s v ticket : ℕ) → (reached_by r).stage s ≡ receiving v ticket → point_of (reached_by r) s ≡ Rest
@@ -138,23 +141,24 @@ pub record IsInOrder (x : Condvar) : Type 0 where
   pub tickets : map (λ w. w.ticket) x.waiters ≡ range_with_len (x.sent + 1) (length x.waiters)
   pub distinct : AllPairs (λ first second. first.seat ≢ second.seat) x.waiters
 
--- so is each condvar whose lock is free
+-- each condvar whose lock is free is in order
 abbrev pub ListsAreInOrder : Type 0
 ListsAreInOrder = (r : CondvarRun) (v : ℕ) → ((reached_by r).condvar v).holder ≡ 0 → IsInOrder ((reached_by r).condvar v)
 
--- while the lock of a condvar is free, a waiter is listed exactly while its wait receives and no claim was made with its ticket
+-- while the lock of a condvar is free, a waiter is listed if and only if its wait receives and no claim has been made with its
+-- ticket
 abbrev pub WaitersAreListed : Type 0
 WaitersAreListed =
     (r : CondvarRun) (v : ℕ) (x : Waiter) → ((reached_by r).condvar v).holder ≡ 0
     → Contains ((reached_by r).condvar v).waiters x
     ↔ (((reached_by r).stage x.seat ≡ receiving v x.ticket) × (claims_with r v x.ticket ≡ []))
 
--- a waiter of some condvar is this seat
+-- this seat is a waiter of some condvar
 pub record IsListed (k : CondvarCore) (s : ℕ) : Type 0 where
   pub condvar : ℕ
   pub ticket : ℕ
   pub listed : Contains (k.condvar condvar).waiters (record { seat = s; ticket = ticket })
 
--- at every moment, each seat whose wake word is WAITING stands in the list of a condvar
+-- at every moment, each seat whose wake word is WAITING is in the list of a condvar
 abbrev pub SleepersAreListed : Type 0
 SleepersAreListed = (r : CondvarRun) (s : ℕ) → wake (reached_by r).mutex.wakes s ≡ Waiting → IsListed (reached_by r) s

@@ -1,5 +1,5 @@
--- One user mutex under any number of condition variables, as definitions by cases: its states, its events, the claims of its
--- wakes, and what the laws say of them.
+-- One user mutex and any number of condition variables, as definitions by cases: their states, their events, the claims of
+-- wakes, and the statements of the laws.
 pub mod Condvars
 pub mod Events
 pub mod Stages

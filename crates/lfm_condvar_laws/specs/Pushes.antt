@@ -1,4 +1,4 @@
--- The pushes of a run: each record that the send of a wake put into the push list of the user mutex, for its target.
+-- The pushes of a run: each record that the send of a wake pushed onto the push list of the user mutex, for its target.
 use Rattle.std.specs.Prelude.{ℕ, ◌++◌, List, [], ◌∷◌, map}
 use Rattle.lfm_words.specs.declared.pop_lists.Record.{Record}
 use Rattle.lfm_laws.specs.laws.Events.{pushed_by}

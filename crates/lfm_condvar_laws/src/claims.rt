@@ -1,8 +1,8 @@
-//! The laws of claims: how the wakes of a condvar claim the waiters, and in which order they push them.
+//! The laws of claims: how the wakes of a condvar claim the waiters, and in which order they push their records.
 ghost use Rattle.lfm_condvar_laws.specs.Laws.{ClaimsNeverFail, TicketsAreClaimedOnce, ClaimsAreInOrder, PushesAreInOrder};
 
-/// The claim of a sender never fails: a seat that is about to make the exchange of a `send_lock` finds its target waiting.
-/// So no wake is refused as NotWaiting.
+/// The claim of a sender never fails: a seat that is about to make the exchange of a `send_lock` finds its target waiting. So
+/// no wake is refused as NotWaiting.
 ///
 /// Definition: `ClaimsNeverFail` in `specs/Laws.antt`. Proof: `proofs/reached/ClaimsFound.antt`.
 pub fn claims_never_fail()
@@ -16,16 +16,17 @@ pub fn tickets_are_claimed_once()
     ensures { TicketsAreClaimedOnce }
 {}
 
-/// First come, first served: wakes claim the tickets of a condvar in the order in which they were given, from 1 on and with
-/// none left out. While the lock is free, the number of claimed tickets is the count of sent ones.
+/// First come, first served: wakes claim the tickets of a condvar in the order in which they were given, from 1 and without
+/// gaps. While the lock is free, the number of claimed tickets is the count of sent ones.
 ///
 /// Definition: `ClaimsAreInOrder` in `specs/Laws.antt`. Proof: `proofs/reached/WaitsSent.antt`.
 pub fn claims_are_in_order()
     ensures { ClaimsAreInOrder }
 {}
 
-/// The order goes on in the user mutex: the records that the wakes of a condvar push into its push list, for their targets, go
-/// up by ticket, each for a seat that was claimed with this ticket. That each claimed seat is pushed is not part of it.
+/// The user mutex keeps the order: the records that the wakes of a condvar push into its push list, for their targets, increase
+/// by ticket, and each is for a seat that was claimed with this ticket. The law does not state that each claimed seat is
+/// pushed.
 ///
 /// Definition: `PushesAreInOrder` in `specs/Laws.antt`. Proof: `proofs/reached/PushOrder.antt`.
 pub fn pushes_are_in_order()

@@ -1,13 +1,13 @@
-//! The laws of condition variables over the core. Each function here does nothing: its contract is the law, and its comment
+//! The laws of condition variables over the core. Each function here does nothing. Its contract is the law, and its comment
 //! names the definition of the law and the file that proves it.
 //!
-//! The laws speak of one user mutex under any number of condvars, and of every list of calls that begin and of single
-//! steps, by any seats in any order, for every number of seats and every budget in their limits. A `wait` takes the lock of
-//! its condvar, adds its seat to the list, makes the steps of `start_wait`, gives the lock back, and receives until it
-//! holds. A wake takes the lock, makes the steps of `send_lock` for the oldest waiter, takes it off the list, goes on to
-//! the next one if it wakes all, and gives the lock back. The lock is one atomic lock here. All other calls of the mutex
-//! may come between any two steps; but a `start_wait` comes from a `wait` alone and a `send_lock` from a wake alone, which
-//! is the premise. The definitions are those of `specs/Condvars.antt`, `specs/Events.antt`, `specs/Claims.antt` and
+//! The laws are about one user mutex and any number of condvars, and about every list of starts of calls and of single steps,
+//! by any seats in any order, for every number of seats and every budget within the limits. A `wait` takes the lock of its
+//! condvar, adds its seat to the list, makes the steps of `start_wait`, releases the lock, and receives until it holds. A wake
+//! takes the lock, makes the steps of `send_lock` for the oldest waiter, removes it from the list, continues with the next one
+//! if it wakes all, and releases the lock. The lock is modelled as one atomic lock. All other calls of the mutex may come
+//! between any two steps. But a `start_wait` is made only by a `wait`, and a `send_lock` only by a wake; this is the premise of
+//! the laws. The definitions are those of `specs/Condvars.antt`, `specs/Events.antt`, `specs/Claims.antt` and
 //! `specs/Pushes.antt`.
 #![tactic(auto)]
 

@@ -1,4 +1,4 @@
-//! The laws of a condvar's list and of its lock: which seats stand in the list, in which order, and which seat has the lock.
+//! The laws of a condvar's list and of its lock: which seats are in the list, in which order, and which seat has the lock.
 ghost use Rattle.lfm_condvar_laws.specs.Laws.{ListsAreInOrder, WaitersAreListed, SleepersAreListed, LocksAreGivenBack, WakesEmptyTheList};
 
 /// Whenever the lock of a condvar is free, the tickets in its list are those after the sent ones and up to the added ones, in
@@ -9,7 +9,7 @@ pub fn lists_are_in_order()
     ensures { ListsAreInOrder }
 {}
 
-/// Whenever the lock of a condvar is free, its list has exactly the seats whose `wait` has given the lock back and whose ticket
+/// Whenever the lock of a condvar is free, its list has exactly the seats whose `wait` has released the lock and whose ticket
 /// no wake has claimed yet, each with this ticket. So a wake finds every one of them.
 ///
 /// Definition: `WaitersAreListed` in `specs/Laws.antt`. Proof: `proofs/reached/ListOrder.antt`.
@@ -17,23 +17,23 @@ pub fn waiters_are_listed()
     ensures { WaitersAreListed }
 {}
 
-/// At every moment, each seat whose wake word is WAITING stands in the list of some condvar. While the lock of a condvar is
-/// free, `waiters_are_listed` says that it is the one on which the seat waits.
+/// At every moment, each seat whose wake word is WAITING is in the list of some condvar. While the lock of a condvar is free,
+/// this is the condvar on which the seat waits, by `waiters_are_listed`.
 ///
 /// Definition: `SleepersAreListed` in `specs/Laws.antt`. Proof: `proofs/reached/SleepersListed.antt`.
 pub fn sleepers_are_listed()
     ensures { SleepersAreListed }
 {}
 
-/// The lock of a condvar is held by exactly the seat whose call has taken it and not yet given it back. After the last event of
-/// a wake it is free.
+/// The lock of a condvar is held by exactly the seat whose call has taken it and not yet released it. After the last event of a
+/// wake it is free.
 ///
 /// Definition: `LocksAreGivenBack` in `specs/Laws.antt`. Proof: `proofs/reached/LocksBack.antt`.
 pub fn locks_are_given_back()
     ensures { LocksAreGivenBack }
 {}
 
-/// Once a wake of all sends no more, the list is empty, and it gives the lock back next.
+/// When a wake of all stops sending, the list is empty, and its next event releases the lock.
 ///
 /// Definition: `WakesEmptyTheList` in `specs/Laws.antt`. Proof: `proofs/reached/ListsEmptied.antt`.
 pub fn wakes_empty_the_list()

@@ -1,4 +1,4 @@
-//! The laws of a `wait`: it is new, sleeps until it is sent, and ends holding.
+//! The laws of a `wait`: its seat is not in the list yet, it sleeps until it is sent, and it ends holding.
 ghost use Rattle.lfm_condvar_laws.specs.Laws.{WaitsAreNew, WaitsAreSent, WaitsSleepUntilSent, WaitsEndHolding, WaitsCanEnd};
 
 /// No `wait` finds its seat in the list when it has taken the lock. So none is refused as Busy.
@@ -8,15 +8,15 @@ pub fn waits_are_new()
     ensures { WaitsAreNew }
 {}
 
-/// When a `wait` is about to end, exactly one claim was made with its ticket, and for its own seat.
+/// When a `wait` is about to end, exactly one claim has been made with its ticket, and it was for its own seat.
 ///
 /// Definition: `WaitsAreSent` in `specs/Laws.antt`. Proof: `proofs/reached/WaitsSent.antt`.
 pub fn waits_are_sent()
     ensures { WaitsAreSent }
 {}
 
-/// Once a `wait` has given the lock back, its wake word is WAITING and no claim was made with its ticket, or exactly one claim
-/// was, for its own seat.
+/// After a `wait` has released the lock, either its wake word is WAITING and no claim has been made with its ticket, or exactly
+/// one claim has been made, for its own seat.
 ///
 /// Definition: `WaitsSleepUntilSent` in `specs/Laws.antt`. Proof: `proofs/reached/WaitsSent.antt`.
 pub fn waits_sleep_until_sent()
@@ -30,7 +30,7 @@ pub fn waits_end_holding()
     ensures { WaitsEndHolding }
 {}
 
-/// There is a run in which a `wait` is about to end: the other laws are not vacuous.
+/// There is a run in which a `wait` is about to end, so the other laws are not vacuous.
 ///
 /// Definition: `WaitsCanEnd` in `specs/Laws.antt`. Proof: `proofs/reached/OneWait.antt`.
 pub fn waits_can_end()

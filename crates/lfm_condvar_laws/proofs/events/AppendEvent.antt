@@ -153,7 +153,7 @@ appended_outcome k g s v fits stage free f at_v at_others =
 
 -- Taking the lock
 
--- the condvar once seat s has its lock
+-- the condvar after seat s has taken its lock
 abbrev taken : CondvarCore → ℕ → ℕ → Condvar
 taken k s v = record (k.condvar v) { holder = s }
 

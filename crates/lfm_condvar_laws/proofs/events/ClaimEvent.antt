@@ -1,4 +1,4 @@
--- The claim of a send: it finds its target waiting, and is the one claim with the target's ticket.
+-- The claim of a send: it finds its target waiting, and is the only claim with the target's ticket.
 use Rattle.std.proofs.Common.{◌≡◌, ◌≢◌, ◌≤◌, ℕ, suc, Bool, ◌+◌, [], ◌∷◌, ◌++◌, refl, sym, ap, ◌∙◌, inl, inr, arith}
 use Rattle.std.proofs.lemmas.Bool.{cases_eq, eq-eqb, ne_eqb}
 use Rattle.lfm_words.specs.declared.wakes.Wake.TheVariants.{Waiting, Claimed}
@@ -22,7 +22,7 @@ use Rattle.lfm_condvar_laws.proofs.mutex.WakeWords.{waiting_is_seat, others_stay
 
 -- The target
 
--- the target of the send that has the lock waits, by the oldest ticket
+-- the target of the send that has the lock waits, with the oldest ticket
 pub record Target (k : CondvarCore) (v : ℕ) (oldest : Waiter) : Type 0 where
   pub stage : k.stage oldest.seat ≡ receiving v ((k.condvar v).sent + 1)
   pub word : wake k.mutex.wakes oldest.seat ≡ Waiting
@@ -36,7 +36,7 @@ target_of k g s v all oldest fits stage own =
     (inr own.locks.holds) stage refl pending in
     record { stage = ap k.stage own.seat ∙ waits.0; word = ap (wake k.mutex.wakes) own.seat ∙ waits.1 }
 
--- The claims that are told
+-- The claims of the ghost
 
 -- the claim of this waiter by a wake of condvar v
 abbrev claim_with : ℕ → Waiter → Claim
@@ -48,7 +48,7 @@ claimed_here v x = rw (eq-eqb v v refl) refl
 claimed_elsewhere : (v w : ℕ) (x : Waiter) → w ≢ v → claims_on w (claim_with v x ∷ []) ≡ []
 claimed_elsewhere v w x other = rw (ne_eqb v w (λ e. other (sym e))) refl
 
--- Once the claim has come, its target does not wait
+-- After the claim, its target does not wait
 
 target_wakes : (k : CondvarCore) (g : CondvarGhost) (s v t w n : ℕ) (oldest : Waiter) → CoreFits k g → ClaimingFits k g s v oldest
     → Target k v oldest → ReceivingFits k g t w n → w ≡ v → n ≡ (k.condvar v).sent + 1 → wake (made k.mutex s).core.wakes t ≢ Waiting
@@ -59,7 +59,7 @@ target_wakes k g s v t w n oldest fits own target before condvar ticket word =
     let clash : Claimed ≡ Waiting = sym claimed ∙ ap (wake (made k.mutex s).core.wakes) (sym here) ∙ word in
     cc
 
--- and who was claimed before does not either
+-- seats that were claimed before do not wait either
 claimed_wakes : (k : CondvarCore) (g : CondvarGhost) (s v t w n : ℕ) (oldest : Waiter) → CoreFits k g → ClaimingFits k g s v oldest
     → Target k v oldest → ReceivingFits k g t w n → t ≢ s → n ≤ changed g.claimed v ((k.condvar v).sent + 1) w
     → wake (made k.mutex s).core.wakes t ≢ Waiting

@@ -1,4 +1,4 @@
--- The events of a call that has the lock of a condvar, or gives it back: all but the one that appends and the claim.
+-- The events of a call that has the lock of a condvar, or releases it: all except the one that appends and the claim.
 use Rattle.std.proofs.Common.{◌≡◌, ◌⊎◌, ℕ, suc, Bool, true, false, ◌+◌, ◌-◌, ◌<◌, List, [], ◌∷◌, refl, sym, ap, ◌∙◌, inl, inr, arith}
 use Rattle.std.proofs.lemmas.Bool.{cases_eq, cases_Bool, eq-eqb, ne_eqb}
 use Rattle.std.specs.Prelude.{drop}
@@ -32,7 +32,7 @@ one_condvar k d s v x e =
       others = λ t other. changed_other k.stage s t e other;
     }
 
--- The lock is given back
+-- The lock is released
 
 -- the condvar with a free lock
 abbrev freed : Condvar → Condvar
@@ -91,9 +91,9 @@ at_unlocking k g s v fits stage own =
     (freed_moves k g s v fits own.locks.holds own.unclaimed) (rw own.at refl)
     (λ w y unclaimed pending. absurd (not_pending k s w y (unlocking v) stage refl pending)))
 
--- A wake goes on to the oldest waiter
+-- A wake continues with the oldest waiter
 
--- a pending ticket whose condvar no other wait has locked is that of a seat that waits
+-- a pending ticket of a condvar that no other wait has locked belongs to a seat that waits
 pub target_waits : (k : CondvarCore) (g : CondvarGhost) (s v ticket t : ℕ) (d : Stage) → CoreFits k g
     → ((k.condvar v).holder ≡ 0) ⊎ ((k.condvar v).holder ≡ s)
     → k.stage s ≡ d → has_ticket d ≡ false → IsPending k v ticket t
@@ -107,7 +107,7 @@ target_waits k g s v ticket t d fits (inr holds) stage none (inl starts) =
     let same : t ≡ s = sym own.locks.holds ∙ holds in
     absurd (not_pending k s v ticket d stage none (inl (rw (sym same) starts)))
 
--- what a wake has to show before it goes on
+-- what has to be shown before a wake continues
 pub record NextFits (k : CondvarCore) (g : CondvarGhost) (s v : ℕ) (x : Condvar) : Type 0 where
   pub is : IsSeat k.mutex.seats s
   pub at : point_of k s ≡ Rest
@@ -190,7 +190,7 @@ at_locking_to_wake k g s v all fits stage own =
           }) refl)
     ]
 
--- A waiter leaves the list
+-- A waiter is removed from the list
 
 removed_moves : (k : CondvarCore) (g : CondvarGhost) (s v : ℕ) → CoreFits k g → SendingFits k g s v
     → CondvarMoves k g s v (removed (k.condvar v))

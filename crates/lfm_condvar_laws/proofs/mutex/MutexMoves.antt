@@ -1,4 +1,4 @@
--- What the start of a call and a step of the user mutex leave to all other seats, and what they keep.
+-- What the start of a call and a step of the user mutex leave unchanged in all other seats, and what they keep.
 use Rattle.std.proofs.Common.{◌≡◌, ◌≢◌, ◌⊎◌, ℕ, false, ◌+◌, ◌&&◌, nat_lt, length, refl, sym, ap, ◌∙◌, inl, inr, if◌then◌else◌}
 use Rattle.std.proofs.lemmas.Bool.{cases_Bool}
 use Rattle.lfm_words.specs.declared.wakes.Wake.TheVariants.{Waiting}
@@ -19,7 +19,7 @@ use Rattle.lfm_laws.proofs.steady.frames.Seated.{seat_of_test, test_of_seat}
 use Rattle.lfm_condvar_laws.proofs.Invariant.{claims_at, waits_at}
 use Rattle.lfm_condvar_laws.proofs.mutex.WakeWords.{stays_waiting, has_waited}
 
--- the views of all seats but s, and the limits
+-- the views of all seats except s, and the limits
 pub record OthersStay (c d : Core) (s : ℕ) : Type 0 where
   pub others : (t : ℕ) → t ≢ s → seat d.seats t ≡ seat c.seats t
   pub size : length d.seats ≡ length c.seats
@@ -28,7 +28,8 @@ pub record OthersStay (c d : Core) (s : ℕ) : Type 0 where
 leaves_all : (c : Core) (s : ℕ) → OthersStay c c s
 leaves_all c s = record { others = λ t other. refl; size = refl; budget = refl }
 
--- a state that fits again, in which the seats that wait still wait, and no other seat begins to
+-- The state fits again. Each wake word that is WAITING before is so after. The only word that may become WAITING is that of
+-- seat s, at a start_wait
 pub record MutexMoves (c d : Core) (s : ℕ) : Type 0 where
   pub to : Ghost
   pub fits : Fits d to
@@ -84,7 +85,7 @@ begin_moves c g s call fits =
       waited = λ t other word. sym (touches.words (Word.Wake t)) ∙ word;
     }
 
--- What the start of a call of another seat would answer stays
+-- The answer that the start of a call of another seat would have is unchanged
 
 begin_turn : (c : Core) (t : ℕ) (call : Call)
     → (begin c t call).turn ≡ (if is_seat c.seats t then (Begin.begin (seat c.seats t) (limits c) call).turn else Refused NoSuchSeat)

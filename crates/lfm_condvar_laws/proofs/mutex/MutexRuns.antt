@@ -1,4 +1,4 @@
--- Calls and single steps of the user mutex do to it what events on condvars do.
+-- Each event on condvars changes the user mutex as some starts of calls and single steps of the mutex do.
 use Rattle.std.proofs.Common.{◌≡◌, ℕ, Bool, true, false, ◌&&◌, List, [], ◌∷◌, ◌++◌, nat_eq, refl, sym, ap, ◌∙◌, if◌then◌else◌}
 use Rattle.lfm_protocol.specs.declared.answers.Call.TheVariants.{StartWait, SendLock, Receive}
 use Rattle.lfm_protocol.specs.declared.points.Point.{Point}

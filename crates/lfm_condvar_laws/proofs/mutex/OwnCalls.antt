@@ -1,4 +1,4 @@
--- Own calls of seats outside of calls on condvars go as in a schedule of the user mutex alone.
+-- Own calls of seats outside of calls on condvars behave as in a schedule of the user mutex alone.
 use Rattle.std.proofs.Common.{◌≡◌, suc, true, List, [], ◌∷◌, refl, ap, ◌∙◌, arith}
 use Rattle.std.proofs.lemmas.Bool.{false≢true}
 use Rattle.std.specs.Prelude.{All, map}

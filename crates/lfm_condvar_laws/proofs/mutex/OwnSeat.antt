@@ -1,4 +1,4 @@
--- What becomes of the acting seat as it starts a call of the user mutex or makes a step of one.
+-- How the acting seat changes when it starts a call of the user mutex or makes a step of one.
 use Rattle.std.proofs.Common.{◌≡◌, ℕ, Bool, true, false, ◌+◌, ◌&&◌, nat_eq, nat_lt, length, refl, sym, ap, ◌∙◌, inl, inr, if◌then◌else◌}
 use Rattle.std.proofs.lemmas.Bool.{cases_Bool, false≢true}
 use Rattle.lfm_model.specs.declared.refusals.Refusal.{Refusal}
@@ -46,7 +46,7 @@ pub waits_unclaimed : (p : Point) → waits_at p ≡ true → claims_at p ≡ fa
 waits_unclaimed (SendWakeExchange t) waits = absurd (false≢true waits)
 waits_unclaimed _ waits = refl
 
--- a send that has ended rests
+-- a send that has ended is at rest
 pub sent_rests : (p : Point) → sends_at p ≡ true → is_call p ≡ false → p ≡ Rest
 sent_rests Rest sends over = refl
 sent_rests (Asleep sleeper) sends over = absurd (false≢true sends)
@@ -119,7 +119,7 @@ begun_outside x bounds call Rest own before here = awake_outside x bounds call o
 begun_outside x bounds call (Asleep sleeper) own before here = asleep_outside x sleeper call before here
 begun_outside x bounds call _ own before here = before
 
--- no call from outside of condvars begins at a point that these alone come to
+-- no call made outside of condvars begins at a point that only calls on condvars reach
 pub begin_outside : (c : Core) (s : ℕ) (call : Call) → is_own_call call ≡ true → is_of_condvar (seat c.seats s).point ≡ false
     → is_of_condvar (seat (begin c s call).core.seats s).point ≡ false
 begin_outside c s call own before =

@@ -1,4 +1,4 @@
--- A wake word that is WAITING stays so until a send claims its seat, and only the end of a start_wait makes one so.
+-- A wake word that is WAITING stays so until a send claims its seat. Only the last step of start_wait stores WAITING.
 use Rattle.std.proofs.Common.{◌≡◌, ◌≢◌, ◌⊎◌, ℕ, zero, suc, true, false, ◌+◌, List, length, refl, sym, ap, ◌∙◌, inl, inr, arith}
 use Rattle.std.proofs.lemmas.Bool.{cases_eq, cases_lt, eq-eqb, false≢true}
 use Rattle.lfm_protocol.specs.declared.points.Carrier.{Carrier}
@@ -20,7 +20,7 @@ use Rattle.lfm_laws.proofs.steady.frames.Seated.{seat_of_point}
 use Rattle.lfm_laws.proofs.steady.grant.Wakings.{IsWaiting, waiting_of}
 use Rattle.lfm_condvar_laws.proofs.Invariant.{claims_at, waits_at}
 
--- what a wake word that is WAITING tells of its seat
+-- what a wake word that is WAITING shows about its seat
 pub waiting_tells : (c : Core) (g : Ghost) (t : ℕ) → Fits c g → wake c.wakes t ≡ Waiting
     → IsWaiting g.place (g.standing t) t (seat c.seats t).point
 waiting_tells c g t fits word = waiting_of g.place (g.standing t) t (seat c.seats t).point (sym word ∙ (fits.each t).woken)
@@ -34,7 +34,7 @@ waiting_is_seat c g t fits word =
 pub rests_unwaiting : (c : Core) (g : Ghost) (t : ℕ) → Fits c g → (seat c.seats t).point ≡ Rest → wake c.wakes t ≢ Waiting
 rests_unwaiting c g t fits at word = let is = waiting_tells c g t fits word in false≢true (rw at at is.sleeps)
 
--- the word of another seat is left
+-- the word of another seat is unchanged
 other_word : (wakes : List Wake) (u t : ℕ) (w : Wake) → t ≢ u → wake wakes t ≡ Waiting → wake (with_entry wakes u w) t ≡ Waiting
 other_word wakes u t w other e = entry-with_other Quiet wakes u t w other ∙ e
 
@@ -76,19 +76,19 @@ keeps_at c g s t (WaitWakeStore released) at before fits word =
     rw at (other_word c.wakes s t _ (waits_other c g s t (WaitWakeStore released) at refl fits word) word)
 keeps_at c g s t _ at before fits word = rw at word
 
--- no step but the claim of a send changes a word that is WAITING
+-- no step except the claim of a send changes a word that is WAITING
 pub stays_waiting : (c : Core) (g : Ghost) (s t : ℕ) → claims_at (seat c.seats s).point ≡ false → Fits c g
     → wake c.wakes t ≡ Waiting
     → wake (made c s).core.wakes t ≡ Waiting
 stays_waiting c g s t before fits word = keeps_at c g s t (seat c.seats s).point refl before fits word
 
--- and the claim of a send changes none but that of its target
+-- the claim of a send changes no word that is WAITING except that of its target
 pub others_stay_waiting : (c : Core) (s t u : ℕ) → (seat c.seats s).point ≡ SendWakeExchange u → wake c.wakes u ≡ Waiting → t ≢ u
     → wake c.wakes t ≡ Waiting
     → wake (made c s).core.wakes t ≡ Waiting
 others_stay_waiting c s t u at found other word = rw (at, found) (other_word c.wakes u t Claimed other word)
 
--- which is then claimed
+-- the claim changes the target's word to CLAIMED
 pub claimed_word : (c : Core) (g : Ghost) (s u : ℕ) → (seat c.seats s).point ≡ SendWakeExchange u → wake c.wakes u ≡ Waiting
     → IsSeat c.seats u → Fits c g → wake (made c s).core.wakes u ≡ Claimed
 claimed_word c g s u at found is fits =
@@ -141,7 +141,7 @@ waited_at c s t (WaitWakeStore released) at (inl other) word =
 waited_at c s t (WaitWakeStore released) at (inr none) word = absurd (false≢true (sym none))
 waited_at c s t _ at other word = rw at at word
 
--- so if a word is WAITING after a step, it was before, but for a seat that ends its own start_wait
+-- a word that is WAITING after a step was so before it, unless it is the word of a seat that makes a step of its own start_wait
 pub has_waited : (c : Core) (s t : ℕ) → (t ≢ s) ⊎ (waits_at (seat c.seats s).point ≡ false)
     → wake (made c s).core.wakes t ≡ Waiting → wake c.wakes t ≡ Waiting
 has_waited c s t other word = waited_at c s t (seat c.seats s).point refl other word

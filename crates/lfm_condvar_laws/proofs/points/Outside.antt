@@ -1,4 +1,4 @@
--- No step of a seat outside of condvars leads to a point that calls on condvars alone come to. One walk over the points.
+-- No step of a seat outside of condvars leads to a point that only calls on condvars reach. By cases on the point.
 use Rattle.std.proofs.Common.{◌≡◌, ℕ, Bool, true, false, refl, sym, if◌then◌else◌}
 use Rattle.std.proofs.lemmas.Bool.{false≢true}
 use Rattle.std.specs.Prelude.{Option, Some, None, nat_eq}

@@ -1,4 +1,4 @@
--- A send pushes at most one record, for its target, and pushes no more after it.
+-- A send pushes at most one record, which is for its target, and pushes no other after it.
 use Rattle.std.proofs.Common.{◌≡◌, ◌⊎◌, ℕ, ◌+◌, Bool, true, false, Option, Some, None, [], ◌∷◌, nat_eq, refl, sym, ◌∙◌, inl, inr, if◌then◌else◌}
 use Rattle.std.proofs.lemmas.Bool.{cases_Bool, false≢true}
 use Rattle.lfm_protocol.specs.declared.answers.Answer.{Answer}
@@ -66,7 +66,7 @@ of_cleared : (carrier : Carrier) (head : ℕ) → carries_for_send carrier ≡ t
 of_cleared Carrier.Sender head sender = refl
 of_cleared _ head sender = absurd (false≢true sender)
 
--- a step after which the send may still push for t: so it was before, and the step pushed nothing
+-- if the send may still push for t after the step, it might before the step, and the step pushed no record
 abbrev pub StillPushes : Core → ℕ → Point → Option ℕ → Type 0
 StillPushes c s p after = (t : ℕ) → after ≡ Some t → (to_push p ≡ Some t) × (pushed_at_point c s p ≡ [])
 
@@ -114,7 +114,7 @@ pub still_pushes : (c : Core) (s : ℕ) → sends_at (seat c.seats s).point ≡ 
     → StillPushes c s (seat c.seats s).point (to_push (stepped c s).seat.point)
 still_pushes c s before = still_at c s (seat c.seats s).point refl before
 
--- what a step of a send pushes: nothing, or one record, for the target of the send
+-- a step of a send pushes either no record, or one, for the target of the send
 abbrev pub PushesOne : Core → ℕ → Point → Type 0
 PushesOne c s p = (pushed_at_point c s p ≡ []) ⊎ ((x : Record) × (pushed_at_point c s p ≡ x ∷ []) × (to_push p ≡ Some x.seat))
 

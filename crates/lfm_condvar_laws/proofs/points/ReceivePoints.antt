@@ -1,4 +1,4 @@
--- A wait that receives goes on as such until its seat holds.
+-- A wait that receives stays at the points of a receiving wait until its seat holds.
 use Rattle.std.proofs.Common.{◌≡◌, ℕ, true, false, refl, sym, ap, ◌∙◌, inl, inr}
 use Rattle.std.proofs.lemmas.Bool.{cases_Bool, eqb-true, false≢true}
 use Rattle.lfm_protocol.specs.declared.answers.Call.TheVariants.{Receive}
@@ -29,7 +29,7 @@ receives_unstarted depth (ReceiveWakeStore stamp) comes = refl
 receives_unstarted depth (EnterOwnerStore entrant how) comes = refl
 receives_unstarted depth _ comes = absurd (false≢true comes)
 
--- if it rests, it holds once
+-- a seat that has come to rest at these points holds at depth 1
 pub holds_once : (x : SeatState) → x.point ≡ Rest → comes_to_hold x ≡ true → x.depth ≡ 1
 holds_once x at comes = eqb-true x.depth 1 (rw at at comes)
 

@@ -1,4 +1,4 @@
--- A send that has claimed its target goes on as such until it ends.
+-- A send that has claimed its target stays at the points of such a send until it ends.
 use Rattle.std.proofs.Common.{◌≡◌, ℕ, Bool, true, false, refl, if◌then◌else◌}
 use Rattle.std.proofs.lemmas.Bool.{false≢true}
 use Rattle.std.specs.Prelude.{Option, Some, None, nat_eq}

@@ -1,4 +1,4 @@
--- A start_wait goes on as such until its seat sleeps.
+-- A start_wait stays at its own points until its seat sleeps.
 use Rattle.std.proofs.Common.{◌≡◌, ℕ, Bool, true, false, refl, sym, ap, ◌∙◌, inl, inr, if◌then◌else◌}
 use Rattle.std.proofs.lemmas.Bool.{false≢true}
 use Rattle.std.specs.Prelude.{Option, Some, None, nat_eq}
@@ -54,7 +54,7 @@ of_cleared (Carrier.Releaser Waiter) head waiter =
 of_cleared (Carrier.Reclaimer Waiter) head waiter = refl
 of_cleared _ head waiter = absurd (false≢true waiter)
 
--- its last step
+-- the last step of start_wait
 abbrev is_last : Point → Bool
 is_last (WaitWakeStore released) = true
 is_last _ = false

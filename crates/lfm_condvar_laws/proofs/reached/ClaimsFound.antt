@@ -1,4 +1,4 @@
--- Each claim finds its seat waiting: only a wake that has the lock comes to a claim, and it sends the oldest waiter.
+-- Each claim finds its seat waiting: only a wake that has the lock reaches a claim, and it sends the oldest waiter.
 use Rattle.std.proofs.Common.{◌≡◌, ℕ, true, false, refl, sym, ap, ◌∙◌, inl, inr}
 use Rattle.std.proofs.lemmas.Bool.{cases_Bool, false≢true}
 use Rattle.lfm_words.specs.declared.wakes.Wake.TheVariants.{Waiting}
@@ -50,7 +50,7 @@ claim_finds k g s t (sending v all oldest) fits stage own at =
     absurd (unclaimed_but (point_of k s) t at (sends_unclaimed (point_of k s) own.at))
 claim_finds k g s t (unlocking v) fits stage own at = absurd (unclaimed_but (point_of k s) t at (ap claims_at own.at))
 
--- and its step is not refused
+-- the step of a claim is not refused
 claim_opens : (k : CondvarCore) (s t : ℕ) → point_of k s ≡ SendWakeExchange t → wake k.mutex.wakes t ≡ Waiting
     → is_open (step k.mutex s).turn ≡ true
 claim_opens k s t at word =

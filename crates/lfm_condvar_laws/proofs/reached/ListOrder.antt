@@ -23,7 +23,7 @@ same_starting v m n e = cc
 same_receiving : (v m n : ℕ) → receiving v m ≡ receiving v n → m ≡ n
 same_receiving v m n e = cc
 
--- a seat has one pending ticket of a condvar
+-- a seat has at most one pending ticket of a condvar
 one_ticket : (k : CondvarCore) (v t m n : ℕ) → IsPending k v m t → IsPending k v n t → m ≡ n
 one_ticket k v t m n (inl first) (inl second) = same_starting v m n (sym first ∙ second)
 one_ticket k v t m n (inl first) (inr second) = let clash : starting v m ≡ receiving v n = sym first ∙ second.0 in cc
@@ -71,7 +71,7 @@ lists_are_in_order r v free = let is = run_reaches r in in_order (reached_by r) 
 
 -- Seats that are listed
 
--- a pending ticket of a condvar whose lock is free is that of a wait that has given the lock back
+-- a pending ticket of a condvar whose lock is free belongs to a wait that has released the lock
 receives_pending : (k : CondvarCore) (g : CondvarGhost) (v ticket t : ℕ) → CoreFits k g → (k.condvar v).holder ≡ 0
     → IsPending k v ticket t → k.stage t ≡ receiving v ticket
 receives_pending k g v ticket t fits free (inr waits) = waits.0
@@ -99,7 +99,7 @@ listed_waits r is v x free (i, within, read) =
       ap (seats_with x.ticket) (sym (is.history v)) ∙ unclaimed_told g v x.ticket (omega (arith, ticket, unclaimed)),
     )
 
--- a wait that was not claimed has a ticket above those that were
+-- a wait that was not claimed has a ticket greater than the claimed ones
 unclaimed_ticket : (r : CondvarRun) (is : Reached r) (s v ticket : ℕ) → ReceivingFits (reached_by r) is.ghost_state s v ticket
     → claims_with r v ticket ≡ []
     → is.ghost_state.claimed v < ticket
@@ -112,7 +112,7 @@ unclaimed_ticket r is s v ticket own none =
           cc
     ]
 
--- a ticket that was given and not sent stands in the list, with its seat
+-- a ticket that was given and not sent is in the list, with its seat
 pub given_listed : (k : CondvarCore) (g : CondvarGhost) (v ticket s : ℕ) → CoreFits k g → (k.condvar v).sent < ticket
     → ticket ≤ (k.condvar v).added → g.given v ticket ≡ s → Contains (k.condvar v).waiters (waiter_with s ticket)
 given_listed k g v ticket s fits above within given =

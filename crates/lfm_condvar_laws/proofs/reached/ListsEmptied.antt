@@ -1,4 +1,4 @@
--- A wake of all goes on until nobody is in the list: no claim of it fails.
+-- A wake of all continues until the list is empty: none of its claims fails.
 use Rattle.std.proofs.Common.{◌≡◌, ℕ, Bool, true, false, ◌&&◌, List, [], ◌∷◌, nat_eq, refl, sym, ap, ◌∙◌, subst, inl, inr, if◌then◌else◌}
 use Rattle.std.proofs.lemmas.Bool.{eq-eqb, and_parts, false≢true}
 use Rattle.lfm_protocol.specs.Step.{step}
@@ -14,7 +14,7 @@ use Rattle.lfm_condvar_laws.proofs.LockMoves.{same_condvar, stage_by}
 use Rattle.lfm_condvar_laws.proofs.Runs.{run_reaches}
 use Rattle.lfm_condvar_laws.proofs.reached.ClaimsFound.{claims_never_fail}
 
--- it sends no more, and nobody is in the list
+-- it has stopped sending, and the list is empty
 abbrev IsEmptied : CondvarCore → ℕ → ℕ → Type 0
 IsEmptied l s v = (l.stage s ≡ unlocking v) × ((l.condvar v).waiters ≡ [])
 
@@ -27,7 +27,7 @@ emptied_if : (b : Bool) (k l : CondvarCore) (s v : ℕ)
 emptied_if true k l s v first second ends = first ends
 emptied_if false k l s v first second ends = second ends
 
--- with the lock of condvar v, whose list is this, a wake of all goes on to send or leaves an empty list
+-- a wake of all that has the lock of condvar v, whose list is this, either sends next or leaves an empty list
 next_empties : (k : CondvarCore) (s v : ℕ) (x : Condvar) (waiters : List Waiter) → x.waiters ≡ waiters
     → sends_all v ((sends_next (put_condvar k v x) s v true waiters).stage s) ≡ false
     → IsEmptied (sends_next (put_condvar k v x) s v true waiters) s v
@@ -56,7 +56,7 @@ claims_and_goes_on k s v oldest opens ends =
     goes_on_sending v _ (sending v true oldest)
     (changed_same k.stage s _ ∙ ap (λ (b : Bool). if b then sending v true oldest else unlocking v) opens) (eq-eqb v v refl) ends
 
--- the condvar and the kind of a wake of all
+-- a stage of a wake of all waiters of condvar v, split into these two facts
 of_all : (all : Bool) (w v : ℕ) → (all && nat_eq w v) ≡ true → (all ≡ true) × (w ≡ v)
 of_all all w v is = let parts = and_parts _ _ is in (parts.0, same_condvar v w parts.1)
 

@@ -1,4 +1,4 @@
--- Which seat has the lock of a condvar: the one whose call has taken it and not given it back. A wake ends by giving it back.
+-- Which seat has the lock of a condvar: the one whose call has taken it and not released it. A wake ends by releasing it.
 use Rattle.std.proofs.Common.{◌≡◌, ℕ, Bool, true, false, ◌<◌, List, [], ◌∷◌, nat_eq, refl, sym, ap, ◌∙◌, inl, inr, arith, if◌then◌else◌}
 use Rattle.std.proofs.lemmas.Bool.{cases_eq, false≢true}
 use Rattle.lfm_protocol.specs.declared.limits.Limits.{Limits}
@@ -15,7 +15,7 @@ use Rattle.lfm_condvar_laws.proofs.Runs.{run_reaches}
 
 -- Which seat has it
 
--- a lock that is not free is that of a call which goes on with it
+-- a lock that is not free belongs to a call that continues with it
 abbrev LocksFit : CondvarCore → Type 0
 LocksFit k = (w t : ℕ) → 0 < t → (k.condvar w).holder ≡ t → has_lock w (k.stage t) ≡ true
 
@@ -65,7 +65,7 @@ claimed_inside k s v all oldest false = put_inside k s (unlocking v) refl
 ends_outside : (d : Stage) → d ≡ outside → is_outside d ≡ false → ⊥
 ends_outside d is inside = false≢true (sym inside ∙ ap is_outside is)
 
--- a wake that ends has given the lock back
+-- a wake that ends has released the lock
 free_after : (k : CondvarCore) (s v : ℕ) (d : Stage) → k.stage s ≡ d → is_wake v d ≡ true → (goes_on k s d).stage s ≡ outside
     → ((goes_on k s d).condvar v).holder ≡ 0
 free_after k s v outside stage waking over = absurd (false≢true waking)

@@ -1,4 +1,4 @@
--- A run in which a wait ends: it computes.
+-- A run in which a wait ends. By computation.
 use Rattle.std.proofs.Common.{false, [], ◌∷◌, refl}
 use Rattle.lfm_protocol.specs.declared.answers.Call.TheVariants.{Lock}
 use Rattle.lfm_protocol.specs.Seats.{entry, with_entry}

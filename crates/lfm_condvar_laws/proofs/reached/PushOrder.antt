@@ -1,4 +1,4 @@
--- The records that the wakes of a run push, event by event: they go up by ticket, and each is of a claim.
+-- The records that the wakes of a run push, event by event: they increase by ticket, and each is for a claim.
 use Rattle.std.proofs.Common.{◌≡◌, ◌≢◌, ℕ, Bool, true, false, ◌+◌, ◌&&◌, List, [], ◌∷◌, ◌++◌, nat_eq, refl, sym, ap, ◌∙◌, subst, inl, inr, arith, append_assoc, if◌then◌else◌}
 use Rattle.std.proofs.lemmas.Bool.{cases_Bool, eq-eqb, ne_eqb, and_parts, false≢true}
 use Rattle.std.specs.Prelude.{All, Contains, map}
@@ -62,7 +62,7 @@ receives_none k s v ticket Rest stage = ap is_sending (changed_same k.stage s ou
 receives_none k s v ticket (Asleep sleeper) stage = ap is_sending stage
 receives_none k s v ticket _ stage = ap is_sending stage
 
--- Events that claim and push nothing
+-- Events that claim no waiter and push no record
 
 quiet_event : (k : CondvarCore) (g h : CondvarGhost) (e : CondvarEvent) (pushes : ℕ → List Waiter) → PushFits k g pushes
     → ((v : ℕ) → claims_told h v ≡ claims_told g v ++ []) → Back k (happens k e) (actor e)
@@ -116,7 +116,7 @@ at_claim k g h s v all oldest pushes fits stage own before history =
     ∙ sym (append_none (claims_told g u)))
     (λ u. sym (append_none (pushes u))) now (ap to_push at) (omega (arith, unclaimed, ticket))
 
--- a step of a send that goes on
+-- a step of a send that continues
 at_send : (k : CondvarCore) (g h : CondvarGhost) (s v : ℕ) (all : Bool) (oldest : Waiter) (pushes : ℕ → List Waiter) → CoreFits k g
     → k.stage s ≡ sending v all oldest → SendingFits k g s v → PushFits k g pushes
     → ((u : ℕ) → claims_told h u ≡ claims_told g u ++ []) → SeatMoves k (mutex_steps k s) s

@@ -1,4 +1,5 @@
--- No seat that sleeps is lost: each whose wake word is WAITING stands in the list of a condvar. By the stage of its call.
+-- No seat that sleeps is lost: each seat whose wake word is WAITING is in the list of a condvar. By cases on the stage of its
+-- call.
 use Rattle.std.proofs.Common.{◌≡◌, ℕ, true, false, refl, sym, ap, ◌∙◌, inl, inr, arith}
 use Rattle.std.proofs.lemmas.Bool.{cases_Bool, cases_lt, false≢true}
 use Rattle.lfm_words.specs.declared.wakes.Wake.TheVariants.{Waiting}
@@ -46,7 +47,7 @@ begins_awake c s _ at sleeps opens = false≢true sleeps
 
 -- Seats that are listed
 
--- a wait that has given the lock back
+-- a wait that has released the lock
 receiving_listed : (k : CondvarCore) (g : CondvarGhost) (s v ticket : ℕ) → CoreFits k g → ReceivingFits k g s v ticket
     → wake k.mutex.wakes s ≡ Waiting → IsListed k s
 receiving_listed k g s v ticket fits own word =

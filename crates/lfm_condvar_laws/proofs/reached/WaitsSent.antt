@@ -1,5 +1,5 @@
--- The claims of a run, ticket by ticket, and how they end waits: read off the ghost, which tells to which seat each ticket was
--- given and how many tickets were claimed.
+-- The claims of a run by ticket, and how they end waits. Derived from the ghost, which has the seat to which each ticket was
+-- given and the number of claimed tickets.
 use Rattle.std.proofs.Common.{◌≡◌, ◌⊎◌, ℕ, ◌<◌, ◌≤◌, length, map, [], ◌∷◌, sym, ap, ◌∙◌, inl, inr, arith}
 use Rattle.std.proofs.lemmas.Bool.{cases_lt}
 use Rattle.std.specs.List.{range_with_len}

@@ -1,4 +1,4 @@
--- The first line of a text that says nothing is the one that is named, in each grammar that is read line by line.
+-- In each grammar, the fault names the first line of the text that can't be read.
 use Rattle.std.proofs.Common.{◌≡◌, ◌≢◌, ◌+◌, ◌<◌, zero, suc, ℕ, Bool, true, false, cond, is_some, length, List, [], ◌∷◌, Option, Some, None, Result, Ok, Err, ◌⊎◌, inl, inr, get_or, refl, sym, ◌∙◌, ap, arith}
 use Rattle.lfm_text.specs.Text.{words_of, lines_of, is_past_limit}
 use Rattle.lfm_text.specs.Grammar.{Rules, in_front, lines_from, whole_from, whole_of_lines, said_in, is_line_at, IsFirstFault}
@@ -7,7 +7,7 @@ none_of : {A : Type 0} (o : Option A) → is_some o ≡ false → o ≡ None
 none_of None e = refl
 none_of (Some x) e = absurd (cc)
 
--- the fault of a line names its number and is no fault of the limits, and a text without a byte is no first line
+-- The faults of two lines differ, no fault of a line is the fault of the limits, and a text without a byte is not a first line
 pub record AreApart {H L P F : Type 0} (rules : Rules H L P F) : Type 0 where
   pub number : (m n : ℕ) → rules.syntax_fault m ≡ rules.syntax_fault n → m ≡ n
   pub limit : (n : ℕ) → rules.limit_fault ≢ rules.syntax_fault n
@@ -15,7 +15,7 @@ pub record AreApart {H L P F : Type 0} (rules : Rules H L P F) : Type 0 where
   pub empty : rules.first (words_of []) ≡ None
 
 module _ {H L P F : Type 0} (rules : Rules H L P F) (apart : AreApart rules) where
-  -- the first line, of the number n + index, that says nothing
+  -- the line with this number, which is n + index, is the first that can't be read
   record FirstNoLine (texts : List (List ℕ)) (n number : ℕ) : Type 0 where
     index : ℕ
     counted : number ≡ n + index
@@ -23,9 +23,9 @@ module _ {H L P F : Type 0} (rules : Rules H L P F) (apart : AreApart rules) whe
     fails : is_some (rules.line (words_of (get_or texts index []))) ≡ false
     before : (k : ℕ) → k < index → is_some (rules.line (words_of (get_or texts k []))) ≡ true
 
-  -- ---- a fault names the first line that says nothing
+  -- ---- a fault names the first line that can't be read
 
-  -- a text that is a line, before the first that is none
+  -- a line that can be read, before the first that can't
   later_no_line : (t : List ℕ) (ts : List (List ℕ)) (n number : ℕ) → is_some (rules.line (words_of t)) ≡ true → FirstNoLine ts (n + 1) number → FirstNoLine (t ∷ ts) n number
   later_no_line t ts n number says later =
       record { index = suc later.index; counted = omega (arith, later.counted); there = omega (arith, later.there); fails = later.fails; before = earlier }
@@ -73,7 +73,7 @@ module _ {H L P F : Type 0} (rules : Rules H L P F) (apart : AreApart rules) whe
           let later : FirstNoLine others 2 number = first_no_line others 2 number (lines ∙ ap Err same) in
           record { index = suc later.index; counted = omega (arith, later.counted); there = inl (omega (arith, later.there)); fails = later.fails; before = earlier h says later }
 
-  -- a fault of a line is that of the first line that says nothing, in a text that is not too long
+  -- a fault of a line is that of the first line that can't be read, in a text that is not too long
   pub first_fault_only : (text : List ℕ) (number : ℕ) → said_in rules text ≡ Err (rules.syntax_fault number) → (is_past_limit text ≡ false) × IsFirstFault rules (lines_of text) number
   first_fault_only text number e = by_limit (is_past_limit text) refl e
     where
@@ -82,7 +82,7 @@ module _ {H L P F : Type 0} (rules : Rules H L P F) (apart : AreApart rules) whe
       by_limit true past e = let same : rules.limit_fault ≡ rules.syntax_fault number = cc in absurd (apart.limit number same)
       by_limit false short e = (short, first_fault_from (lines_of text) number e)
 
--- ---- and the first line that says nothing is named
+-- ---- the first line that can't be read is named
 
 module _ {H L P F : Type 0} (rules : Rules H L P F) where
   no_line_from : (texts : List (List ℕ)) (k n : ℕ) → k < length texts → is_some (rules.line (words_of (get_or texts k []))) ≡ false
@@ -118,11 +118,11 @@ module _ {H L P F : Type 0} (rules : Rules H L P F) where
           let count : 2 + k ≡ suc k + 1 = omega arith in
           rw (later, count) refl
 
-  -- the first line that says nothing is the fault of a text that is not too long
+  -- the first line that can't be read is the fault of a text that is not too long
   pub first_fault_all : (text : List ℕ) (number : ℕ) → is_past_limit text ≡ false → IsFirstFault rules (lines_of text) number → said_in rules text ≡ Err (rules.syntax_fault number)
   first_fault_all text number short fault =
       rw short (fault_of_lines (lines_of text) fault.index fault.there fault.fails fault.before ∙ ap (λ m. Err (rules.syntax_fault m)) (sym fault.counted))
 
-  -- a text that is too long has no other fault
+  -- a text that is too long has only the fault of the limits
   pub past_all : (text : List ℕ) → is_past_limit text ≡ true → said_in rules text ≡ Err rules.limit_fault
   past_all text past = rw past refl

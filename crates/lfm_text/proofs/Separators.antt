@@ -1,4 +1,4 @@
--- Texts without a space or without a line feed, which are one word or one line.
+-- Texts without a space are one word, and texts without a line feed are one line.
 use Rattle.std.proofs.Common.{◌≡◌, ◌<◌, ◌^◌, ◌==◌, not, ℕ, true, false, List, [], ◌∷◌, ◌++◌, All, arith, tests, decimal, get_or, ne_eqb}
 use Rattle.std.specs.Int.{IsInRange}
 use Rattle.std.specs.List.{list_all}
@@ -22,7 +22,7 @@ decimal_lacks b n no_digit small =
     All-from_get_or (λ c. (c == b) ≡ false) (decimal n) 0
     (λ i h. ne_eqb (get_or (decimal n) i 0) b (not_in_digits decimal_digits (decimal n) b (digits_decimal decimal_digits n (omega (arith, small))) no_digit i h))
 
--- a text without b, and then b
+-- a text without b, followed by b, is the first part
 pub first_part : (b : ℕ) (xs ys : List ℕ) → Lacks b xs → parts_at b (xs ++ b ∷ ys) ≡ xs ∷ parts_at b ys
 first_part b xs ys lacks = slice_split_at (λ c. c == b) xs b ys lacks (search (tests, arith))
 
@@ -42,6 +42,6 @@ no_feed n small = decimal_lacks 10 n (λ r. absurd (omega (arith, r))) small
 pub both_lack : (xs ys : List ℕ) → Lacks 10 xs → Lacks 10 ys → Lacks 10 (xs ++ ys)
 both_lack xs ys first second = All-append (λ c. (c == 10) ≡ false) xs ys first second
 
--- a line that is ended by a line feed
+-- a text without a line feed, followed by a line feed, is the first line
 pub one_line : (line rest : List ℕ) → Lacks 10 line → lines_of (line ++ 10 ∷ rest) ≡ line ∷ lines_of rest
 one_line line rest lacks = line_first (line ++ 10 ∷ rest) line rest (first_part 10 line rest lacks)

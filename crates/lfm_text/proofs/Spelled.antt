@@ -1,4 +1,4 @@
--- A text says exactly what its lines spell, in each grammar whose single lines do.
+-- In each grammar, a text is read as exactly what its lines spell, if this is so for single lines.
 use Rattle.std.proofs.Common.{◌≡◌, ◌≢◌, ◌+◌, ◌<◌, suc, ℕ, Bool, true, false, cond, List, [], ◌∷◌, ◌++◌, Option, Some, None, Result, Ok, Err, All, ◌⊎◌, inl, inr, refl, sym, ◌∙◌, ap, append_assoc, arith, codes}
 use Rattle.std.specs.List.{flat_map}
 use Rattle.std.specs.Str.{bytes_eq}
@@ -8,7 +8,7 @@ use Rattle.lfm_text.specs.Grammar.{Rules, in_front, lines_from, whole_from, whol
 use Rattle.lfm_text.proofs.FirstFaults.{AreApart, past_all}
 use Rattle.lfm_text.proofs.Separators.{Lacks, one_line}
 
--- a word that is compared with a literal, and then with others
+-- A word is compared with a literal, and then with others. What it is read as, it spells
 pub choose : {A : Type 0} (Spells : List ℕ → A → Type 0) (word text : List ℕ) (b a : A) (rest : Option A) → Spells text b → (rest ≡ Some a → Spells word a)
     → cond (bytes_eq word text) (Some b) rest ≡ Some a → Spells word a
 choose {A} Spells word text b a rest form others e = by_test (bytes_eq word text) refl e
@@ -20,7 +20,7 @@ choose {A} Spells word text b a rest form others e = by_test (bytes_eq word text
         rw (is_text, ← is_b) form
     by_test false same e = others e
 
--- single lines say exactly what they spell
+-- a single line is read as a line if and only if it spells it
 pub record AreSpelled {H L P F : Type 0} (rules : Rules H L P F) (SpellsFirst : List ℕ → H → Type 0) (Spells : List ℕ → L → Type 0) : Type 0 where
   pub first_only : (text : List ℕ) (h : H) → rules.first (words_of text) ≡ Some h → SpellsFirst text h
   pub first_all : (text : List ℕ) (h : H) → SpellsFirst text h → rules.first (words_of text) ≡ Some h
@@ -28,7 +28,7 @@ pub record AreSpelled {H L P F : Type 0} (rules : Rules H L P F) (SpellsFirst : 
   pub line_all : (text : List ℕ) (l : L) → Spells text l → rules.line (words_of text) ≡ Some l
 
 module _ {H L P F : Type 0} (rules : Rules H L P F) (SpellsFirst : List ℕ → H → Type 0) (Spells : List ℕ → L → Type 0) (spelled : AreSpelled rules SpellsFirst Spells) where
-  -- lines that were read are spelled one by one
+  -- Lines that were read are spelled by their texts. By induction on the texts
   lines_only : (texts : List (List ℕ)) (number : ℕ) (ls : List L) → lines_from rules number texts ≡ Ok ls → EachSpells Spells texts ls
   lines_only [] number [] e = tt
   lines_only [] number (l ∷ ls) e = absurd (cc)
@@ -45,7 +45,7 @@ module _ {H L P F : Type 0} (rules : Rules H L P F) (SpellsFirst : List ℕ → 
           let rest : more ≡ ms = cc in
           (spelled.line_only t m (says ∙ ap Some same), each ms (others ∙ ap Ok rest))
 
-  -- and the other way round
+  -- The converse. By induction on the texts
   lines_all : (texts : List (List ℕ)) (number : ℕ) (ls : List L) → EachSpells Spells texts ls → lines_from rules number texts ≡ Ok ls
   lines_all [] number [] each = refl
   lines_all [] number (l ∷ ls) each = absurd each
@@ -59,7 +59,7 @@ module _ {H L P F : Type 0} (rules : Rules H L P F) (SpellsFirst : List ℕ → 
     pub spells : SpellsLines SpellsFirst Spells text head lines
     pub answers : r ≡ rules.whole head lines
 
-  -- a text comes to what its lines do
+  -- a text whose lines spell these lines is read as them
   pub said_all : (text : List ℕ) (h : H) (ls : List L) → SpellsLines SpellsFirst Spells text h ls → said_in rules text ≡ rules.whole h ls
   said_all text h ls spells =
       let short = spells.short in
@@ -103,7 +103,7 @@ module _ {H L P F : Type 0} (rules : Rules H L P F) (SpellsFirst : List ℕ → 
         answers = sym e;
       }
 
-  -- a text that has no fault says what its lines spell
+  -- a text that has no fault is read as what its lines spell
   pub said_only : (text : List ℕ) (p : P) → said_in rules text ≡ Ok p → Says text (Ok p)
   said_only text p e = by_limit (is_past_limit text) refl e
     where
@@ -111,7 +111,7 @@ module _ {H L P F : Type 0} (rules : Rules H L P F) (SpellsFirst : List ℕ → 
       by_limit true past e = absurd (cc)
       by_limit false past e = said_of_lines text (lines_of text) (Ok p) past refl e (λ n f. absurd (cc))
 
-  -- a text with the fault of a limit is too long, or its lines come to that fault
+  -- a text with the fault of the limits is too long, or its lines together give that fault
   pub limit_only : AreApart rules → (text : List ℕ) → said_in rules text ≡ Err rules.limit_fault → (is_past_limit text ≡ true) ⊎ Says text (Err rules.limit_fault)
   limit_only apart text e = by_limit (is_past_limit text) refl e
     where
@@ -138,7 +138,7 @@ module _ {L : Type 0} (spelling : L → List ℕ) (Spells : List ℕ → L → T
       let cut : lines_of (text_of (l ∷ ls)) ≡ spelling l ∷ lines_of (text_of ls) = ap lines_of (text_of-cons l ls) ∙ one_line (spelling l) (text_of ls) (lacks l first) in
       rw cut (is l first, each_written ls others)
 
-  -- lines that are written one by one are those of the text
+  -- the lines of the written text are the lines that were written
   pub written : {H : Type 0} (SpellsFirst : List ℕ → H → Type 0) (first : List ℕ) (h : H) (ls : List L) → Lacks 10 first → SpellsFirst first h → All Fits ls
       → is_past_limit (lines_spelling spelling first ls) ≡ false → SpellsLines SpellsFirst Spells (lines_spelling spelling first ls) h ls
   written SpellsFirst first h ls clean head fits short = record {

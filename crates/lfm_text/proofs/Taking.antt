@@ -1,4 +1,4 @@
--- How the bytes that were taken from a reader go on, a read at a time.
+-- How the bytes that were taken from a reader grow, one read at a time.
 use Rattle.std.proofs.Common.{◌≡◌, ◌≤◌, ◌<◌, ◌+◌, ◌-◌, ℕ, false, List, ◌++◌, length, take, Option, Some, None, sym, ◌∙◌, ap, subst, append_assoc, arith, length-append, length-take}
 use Rattle.std.specs.Io.KnownBytes.{Consumes, Keeps}
 use Rattle.std.proofs.Math.Seq.{take-append-add}
@@ -12,22 +12,22 @@ Consumes-then (Some u) None c xs ys p q = absurd p
 Consumes-then (Some u) (Some v) None xs ys p q = absurd q
 Consumes-then (Some u) (Some v) (Some w) xs ys p q = p ∙ ap (λ l. xs ++ l) q ∙ sym (append_assoc xs ys w)
 
--- a read gave n bytes into a buffer, and they were appended to what was there
+-- a read gave n bytes into a buffer, and they were appended to the bytes taken before
 pub taken_more : (a b c : Option (List ℕ)) (before given rest after : List ℕ) (n : ℕ) → n ≤ length given
     → Consumes a b before → Consumes b c (take n given) → after ≡ before ++ take n (given ++ rest) → Consumes a c after
 taken_more a b c before given rest after n within p q is =
     let same : after ≡ before ++ take n given = is ∙ ap (λ l. before ++ l) (take-append-le n given rest within) in
     subst (Consumes a c) (sym same) (Consumes-then a b c before (take n given) p q)
 
--- the same if a last read failed
+-- the same if the last read failed
 pub taken_kept : (a b c : Option (List ℕ)) (xs : List ℕ) → Consumes a b xs → Keeps b c → Consumes a c xs
 taken_kept None b c xs p q = tt
 taken_kept (Some u) None c xs p q = absurd p
 taken_kept (Some u) (Some v) None xs p q = absurd q
 taken_kept (Some u) (Some v) (Some w) xs p q = p ∙ ap (λ l. xs ++ l) (sym q)
 
--- A text was not past a limit when a read gave n more bytes. It asked for at most one byte more than the limits still allow, so
--- without the last byte the text is not past a limit.
+-- A text was not past a limit when a read gave n more bytes. The read asked for at most one byte more than the limits still
+-- allow. So without the last byte the text is not past a limit.
 pub none_after_first : (before given rest after : List ℕ) (n : ℕ) → is_past_limit before ≡ false → n ≤ length given → 0 < n
     → length before + n ≤ max_bytes + 1 → line_feeds before + n ≤ max_lines + 1 → after ≡ before ++ take n (given ++ rest)
     → is_past_limit (take (length after - 1) after) ≡ false
@@ -41,7 +41,7 @@ none_after_first before given rest after n fits within some few_bytes few_lines 
     let P : List ℕ → Type 0 = λ l. is_past_limit l ≡ false in
     subst P (sym front) (is_past_limit-few_more before (take (n - 1) (take n given)) fits (omega (arith, some, fewer, few_bytes)) (omega (arith, some, fewer, few_lines)))
 
--- how long the text is then, and how many line feeds it has
+-- the length of the text after a read, and the number of its line feeds
 pub size_after : (before given rest after : List ℕ) (n : ℕ) → n ≤ length given → after ≡ before ++ take n (given ++ rest) → length after ≡ length before + n
 size_after before given rest after n within is =
     omega (arith, within, ap length is, length-append before (take n (given ++ rest)), length-take n (given ++ rest), length-append given rest)

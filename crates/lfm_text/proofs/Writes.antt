@@ -1,11 +1,11 @@
--- How the writes of one text after another join to the write of all of them.
+-- The writes of one text after another join to the write of all of them.
 use Rattle.std.proofs.Common.{◌≡◌, ◌≤◌, ◌+◌, ◌-◌, ℕ, List, [], ◌∷◌, ◌++◌, length, take, drop, Option, Some, None, Result, Ok, Err, refl, sym, ◌∙◌, ap, subst, append_assoc, append-nil, length-drop, arith, take_all, take-add, take-append-drop}
 use Rattle.std.specs.Prelude.{IsErrAnd}
 use Rattle.std.specs.Io.KnownBytes.{Appends, Keeps}
 use Rattle.lfm_text.specs.declared.faults.WriteFault.{WriteFault}
 use Rattle.lfm_text.specs.Writing.{WriteOutcome, Writes, joined}
 
--- a text, and then another
+-- a text was appended, and then another
 pub Appends-then : (a b c : Option (List ℕ)) (s t : List ℕ) → Appends a b s → Appends b c t → Appends a c (s ++ t)
 Appends-then None b c s t p q = tt
 Appends-then (Some x) None c s t p q = absurd p
@@ -23,20 +23,20 @@ Appends-nothing None b p = tt
 Appends-nothing (Some x) None p = absurd p
 Appends-nothing (Some x) (Some y) p = p ∙ sym (append-nil x)
 
--- to append none of a text is to keep
+-- to append nothing is to keep
 pub Keeps-from_none : (a b : Option (List ℕ)) (n : ℕ) (t : List ℕ) → n ≡ 0 → Appends a b (take n t) → Keeps a b
 Keeps-from_none None b n t e p = tt
 Keeps-from_none (Some x) None n t e p = absurd p
 Keeps-from_none (Some x) (Some y) n t e p = (rw e at p) ∙ append-nil x
 
--- nothing was written, and nothing was to be
+-- nothing was written, and nothing was to be written
 pub written_nothing : {T : Type 0} (a : Option (List ℕ)) (answer : T) → Writes a a [] (Ok answer)
 written_nothing None answer = record { outcome = tt }
 written_nothing (Some x) answer = record { outcome = sym (append-nil x) }
 
 -- ---- one text
 
--- a text of which a prefix was written, and then n more bytes
+-- a prefix of a text was written, and then n more bytes
 pub appends_on : (old mid new : Option (List ℕ)) (t : List ℕ) (a n : ℕ) → a ≤ length t
     → Appends old mid (take a t) → Appends mid new (take n (take (length t - a) (drop a t))) → Appends old new (take (a + n) t)
 appends_on old mid new t a n h first more =
@@ -57,7 +57,7 @@ stopped old mid new t a p q fault = record {
   };
 }
 
--- ---- a text after another
+-- ---- one text after another
 
 WriteOutcome-then : {T : Type 0} (a b c : Option (List ℕ)) (s t : List ℕ) (r : Result T WriteFault)
     → Appends a b s → WriteOutcome b c t r → WriteOutcome a c (s ++ t) r
@@ -74,7 +74,7 @@ pub wrote_then : {T U : Type 0} (a b c : Option (List ℕ)) (s t : List ℕ) (u 
     → Writes a b s (Ok u) → Writes b c t r → Writes a c (s ++ t) r
 wrote_then a b c s t u r p q = record { outcome = WriteOutcome-then a b c s t r p.outcome q.outcome }
 
--- the writer failed within a text, so what should follow is missing too; r is what `?` makes of the fault
+-- the writer failed within a text, so the text after it is missing too; `?` makes r of the fault
 pub failed_within : {T U : Type 0} (a b : Option (List ℕ)) (s t : List ℕ) (fault : WriteFault) (r : Result T WriteFault)
     → Writes {T = U} a b s (Err fault) → IsErrAnd r (λ y. y ≡ fault) → Writes a b (s ++ t) r
 failed_within a b s t fault (Ok x) p e = absurd e
@@ -87,13 +87,13 @@ failed_within a b s t fault (Err y) p e = record {
   };
 }
 
--- the fault that `?` passes on is of the same text
+-- the fault that `?` passes on is a fault of writing the same text
 pub failed_on : {T U : Type 0} (a b : Option (List ℕ)) (s : List ℕ) (fault : WriteFault) (r : Result T WriteFault)
     → Writes {T = U} a b s (Err fault) → IsErrAnd r (λ y. y ≡ fault) → Writes a b s r
 failed_on a b s fault (Ok x) p e = absurd e
 failed_on a b s fault (Err y) p e = record { outcome = p.outcome }
 
--- a text was written, and then the writer failed to pass it on
+-- a text was written, and then the flush failed
 pub failed_after : {T U : Type 0} (a b c : Option (List ℕ)) (s : List ℕ) (u : U) (fault : WriteFault) (r : Result T WriteFault)
     → Writes a b s (Ok u) → Writes {T = Unit {0}} b c [] (Err fault) → IsErrAnd r (λ y. y ≡ fault) → Writes a c s r
 failed_after a b c s u fault r p q e =
@@ -102,13 +102,12 @@ failed_after a b c s u fault r p q e =
 
 -- ---- the parts of a text
 
--- r is the answer after the outcome q of the part before these parts: what `?` makes of the fault, or success if no part is
--- left
+-- r is the result after the part before these parts ended with q: the fault that `?` passes on, or success if no part is left
 abbrev pub Ends : Result (Unit {0}) WriteFault → List (List ℕ) → Result (Unit {0}) WriteFault → Type 0
 Ends (Ok u) parts r = (parts ≡ []) × (r ≡ Ok u)
 Ends (Err fault) parts r = IsErrAnd r (λ y. y ≡ fault)
 
--- a part was written, and with it all of them, or the writer failed within it
+-- a part was written, and it was the last, or the writer failed within it
 pub part_one : (a b : Option (List ℕ)) (s : List ℕ) (parts : List (List ℕ)) (q r : Result (Unit {0}) WriteFault)
     → Writes a b s q → Ends q parts r → Writes a b (joined (s ∷ parts)) r
 unfolding joined
@@ -121,7 +120,7 @@ part_then : (a b c : Option (List ℕ)) (s : List ℕ) (parts : List (List ℕ))
 unfolding joined
 part_then a b c s parts r p q = wrote_then a b c s (joined parts) tt r p q
 
--- The same after parts that were written. `grind` takes a lemma once, so each number of parts has a lemma of its own.
+-- The same after parts that were written. `grind` takes a lemma once, so there is one lemma for each number of parts.
 module _ (parts : List (List ℕ)) (q r : Result (Unit {0}) WriteFault) where
   pub part_two : (a b c : Option (List ℕ)) (s t : List ℕ)
       → Writes {T = Unit {0}} a b s (Ok tt) → Writes b c t q → Ends q parts r
@@ -165,5 +164,5 @@ pub wrote_five : (a b c d e f : Option (List ℕ)) (s t v w x : List ℕ)
     → Writes {T = Unit {0}} a f (joined (s ∷ t ∷ v ∷ w ∷ x ∷ [])) (Ok tt)
 wrote_five a b c d e f s t v w x p1 p2 p3 p4 p5 = part_five [] (Ok tt) (Ok tt) _ _ _ _ _ _ _ _ _ _ _ p1 p2 p3 p4 p5 (refl, refl)
 
--- what a function needs that writes up to five parts with a `?` at each
+-- the lemmas for a function that writes up to five parts with a `?` at each
 pub ruleset writings = (wrote_two, wrote_three, wrote_four, wrote_five, part_one, part_two, part_three, part_four, part_five)

@@ -1,10 +1,10 @@
--- What stands on a command line.
+-- The words on a command line.
 use Rattle.std.specs.Prelude.{List, [], ◌∷◌, String}
 use Rattle.std.specs.Global.{Global}
 use Rattle.lfm_text.specs.declared.command_line.CommandLine.{CommandLine}
 use Rattle.lfm_text.specs.declared.command_line.CommandLine.TheVariants.{Empty, Word, Other}
 
--- what stands after the program's name, which is the first word
+-- the command line after the program's name, which is the first word
 abbrev pub after_name : List (String Global) → CommandLine
 after_name [] = Empty
 after_name (name ∷ []) = Empty

@@ -16,30 +16,30 @@ without_empty_last [] = []
 without_empty_last (part ∷ []) = if length part == 0 then [] else part ∷ []
 without_empty_last (part ∷ next ∷ parts) = part ∷ without_empty_last (next ∷ parts)
 
--- the lines of a text: each ends with a line feed, which the last one may lack
+-- the lines of a text: each ends with a line feed, which may be missing at the end of the last one
 abbrev pub lines_of : List ℕ → List (List ℕ)
 lines_of text = without_empty_last (parts_at 10 text)
 
--- the words of a line, with one space between two of them
+-- the words of a line, separated by one space
 abbrev pub words_of : List ℕ → List (List ℕ)
 words_of line = parts_at 32 line
 
--- what the words are, if there are two to four of them
+-- these are the words, if there are two to four of them
 abbrev pub AreWords : LineWords → List (List ℕ) → Type 0
 AreWords (Two first second) words = words ≡ first.now ∷ second.now ∷ []
 AreWords (Three first second third) words = words ≡ first.now ∷ second.now ∷ third.now ∷ []
 AreWords (Four first second third fourth) words = words ≡ first.now ∷ second.now ∷ third.now ∷ fourth.now ∷ []
 AreWords Other words = (length words ≢ 2) × (length words ≢ 3) × (length words ≢ 4)
 
--- the number that digits write
+-- the number with these digits
 abbrev pub digits_number : List ℕ → Option ℕ
 digits_number word = if all_ascii_digits word then Some (digits_value 10 word) else None
 
--- the most digits of a number
+-- the greatest number of digits of a number
 abbrev pub max_digits : ℕ
 max_digits = 18
 
--- a number: at most 18 digits, the first of which is a zero only if it stands alone
+-- a number: at most 18 digits, the first of which is zero only if it is the only one
 abbrev pub number_of : List ℕ → Option ℕ
 number_of [] = None
 number_of (c ∷ []) = digits_number (c ∷ [])
@@ -58,7 +58,7 @@ is_unfinished (c ∷ cs) = not (slice_index (c ∷ cs) (length cs) == 10)
 abbrev pub line_count : List ℕ → ℕ
 line_count text = line_feeds text + (if is_unfinished text then 1 else 0)
 
--- the most bytes and the most lines of a text
+-- the greatest number of bytes and of lines of a text
 abbrev pub max_bytes : ℕ
 max_bytes = 1048576
 

@@ -1,14 +1,14 @@
--- What writing a text does to the bytes that a writer holds, if those are known.
+-- How writing a text changes the bytes that a writer has, if these are known.
 use Rattle.std.specs.Prelude.{ℕ, ◌≡◌, ◌++◌, List, [], ◌∷◌, Option, Result, Ok, Err}
 use Rattle.std.specs.Io.KnownBytes.{Appends}
 use Rattle.lfm_text.specs.declared.faults.WriteFault.{WriteFault}
 
--- The text of parts, one after another. Proofs see its body only if they ask for it, so the parts stay apart in goals.
+-- The parts joined to one text. A proof unfolds this only on request, so that the parts stay separate in goals.
 unfoldable pub joined : List (List ℕ) → List ℕ
 joined [] = []
 joined (part ∷ parts) = part ++ joined parts
 
--- known bytes grow by a prefix of a text
+-- a prefix of a text is appended to the known bytes
 pub record AppendsPrefix (old new : Option (List ℕ)) (text : List ℕ) : Type 0 where
   pub prefix : List ℕ
   pub rest : List ℕ

@@ -1,5 +1,5 @@
-//! The command line of a program: what stands on it, the line that tells the usage, and the standard output that a program
-//! opens once it knows what is asked for.
+//! The command line of a program: the words on it, the usage message, and the standard output that a program opens when it
+//! knows what to do.
 ghost use Rattle.std.specs.Prelude.{◌≡◌};
 ghost use Rattle.std.specs.Vec.Iter.{into_iter_items};
 ghost use Rattle.lfm_text.specs.CommandLines.{after_name};
@@ -10,23 +10,23 @@ use std::io::{BufWriter, ErrorKind, Printer};
 use std::rt::Env;
 use std::{env, io};
 
-/// The exit status of a command line that asks for nothing the program does.
+/// The exit status for a command line that the program doesn't accept.
 const USAGE: u8 = 2;
 
-/// What stands on a command line after the program's name.
+/// The words on a command line after the program's name.
 #[derive(Drop)]
 pub enum CommandLine {
-    /// Nothing.
+    /// No word.
     Empty,
     /// One word.
     Word(String),
     /// Several words, or one that is not UTF-8.
     Other,
-    /// Not known: there was no memory for the words.
+    /// Not known: an allocation for the words failed.
     Unread,
 }
 
-/// What stands after the first of these words, which is the program's name.
+/// The command line after the first of these words, which is the program's name.
 fn after_name(mut words: Args) -> CommandLine
     ensures { result ≡ after_name (into_iter_items words) }
 {
@@ -38,7 +38,7 @@ fn after_name(mut words: Args) -> CommandLine
     }
 }
 
-/// The command line of this program. It takes memory.
+/// Returns the command line of this program. It allocates memory.
 pub fn read_command_line<R: Env + AllocGlobal>(rt: &R) -> CommandLine {
     match env::args(rt) {
         Ok(words) => after_name(words),
@@ -47,8 +47,8 @@ pub fn read_command_line<R: Env + AllocGlobal>(rt: &R) -> CommandLine {
     }
 }
 
-/// Prints this usage on standard error, and returns the exit status of a command line that asks for nothing the program does. A
-/// message that can't be written changes nothing.
+/// Prints this usage message on standard error, and returns the exit status for a command line that the program doesn't accept.
+/// If the message can't be written, the status is the same.
 pub fn tell_usage<R: Eprint>(rt: &R, usage: &'static str) -> u8
     ensures { result ≡ 2 }
 {
@@ -56,7 +56,7 @@ pub fn tell_usage<R: Eprint>(rt: &R, usage: &'static str) -> u8
     USAGE
 }
 
-/// Standard output, with room for what is written. It takes memory.
+/// Returns standard output, with a buffer for what is written. It allocates memory.
 pub fn standard_output<R: AllocGlobal + Print>(
     rt: &R,
 ) -> Result<BufWriter<Printer<'_, R>, Global>, AllocError> {

@@ -1,4 +1,4 @@
-//! Writes the line of a fault of a text. Nothing here asks for memory.
+//! Writes the line for a fault of a text. Nothing here allocates memory.
 
 ghost use Rattle.lfm_text.specs.FaultLines.{limit_text, syntax_text};
 ghost use Rattle.lfm_text.specs.Writing.{Writes};
@@ -7,8 +7,8 @@ use crate::faults::WriteFault;
 use crate::output::{write_line_feed, write_number, write_text};
 use std::io::Write;
 
-/// Writes the fault line of a text whose line of this number has a fault of syntax. A fault if the writer fails, after a prefix
-/// of it.
+/// Writes the fault line for a text in which the line with this number has a fault of syntax. Returns a fault if the writer
+/// fails, after a prefix of the line.
 pub fn write_syntax_line<W: Write>(writer: &mut W, number: u64) -> Result<(), WriteFault>
     ensures { Writes (W.contents writer.old) (W.contents writer.new) (syntax_text number) result }
 {
@@ -18,7 +18,7 @@ pub fn write_syntax_line<W: Write>(writer: &mut W, number: u64) -> Result<(), Wr
     Ok(())
 }
 
-/// Writes the fault line of a text that is past a limit. A fault if the writer fails, after a prefix of it.
+/// Writes the fault line for a text that is past a limit. Returns a fault if the writer fails, after a prefix of the line.
 pub fn write_limit_line<W: Write>(writer: &mut W) -> Result<(), WriteFault>
     ensures { Writes (W.contents writer.old) (W.contents writer.new) limit_text result }
 {

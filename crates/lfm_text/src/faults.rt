@@ -1,4 +1,4 @@
-//! Why a text was not read or not written to its end.
+//! Why a text was not completely read or written.
 
 use thiserror::Error;
 
@@ -8,12 +8,12 @@ pub enum InputFault {
     /// The reader failed.
     #[error("read fault")]
     Read,
-    /// A request for memory was refused.
+    /// An allocation failed.
     #[error("out of memory")]
     Memory,
 }
 
-/// The writer failed, or took no byte.
+/// The writer failed, or accepted no byte.
 #[derive(Clone, Copy, Debug, PartialEq, Eq, Drop, Error)]
 #[error("write fault")]
 pub struct WriteFault;

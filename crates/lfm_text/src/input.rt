@@ -11,10 +11,10 @@ use crate::limits::{MAX_BYTES, MAX_LINES, count_line_feeds, is_past_limit};
 use std::alloc::Global;
 use std::io::Read;
 
-/// The most bytes that one read asks for.
+/// The greatest number of bytes that one read asks for.
 const READ_SIZE: usize = 4_096;
 
-/// Appends bytes within the capacity, so that no memory is asked for.
+/// Appends bytes within the capacity, so that nothing is allocated.
 fn append_reserved(input: &mut Vec<u8>, given: &[u8])
     requires { vec_len input.old + length given.now ≤ vec_capacity input.old }
     ensures items { input.new.items ≡ input.old.items ++ given.now }
@@ -25,7 +25,8 @@ fn append_reserved(input: &mut Vec<u8>, given: &[u8])
 
 /// How many bytes the next read asks for, after this many bytes and line feeds: at most one more than the limits still allow.
 ///
-/// Each byte may be a line feed, so the limit on lines bounds the bytes of a read too: near the last line the reads get short.
+/// Each byte may be a line feed, so the limit on lines bounds the bytes of a read too. Near the limit on lines the reads get
+/// short.
 fn next_room(bytes: usize, line_feeds: usize) -> usize
     requires bytes_within { bytes ≤ max_bytes }
     requires lines_within { line_feeds ≤ max_lines }
@@ -39,7 +40,7 @@ fn next_room(bytes: usize, line_feeds: usize) -> usize
     bytes_left.min(lines_left).min(READ_SIZE)
 }
 
-/// Reads once, and returns how many bytes came: 0 at the end. Read if the reader fails.
+/// Reads once, and returns how many bytes it got: 0 at the end. Returns Read if the reader fails.
 fn read_once<R: Read>(reader: &mut R, buffer: &mut [u8]) -> Result<usize, InputFault>
     ensures bound { ReadsAtMost result buffer.new }
     ensures bytes { ReadConsumes (R.remaining reader.old) (R.remaining reader.new) result buffer.new }
@@ -51,10 +52,10 @@ fn read_once<R: Read>(reader: &mut R, buffer: &mut [u8]) -> Result<usize, InputF
     }
 }
 
-/// Reads all bytes of the reader, and no byte after the first that is past a limit: byte 1,048,577, or the first byte
-/// after 65,536 line feeds.
+/// Reads all bytes of the reader, and no byte after the first that is past a limit: byte 1,048,577, or the first byte after
+/// 65,536 line feeds.
 ///
-/// Makes one request for memory, of 1,048,577 bytes: Memory if it is refused, and then nothing was read. Read if the reader
+/// It allocates once, 1,048,577 bytes. If that fails it returns Memory, and nothing was read. It returns Read if the reader
 /// fails before the text is past a limit. Any error of the reader counts, even an interruption.
 pub fn read_input<R: Read>(alloc: Global, reader: &mut R) -> Result<Vec<u8>, InputFault>
     ensures ok { IfOk result (λ v. Takes (R.remaining reader.old) (R.remaining reader.new) v.items) }

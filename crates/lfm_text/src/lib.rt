@@ -1,7 +1,7 @@
 //! Texts of lines and words: how they are read from a reader, cut into lines and words, read as numbers, and written; how a
 //! fault of a text is reported; and the command line and standard output of a program that reads and writes such texts.
 //!
-//! Nothing here knows what a line means: schedules and scripts stand in the crates above.
+//! Nothing here knows what a line means: schedules and scripts are defined in the crates above.
 #![tactic(auto)]
 
 mod command_line;

@@ -1,12 +1,12 @@
-//! How long a text may be, and how many lines it has. Nothing here asks for memory.
+//! How long a text may be, and how many lines it has. Nothing here allocates memory.
 
 ghost use Rattle.std.specs.Prelude.{◌≡◌, ◌==◌, true, false, count_by, IfNone, IfSome};
 ghost use Rattle.lfm_text.specs.Text.{line_count, is_past_limit};
 
-/// The most bytes that a text may have.
+/// The greatest number of bytes that a text may have.
 pub const MAX_BYTES: usize = 1_048_576;
 
-/// The most lines that a text may have.
+/// The greatest number of lines that a text may have.
 pub const MAX_LINES: usize = 65_536;
 
 /// The number of line feeds.

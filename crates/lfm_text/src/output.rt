@@ -1,4 +1,4 @@
-//! Writes texts and numbers directly to a writer. Nothing here asks for memory.
+//! Writes texts and numbers directly to a writer. Nothing here allocates memory.
 
 ghost use Rattle.std.specs.Prelude.{[], codes, decimal};
 ghost use Rattle.lfm_text.specs.Writing.{Writes};
@@ -7,8 +7,8 @@ use crate::faults::WriteFault;
 use itoa::Buffer;
 use std::io::Write;
 
-/// Writes all of a text. A fault if the writer fails or takes no byte, after a prefix of the text. Any error of the writer
-/// counts, even an interruption.
+/// Writes all of a text. Returns a fault if the writer fails or accepts no byte, after a prefix of the text. Any error of the
+/// writer counts, even an interruption.
 pub fn write_text<W: Write>(writer: &mut W, text: &[u8]) -> Result<(), WriteFault>
     ensures { Writes (W.contents writer.old) (W.contents writer.new) text.now result }
 {
@@ -23,7 +23,7 @@ pub fn write_text<W: Write>(writer: &mut W, text: &[u8]) -> Result<(), WriteFaul
     Ok(())
 }
 
-/// Writes a number in decimal digits. A fault if the writer fails, after a prefix of them.
+/// Writes a number in decimal digits. Returns a fault if the writer fails, after a prefix of them.
 pub fn write_number<W: Write>(writer: &mut W, number: u64) -> Result<(), WriteFault>
     ensures { Writes (W.contents writer.old) (W.contents writer.new) (decimal number) result }
 {
@@ -31,14 +31,14 @@ pub fn write_number<W: Write>(writer: &mut W, number: u64) -> Result<(), WriteFa
     write_text(writer, buffer.format(number).as_bytes())
 }
 
-/// Ends a line. A fault if the writer fails or takes no byte.
+/// Writes a line feed. Returns a fault if the writer fails or accepts no byte.
 pub fn write_line_feed<W: Write>(writer: &mut W) -> Result<(), WriteFault>
     ensures { Writes (W.contents writer.old) (W.contents writer.new) (codes "\n") result }
 {
     write_text(writer, b"\n")
 }
 
-/// Flushes the writer. A fault if that fails.
+/// Flushes the writer. Returns a fault if that fails.
 pub fn flush<W: Write>(writer: &mut W) -> Result<(), WriteFault>
     ensures { Writes (W.contents writer.old) (W.contents writer.new) [] result }
 {

@@ -1,11 +1,11 @@
-//! Cuts a text into lines, and a line into words, and reads numbers. Nothing here asks for memory.
+//! Cuts a text into lines, and a line into words, and reads numbers. Nothing here allocates memory.
 //!
-//! A line ends with a line feed, which the last one may lack. Words are separated by one space.
+//! A line ends with a line feed, which may be missing at the end of the last line. Words are separated by one space.
 
 ghost use Rattle.std.specs.Prelude.{◌≡◌, ◌≤◌, ◌<◌, ◌∷◌, [], length, IfNone, IfSome};
 ghost use Rattle.lfm_text.specs.Text.{parts_at, lines_of, words_of, AreWords, digits_number, number_of, max_digits};
 
-/// The most digits that a number may have.
+/// The greatest number of digits that a number may have.
 pub const MAX_DIGITS: usize = 18;
 
 /// The words of a line, if there are two to four of them.
@@ -21,7 +21,7 @@ pub enum LineWords<'a> {
     Other,
 }
 
-/// What stands before the first byte that equals `separator`, and what stands after it.
+/// The bytes before the first byte that equals `separator`, and the bytes after it.
 fn cut(text: &[u8], separator: u8) -> Option<(&[u8], &[u8])>
     ensures whole { IfNone result (parts_at separator text.now ≡ text.now ∷ []) }
     ensures parts { IfSome result
@@ -32,7 +32,7 @@ fn cut(text: &[u8], separator: u8) -> Option<(&[u8], &[u8])>
     Some((&text[..at], &text[at + 1..]))
 }
 
-/// The first line of a text, without its line feed, and what follows that. `None` if the text is empty.
+/// The first line of a text, without its line feed, and the text after the line feed. `None` if the text is empty.
 pub fn first_line(text: &[u8]) -> Option<(&[u8], &[u8])>
     ensures none { IfNone result (text.now ≡ []) }
     ensures first { IfSome result (λ x. lines_of text.now ≡ x.0.now ∷ lines_of x.1.now) }
@@ -66,7 +66,7 @@ pub fn split_words(line: &[u8]) -> LineWords<'_>
     }
 }
 
-/// The number that at most 18 digits write. `None` if a byte is no digit.
+/// The number with these digits, at most 18. `None` if a byte is not a digit.
 fn read_digits(word: &[u8]) -> Option<u64>
     requires { length word.now ≤ max_digits }
     ensures { result ≡ digits_number word.now }
@@ -81,8 +81,8 @@ fn read_digits(word: &[u8]) -> Option<u64>
     Some(number)
 }
 
-/// The number that a word spells: `0`, or at most 18 digits of which the first is not 0, so that it
-/// is below 10^18. `None` for any other word.
+/// The number that a word spells: `0`, or at most 18 digits of which the first is not 0. So the number is below 10^18. `None`
+/// for any other word.
 pub fn read_number(word: &[u8]) -> Option<u64>
     ensures { result ≡ number_of word.now }
 {

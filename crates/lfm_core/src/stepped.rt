@@ -187,7 +187,7 @@ impl State {
         self.machine.queued(i)
     }
 
-    /// Collects the queue's records, newest first, into a vector with reserved room for a record of each seat.
+    /// Gathers the queue's records, newest first, into a vector with reserved room for a record of each seat.
     pub(crate) fn gather(&self, room: &mut Vec<Record>)
         requires { length self.now.seats ≤ vec_capacity room.old }
         ensures gathered { reverse room.new.items ≡ queue_of self.now }

@@ -15,7 +15,7 @@ use std::sync::Wait;
 /// A critical section: what a thread does with its pass while the pass holds the monitor.
 ///
 /// ```
-/// // adds the number of the round to a total, and answers the total
+/// // adds the number of the round to a total, and returns the total
 /// struct AddRound;
 ///
 /// impl<R: Wait> CriticalSection<Total, R> for AddRound {

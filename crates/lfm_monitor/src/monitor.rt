@@ -30,7 +30,7 @@ use std::snapshot::Snapshot;
 /// Without `run`, in the caller's own thread:
 ///
 /// ```
-/// // one pass, which may write 10 entries, and no condition, round a sum that begins at 0
+/// // one pass, which may write 10 entries, and no condition, around a sum that begins at 0
 /// let (monitor, mut passes) = Monitor::new(rt.alloc(), 1, 10, 0, Total(0))?;
 /// monitor.enter(&rt, &mut passes[0])?;
 /// let total = monitor.apply(&mut passes[0], TotalOp::Add(5))?;

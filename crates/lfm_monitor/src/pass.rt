@@ -13,7 +13,7 @@ use lfm_mutex::{Holder, Seat};
 /// can after the monitor is granted to it.
 ///
 /// ```
-/// // the pass holds a monitor round a bounded buffer: it puts a number in as soon as there is room, and wakes one that waits
+/// // the pass holds a monitor around a bounded buffer: it puts a number in as soon as there is room, and wakes one that waits
 /// // for it
 /// monitor.apply_until(rt, pass, NOT_FULL, BufferOp::Put(7), |reply| *reply != BufferReply::Full)?;
 /// monitor.wake_one(rt, pass, NOT_EMPTY)?;

@@ -272,7 +272,7 @@ fn write_words<W: Write>(writer: &mut W, state: &State) -> Result<(), WriteFault
     Ok(())
 }
 
-/// Writes a state. Its queue is collected in `records`, which has capacity for a record of each seat.
+/// Writes a state. Its queue is gathered in `records`, which has capacity for a record of each seat.
 fn write_state<W: Write>(
     writer: &mut W,
     state: &State,

@@ -1,6 +1,7 @@
-//! `lock_barging`: `lock` of a seat that tries before it queues. A try that fails gives its charge back and leaves the seat as
-//! it was, so a seat that tries has no place in the queue yet. From its push on, the order of the queue holds for it, as for
-//! `lock`. Linux's mutex also spins before it queues (optimistic spinning), and so do the locks of parking_lot and absl.
+//! `lock_barging`: a `lock` that first tries to acquire the mutex, and queues only if that fails. A failed try gives its charge
+//! back and leaves the seat as it was, so a seat that tries has no place in the queue yet. From its push on, the order of the
+//! queue applies to it, as after `lock`. Linux's mutex also spins before it queues (optimistic spinning), and so do the locks
+//! of parking_lot and absl.
 ghost use Rattle.std.specs.Prelude.{◌≡◌, ◌+◌, ◌-◌, ◌<◌, MatchBool, None, Some};
 ghost use Rattle.lfm_mutex.specs.Belongs.{Beside, OfMutex, limits_of, tries_of};
 ghost use Rattle.lfm_mutex.specs.calls.Barging.{BargesBy, FailedTry, GainsIf, MayTry, TriesBy, TriesFirst, TryHeld};
@@ -20,17 +21,17 @@ use std::sync::Wait;
 use std::thread::yield_now;
 use std::time::Duration;
 
-/// How long a nap is to last, in microseconds. The system may add about 50.
+/// How long a nap should last, in microseconds. The system may add about 50.
 const NAP_MICROSECONDS: u64 = 20;
 
-/// The pauses before a look double from one look to the next, up to 2 to the power of this.
+/// The number of pauses before a read of the count doubles from one read to the next, up to 2 to the power of this.
 const MOST_DOUBLINGS: u32 = 8;
 
 /// If more than the holder and one other seat are counted, others queue already. More spins would only take the cache line of
 /// the count away from the holder.
 const HOLDER_AND_ONE_MORE: u64 = 2;
 
-/// Whether the seat is awake, doesn't hold and has a take left. A try of such a seat gains the mutex or is refused as Busy.
+/// Whether the seat is awake, doesn't hold and has a take left. A try of such a seat acquires the mutex or is refused as Busy.
 #[inline(always)]
 fn may_try<T: Kept>(seat: &Seat<T>) -> bool
     ensures { MatchBool result (MayTry seat.now.table_seat.limits.budget (sight seat.now)) (MayTry seat.now.table_seat.limits.budget (sight seat.now) → ⊥) }
@@ -39,17 +40,17 @@ fn may_try<T: Kept>(seat: &Seat<T>) -> bool
 }
 
 impl<T: Kept> Mutex<T> {
-    /// Gains the mutex, or deepens the hold, with the answers and refusals of `lock`. A seat that doesn't hold first makes a
-    /// bounded number of `try_lock`, as the mutex's pace says: one at once, if the pace has spins, and one after each look that
-    /// finds a count of 0. Between looks it pauses, and later naps. A look is no atomic step of the protocol. If no try gains
-    /// the mutex, it queues as by `lock`.
+    /// Acquires the mutex, or deepens the hold, with the answers and refusals of `lock`. A seat that doesn't hold first makes a
+    /// bounded number of tries by `try_lock`, as the pace of the mutex says: one at once, if the pace has spins, and one after
+    /// each read of the count that finds 0. Between these reads it pauses, and later naps. Such a read is no atomic step of the
+    /// protocol. If no try acquires the mutex, the seat queues as by `lock`.
     ///
-    /// So a thread may come before threads that came earlier and still try. It comes before one that is queued only by
-    /// accepting a post, as `try_lock` may. What stays bounded is how often a thread tries: at most once for each spin and each
-    /// nap of the pace. After that it queues, and no thread that queues later is served before it.
+    /// So a thread may acquire the mutex before threads that came earlier and still try. It overtakes a queued thread only by
+    /// accepting a post, as `try_lock` may. The number of tries is bounded: at most one for each spin and each nap of the pace.
+    /// After that the thread queues, and no thread that queues later is served before it.
     ///
-    /// Refuses, as `lock` and in this order: Asleep, DepthFull, Spent. A gain is charged one take, and a try that fails none.
-    /// It may sleep, wakes as `lock` does, and takes no memory.
+    /// Refuses, as `lock` and in this order: Asleep, DepthFull, Spent. An acquisition is charged one take, and a failed try
+    /// none. It may sleep, wakes as `lock` does, and allocates nothing.
     ///
     /// ```
     /// mutex.set_pace(Pace::of_machine(&rt)?);
@@ -74,8 +75,8 @@ impl<T: Kept> Mutex<T> {
         }
     }
 
-    /// The fast path: the try of the first spin. It is made without a look, since mostly nobody holds, and a look before it
-    /// would be one more load of a cache line that another processor has.
+    /// The fast path: the try of the first spin. It doesn't read the count first: mostly no seat holds, and the read would be
+    /// one more load of a cache line that another processor has.
     #[inline(always)]
     fn try_first(&self, seat: &mut Seat<T>) -> Option<How>
         requires belongs { OfMutex seat.old self.now }
@@ -94,7 +95,7 @@ impl<T: Kept> Mutex<T> {
         self.try_if_free(seat, 0)
     }
 
-    /// The slow path: spins, then naps, and queues at last.
+    /// The slow path: spins, then naps, and then queues.
     #[inline(never)]
     fn barge<R: Wait>(&self, rt: &R, seat: &mut Seat<T>) -> Result<Locked, Refusal>
         requires belongs { OfMutex seat.old self.now }
@@ -128,9 +129,9 @@ impl<T: Kept> Mutex<T> {
         }
     }
 
-    /// The spins after the first. Each is some pauses, a look, and a try if the look finds 0. The pauses double from one look
-    /// to the next, so that the holder keeps the cache line of the count for most of the time. The spins end early if others
-    /// queue already.
+    /// The spins after the first. Each is some pauses, a read of the count, and a try if it reads 0. The pauses double from one
+    /// read to the next, so that the holder keeps the cache line of the count for most of the time. The spins end early if
+    /// others queue already.
     #[inline(always)]
     fn spin(&self, seat: &mut Seat<T>) -> Option<How>
         requires belongs { OfMutex seat.old self.now }
@@ -155,9 +156,9 @@ impl<T: Kept> Mutex<T> {
         None
     }
 
-    /// Naps as often as the pace says, and looks before and after each nap. Threads that sleep leave the processors to the
-    /// holder, and a queue can drain meanwhile. The first nap is a yield if the mutex may just have been handed over. The naps
-    /// end early if many seats hold or wait: then it is better to queue at once.
+    /// Naps as often as the pace says, and reads the count before and after each nap. Threads that sleep leave the processors
+    /// to the holder, and a queue can drain meanwhile. The first nap is a yield if the mutex may just have been handed over.
+    /// The naps end early if many seats hold or wait: it is then better to queue at once.
     #[inline(always)]
     fn nap<R: Wait>(&self, rt: &R, seat: &mut Seat<T>) -> Option<How>
         requires belongs { OfMutex seat.old self.now }
@@ -204,15 +205,16 @@ impl<T: Kept> Mutex<T> {
         self.table.look_at_count()
     }
 
-    /// The count after a yield. The thread that was handed the mutex may be ready on this very processor. A yield lets it run
-    /// at once; a nap would outlast its section. On a busy processor a yield costs a whole time slice, so it is made only here.
+    /// The count after a yield. The thread to which the mutex was handed over may be ready on this processor. A yield lets it
+    /// run at once; a nap would last longer than its section. On a busy processor a yield costs a whole time slice, so it is
+    /// made only here.
     fn count_after_yield(&self) -> u64 {
         yield_now();
         self.table.look_at_count()
     }
 
-    /// Makes one try if the count that was found is 0, and none otherwise. A look costs the holder less than a try that fails.
-    /// It calls the fast path of `try_lock` directly: what that path requires of the seat is known here.
+    /// Makes one try if this count is 0, and none otherwise. Reading the count costs the holder less than a failed try. It
+    /// calls the fast path of `try_lock` directly: the preconditions of that path are known here.
     #[inline(always)]
     fn try_if_free(&self, seat: &mut Seat<T>, count: u64) -> Option<How>
         requires belongs { OfMutex seat.old self.now }

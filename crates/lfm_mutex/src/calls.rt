@@ -1,5 +1,5 @@
 //! The slow path: a call begins, and makes one step after another until it ends. Each public call has a file of its own. None
-//! of these functions takes memory or wakes a seat: if a step grants another seat the mutex, its wake-up is handed out with the
+//! of these functions allocates or wakes a seat: if a step grants another seat the mutex, its wake-up is returned with the
 //! turn.
 ghost use Rattle.std.specs.Prelude.{◌≡◌, ◌≢◌, ◌+◌, ◌≤◌, ℕ, length, false, true, Some, None};
 ghost use Rattle.lfm_model.specs.declared.answers.How.{How as HowNow};
@@ -26,7 +26,7 @@ use lfm_protocol::points::Point;
 use lfm_protocol::{Call, SeatState, Turn};
 use lfm_table::{Kept, WakeUp};
 
-/// The wake-up that is owed after two runs of steps, of which at most one has stored a grant.
+/// The wake-up that is due after two sequences of steps, at most one of which has stored a grant.
 fn either(first: Option<WakeUp>, then: Option<WakeUp>) -> Option<WakeUp>
     requires { (t : ℕ) → first ≡ Some t → then ≡ None }
     ensures { result ≡ first_of first then }

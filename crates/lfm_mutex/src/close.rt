@@ -25,9 +25,9 @@ use std::marker::Brand;
 
 impl<T: Kept> Mutex<T> {
     /// The first seat, from seat 1 on, that keeps the mutex from being closed with these seats, and why: no seat with its
-    /// number is among them, or one holds, or one sleeps. None if there is no such seat. It goes by the numbers alone, so
-    /// unlike in `close` the seats may be another mutex's. It compares each seat number of the mutex with each seat, takes no
-    /// memory and never waits.
+    /// number is among them, or one with it holds, or one sleeps. None if there is no such seat. Only the numbers are compared,
+    /// so the seats may be those of another mutex, unlike in `close`. It compares each seat number of the mutex with each seat,
+    /// allocates nothing and never waits.
     pub fn missing<P: Holder<T>>(&self, seats: &Vec<P>) -> Option<Missing>
         ensures { MatchOption result (AllStand (λ p. sight (P.seat_of p)) seats.now.items (limits_of self.now).seats) (FirstMissing (λ p. sight (P.seat_of p)) seats.now.items (limits_of self.now).seats) }
     {
@@ -39,12 +39,13 @@ impl<T: Kept> Mutex<T> {
         None
     }
 
-    /// Gives the guarded value back, and ends the mutex, if all seats are there and none holds, sleeps or is in a call. The
-    /// value is what the last hold of all left, which is that of the seat with the greatest `ended`, or the opening value if no
-    /// hold has ended. The trails are then the seats' parts of one run of the core, which begins at the start and ends free.
-    /// Each seat knew that run up to its own last step or load for `owner`. Otherwise it hands back the mutex and the seats,
-    /// and names the first seat that keeps it from closing, and why. It compares each seat number of the mutex with each seat
-    /// handed in, takes no memory and never waits.
+    /// Returns the guarded value, and ends the mutex, if all seats are there and none holds, sleeps or is in a call. Otherwise
+    /// it returns the mutex and the seats, and names the first seat that keeps it from closing, and why.
+    ///
+    /// The value is the one that the last hold of all left: that of the seat with the greatest `ended`, or the opening value if
+    /// no hold has ended. The trails are then the seats' parts of one run of the core, from its start to a free state. Each
+    /// seat knew that run up to its own last step or load for `owner`. It compares each seat number of the mutex with each
+    /// given seat, allocates nothing and never waits.
     pub fn close<P: Holder<T>>(self, seats: Vec<P>) -> Result<T, (Mutex<T>, Vec<P>, Missing)>
         requires belongs { (j : ℕ) (s : _) → get_elem? seats.items j ≡ some s → OfMutex (P.seat_of s) self }
         ensures missing { IfErr result (λ e. (e.0 ≡ self) × (e.1 ≡ seats) × FirstMissing (λ p. sight (P.seat_of p)) seats.items (limits_of self).seats e.2) }
@@ -128,7 +129,7 @@ fn missing_at<T: Kept, P: Holder<T>>(seats: &Vec<P>, number: u64) -> Option<Miss
     }
 }
 
-/// The seat of the table. The other fields are dropped here, since to drop them in a caller would split its proof into cases.
+/// The seat of the table. The other fields are dropped here, since dropping them in a caller would split its proof into cases.
 fn into_place<T: Kept, P: Holder<T>>(holder: P) -> AtomicSeat<T>
     ensures { result ≡ (P.seat_of holder).table_seat.place }
 {
@@ -176,7 +177,7 @@ fn retire<T: Kept, B: JoinedView<T>>(
     table.join_seat::<B>(root, place);
 }
 
-/// Takes what lies in the slot of a closed table. Its count is 0, nothing is posted and nobody is queued.
+/// Takes the content of the slot of a closed table. Its count is 0, nothing is posted and no seat is queued.
 fn take_slot<T: Kept>(closed: ClosedTable<T>) -> Option<MovingBox<T>>
     requires free { AreFree closed.words }
     requires slot { length closed.slots ≡ 1 }

@@ -1,4 +1,4 @@
-//! `{:?}` of a mutex and of a seat, for debugging. Nothing here touches a word of the mutex.
+//! `{:?}` of a mutex and of a seat, for debugging. Nothing here accesses a word of the mutex.
 
 use crate::mutex::Mutex;
 use crate::seat::Seat;

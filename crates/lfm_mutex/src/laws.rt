@@ -1,7 +1,7 @@
-//! The laws of the running mutex. Each function here does nothing: its contract is the law. Most are facts of the rule that
+//! The laws of the running mutex. Each function here does nothing: its contract is the law. Most laws follow from the rule that
 //! the table keeps at every moment, whatever threads step on it: `Held` in `specs/Rule.antt` of `lfm_table`. That each atomic
-//! step keeps the rule is asked, and proved, where `operate` of `lfm_table` accesses a word. The last law is of what a seat
-//! knows of its mutex.
+//! step keeps the rule is required, and proved, where `operate` of `lfm_table` accesses a word. The last law is about what a
+//! seat knows of its mutex.
 ghost use Rattle.lfm_mutex.specs.Laws.{KnowsItsMutex, PostsAreWatched, QuietTablesRest, TablesAreSteady, TakesFindARecord};
 ghost use Rattle.lfm_mutex.specs.TableStates.{RestingTablesAreFree, TablesStand};
 ghost use Rattle.lfm_mutex.specs.TableEvents.{TablesStepAsTheCore};
@@ -10,78 +10,79 @@ ghost use Rattle.lfm_mutex.specs.EndedHolds.{HoldsAreNumbered, OneLastValue};
 
 use lfm_table::Kept;
 
-/// At every moment the words and seats of a running mutex are a steady, and so a lawful, state of the core. So every law of
-/// the core that speaks of a steady state holds of them.
+/// At every moment the words and seats of a running mutex are a steady state of the core, and so a lawful one. So every law of
+/// the core about steady states holds of them.
 ///
 /// Definition: `TablesAreSteady` in `specs/Laws.antt`. Proof: `proofs/LawsHeld.antt`.
 pub fn tables_are_steady<T: Kept>()
     ensures { TablesAreSteady T.follows T.fits }
 {}
 
-/// While a post stands, some open call has yet to load it, or has made or seen it and not yet tried for it.
+/// While a post is in the handoff word, some open call has yet to load it, or has made or seen it and not yet tried to exchange
+/// it.
 ///
 /// Definition: `PostsAreWatched` in `specs/Laws.antt`. Proof: `proofs/LawsHeld.antt`.
 pub fn posts_are_watched<T: Kept>()
     ensures { PostsAreWatched T.follows T.fits }
 {}
 
-/// Without an open call nothing is posted. If the count is above 0 then, a seat owns, or a sleeping seat has its grant.
+/// While no call is open, nothing is posted; if the count is then above 0, a seat owns, or a sleeping seat has its grant.
 ///
 /// Definition: `QuietTablesRest` in `specs/Laws.antt`. Proof: `proofs/LawsHeld.antt`.
 pub fn quiet_tables_rest<T: Kept>()
     ensures { QuietTablesRest T.follows T.fits }
 {}
 
-/// A `lock`, `unlock` or `send_lock` that has won a post finds a record when it clears the push list.
+/// A `lock`, `unlock` or `send_lock` that has won the exchange of a post finds a record when it clears the push list.
 ///
 /// Definition: `TakesFindARecord` in `specs/Laws.antt`. Proof: `proofs/LawsHeld.antt`.
 pub fn takes_find_a_record<T: Kept>()
     ensures { TakesFindARecord T.follows T.fits }
 {}
 
-/// At every moment the table is one steady state of the core, with the limits of its seats, and a seat that has not been
-/// split off yet is at rest in it. The moving value is out with the seat that owns or carries, and is else at home, with the
-/// pop list of that state.
+/// At every moment the table is one steady state of the core, with the limits of its seats, and a seat that has not been split
+/// off yet is at rest in it. The moving value is with the seat that owns or carries, and otherwise in its slot, with the pop
+/// list of that state.
 ///
 /// Definition: `TablesStand` in `specs/TableStates.antt`. Proof: `proofs/TableStates.antt`.
 pub fn tables_stand<T: Kept>()
     ensures { TablesStand T.follows T.fits }
 {}
 
-/// If every seat rests and none holds, the count is 0, nothing is posted and nobody is queued.
+/// If every seat rests and none holds, the count is 0, nothing is posted and no seat is queued.
 ///
 /// Definition: `RestingTablesAreFree` in `specs/TableStates.antt`. Proof: `proofs/TableStates.antt`.
 pub fn resting_tables_are_free<T: Kept>()
     ensures { RestingTablesAreFree T.follows T.fits }
 {}
 
-/// At every moment there is a number n such that the seats have ended their last holds with numbers up to n, no two above 0
-/// the same, and one with n if n is above 0. A seat that owns or carries knows n as how many holds have ended. The value at
-/// home, or with a seat that carries and does not own, is what a seat with the number n has as its last.
+/// At every moment there is a number n such that the holds that the seats ended last have numbers up to n, no two above 0 the
+/// same, and one is n if n is above 0. A seat that owns or carries knows n as the number of ended holds. The value in the slot,
+/// or with a seat that carries and does not own, is the last value of a seat with the number n.
 ///
 /// Definition: `HoldsAreNumbered` in `specs/EndedHolds.antt`. Proof: `proofs/EndedHolds.antt`.
 pub fn holds_are_numbered<T: Kept>()
     ensures { HoldsAreNumbered T.follows T.fits }
 {}
 
-/// A close has no second value to give back: of some seats, no two with the same number, the last hold of all left at most one
-/// value, and if none has ended, there is at most one opening value.
+/// A close can return only one value: among seats of which no two have the same number, the last hold of all left at most one
+/// value, and if no hold has ended, there is at most one opening value.
 ///
 /// Definition: `OneLastValue` in `specs/EndedHolds.antt`. Proof: `proofs/EndedHolds.antt`.
 pub fn closes_have_one_value<T: Kept>()
     ensures { OneLastValue T }
 {}
 
-/// At the state that the table is, with the calls that a seat has begun since its last step, the core's step leaves the word,
-/// the seat, the pop list and the turn that the running seat makes of the number that it finds.
+/// At the state of the core that the table is, with the calls that a seat has begun since its last step, the core's step leaves
+/// the same word, seat, pop list and turn as the running seat makes from the number that it finds.
 ///
 /// Definition: `TablesStepAsTheCore` in `specs/TableEvents.antt`. Proof: `proofs/TableEvents.antt`.
 pub fn tables_step_as_the_core<T: Kept>()
     ensures { TablesStepAsTheCore T.follows T.fits }
 {}
 
-/// Each atomic step of a running seat leads from the state of the core that the table is, with the begins before this step, to
-/// the state that the core's step makes of it. The run goes on by these begins and the step.
+/// Each atomic step of a running seat leads from the state of the core that the table is, with the calls begun before this
+/// step, to the state that the core's step makes of it. These starts of calls and the step extend the run.
 ///
 /// Definition: `TablesGoOnAsTheCore` in `specs/TableRuns.antt`. Proof: `proofs/TableRuns.antt`.
 pub fn tables_go_on_as_the_core<T: Kept>()
@@ -95,16 +96,16 @@ pub fn tables_open_at_the_start<T: Kept>()
     ensures { TablesOpenAtTheStart T.follows T.fits }
 {}
 
-/// A seat that is split off by `new`, is joined again by `close`, or loads the owner word for `owner`, keeps the state of the
-/// core that the table is. Of these the load alone is in the run.
+/// Splitting off a seat in `new`, joining it again in `close`, and loading the owner word for `owner` keep the state of the
+/// core that the table is. Of these only the load is in the run.
 ///
 /// Definition: `OtherStepsKeepTheCore` in `specs/TableRuns.antt`. Proof: `proofs/TableRuns.antt`.
 pub fn other_steps_keep_the_core<T: Kept>()
     ensures { OtherStepsKeepTheCore T.follows T.fits }
 {}
 
-/// A seat is seen with as many seats as its mutex has. So if a contract of a gain or a close speaks of steps of seats of 1 to
-/// N, N is the number of seats of that mutex.
+/// What is seen of a seat includes the number of seats of its mutex. So if the contract of an acquisition or a close speaks of
+/// steps of seats 1 to N, N is the number of seats of that mutex.
 ///
 /// Definition: `KnowsItsMutex` in `specs/Laws.antt`. Proof: `proofs/LawsHeld.antt`.
 pub fn seats_know_their_mutex<T: Kept>()

@@ -1,7 +1,7 @@
-//! The running mutex: a verified lock-free, sleeping, recursive mutex over a table of atomic words. Its words and seats are a
-//! steady state of the core at every moment. Each holder finds a value that follows from the one that it left last by steps of
-//! other seats, each of which `Kept` of the value allows. Begin at `Mutex` (file `mutex`), whose head says in which file each
-//! call is.
+//! The running mutex: a verified lock-free, sleeping, recursive mutex over a table of atomic words. At every moment its words
+//! and seats are a steady state of the core. The value that a holder finds follows from the value that it left last by steps of
+//! other seats, and each of these steps is one that `Kept` of the value allows. Start reading at `Mutex` (file `mutex`): its
+//! head says which call is in which file.
 #![tactic(auto)]
 
 mod barging;

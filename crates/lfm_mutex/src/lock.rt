@@ -1,5 +1,5 @@
-//! `ask` locks or queues; `lock` then also sleeps. Fast path: the mutex is free, the seat holds it already, or the seat queues
-//! (`push`). It writes only the fields of the seat that change. Everything else is the slow path (`calls::finish`).
+//! `ask` locks or queues; `lock` also waits for the grant. Fast path: the mutex is free, the seat holds it already, or the seat
+//! queues (`push`). It writes only the fields of the seat that change. Everything else is the slow path (`calls::finish`).
 ghost use Rattle.std.specs.Prelude.{◌≡◌, ◌+◌, ◌<◌, length};
 ghost use Rattle.lfm_protocol.specs.declared.answers.Answer.TheVariants as Answered;
 ghost use Rattle.lfm_protocol.specs.declared.answers.Call.{Call as CallNow};
@@ -32,14 +32,14 @@ use lfm_table::{Kept, WakeUp};
 use std::sync::Wait;
 
 impl<T: Kept> Mutex<T> {
-    /// `lock` up to the point at which it would sleep: gains the mutex, deepens the hold, or queues the seat, which then sleeps
-    /// until a receive tells it that it holds. A seat that gains the mutex or queues is charged one take.
+    /// `lock` up to the point at which it would sleep: acquires the mutex, deepens the hold, or queues the seat. A queued seat
+    /// sleeps until a receive finds its grant. A seat that acquires the mutex or queues is charged one take.
     ///
     /// Refuses, in this order: Asleep (the seat sleeps, or a call of it is open), DepthFull (it holds at depth 65,535), Spent
     /// (it doesn't hold, and has no take left). It never waits. If it takes over a posted hand-off and a record older than its
-    /// own is queued, it grants the mutex to the seat of that record and wakes it. It makes at most 9 atomic steps more than
-    /// the mutex has seats, and two for each exchange of the push word that fails because another seat has changed the word. As
-    /// `lock` of LFthreads' mutex and of OSv's lfmutex.
+    /// own is queued, it grants the mutex to the seat of that record and wakes it. It makes at most N + 9 atomic steps, N being
+    /// the number of seats, and two more for each exchange of the push word that fails because another seat has changed the
+    /// word. It corresponds to `lock` of LFthreads' mutex and of OSv's lfmutex.
     #[inline(always)]
     pub fn ask(&self, seat: &mut Seat<T>) -> Result<Asked, Refusal>
         requires belongs { OfMutex seat.old self.now }
@@ -55,8 +55,8 @@ impl<T: Kept> Mutex<T> {
         asked
     }
 
-    /// `ask`, with the same answers and refusals, which hands its caller the wake-up of the seat that it granted the mutex, if
-    /// any. The caller has to spend it by `wake`, or to wake that seat's thread by other means.
+    /// `ask`, with the same answers and refusals, but it wakes no thread. It also returns the wake-up of the seat to which it
+    /// granted the mutex, if any. The caller has to pass that to `wake`, or to wake that seat's thread by other means.
     #[inline(always)]
     pub fn ask_without_waking(&self, seat: &mut Seat<T>) -> (Result<Asked, Refusal>, Option<WakeUp>)
         requires belongs { OfMutex seat.old self.now }
@@ -86,9 +86,9 @@ impl<T: Kept> Mutex<T> {
         ask_slow(self, seat)
     }
 
-    /// Gains the mutex, or deepens the hold: `ask`, and then `receive_lock` if that answered Asleep.
+    /// Acquires the mutex, or deepens the hold: `ask`, and then `receive_lock` if that answered Asleep.
     ///
-    /// Refuses as `ask`: Asleep, DepthFull, Spent, in this order. It may wake a seat, as `ask` may.
+    /// Refuses as `ask`: Asleep, DepthFull, Spent, in this order. It may sleep, and may wake a seat as `ask` does.
     #[inline(always)]
     pub fn lock<R: Wait>(&self, rt: &R, seat: &mut Seat<T>) -> Result<Locked, Refusal>
         requires belongs { OfMutex seat.old self.now }
@@ -138,7 +138,7 @@ pub fn ask_without_hold<T: Kept>(mutex: &Mutex<T>, seat: &mut Seat<T>) -> (Asked
         stop_at(&mut seat.state, Stop::LockLoadsOwner);
         return queue(mutex, seat);
     }
-    // The plain writes stand together, in this gap between two steps: see `steps` of `lfm_table`.
+    // The plain writes are together, between two steps: see `steps` of `lfm_table`.
     seat.state.depth = 1;
     seat.state.takes = takes;
     state.point = Point::EnterOwnerStore(Entrant::Locker, How::Free);
@@ -184,8 +184,8 @@ pub fn ask_with_hold<T: Kept>(mutex: &Mutex<T>, seat: &mut Seat<T>) -> (Asked, O
     (Asked::Again(depth + 1), None)
 }
 
-/// Finishes an open `lock` that found others in the count: it loads the owner, and pushes the seat's record. The seat doesn't
-/// hold.
+/// Finishes an open `lock` that found others in the count, of a seat that doesn't hold: loads the owner, and pushes the seat's
+/// record.
 #[inline(never)]
 fn queue<T: Kept>(mutex: &Mutex<T>, seat: &mut Seat<T>) -> (Asked, Option<WakeUp>)
     requires belongs { seat.old.table_seat.place.table_id ≡ mutex.now.table.table_id }
@@ -237,7 +237,7 @@ fn finish_ask<T: Kept>(mutex: &Mutex<T>, seat: &mut Seat<T>) -> (Asked, Option<W
     }
 }
 
-/// The whole of `ask` by the slow path. Only a call that is refused comes here.
+/// The whole of `ask` by the slow path. Only a refused call is made in this way.
 #[inline(always)]
 fn ask_slow<T: Kept>(
     mutex: &Mutex<T>,

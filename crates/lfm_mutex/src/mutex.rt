@@ -9,8 +9,8 @@ use lfm_protocol::Limits;
 use lfm_table::Kept;
 use lfm_table::shared_table::SharedTable;
 
-/// A mutex round a value of type T: at most one seat at a time holds it, and reaches the value. Its calls are made through a
-/// shared reference and one of its seats. A call with the seat of another mutex breaks the condition that every call has.
+/// A mutex around a value of type T: at most one seat at a time holds it, and only that seat reaches the value. A call takes
+/// the mutex by a shared reference, with one of its seats. Each call requires that the seat is one of this mutex.
 ///
 /// These lines are compiled in the crate `example_counter`:
 ///
@@ -42,8 +42,8 @@ pub struct Mutex<T: Kept> {
 }
 
 impl<T: Kept> Mutex<T> {
-    /// How many seats hold the mutex or want it, by one look at the count word. A queued seat is counted, and one that spins or
-    /// naps is not. The number is a hint, since it may change at once. A look is no atomic step of the protocol.
+    /// How many seats hold the mutex or wait for it, by one read of the count word. A queued seat is counted; a seat that spins
+    /// or naps is not. The number is a hint, since it may change at once. The read is no atomic step of the protocol.
     pub fn count(&self) -> u64 {
         self.table.look_at_count()
     }

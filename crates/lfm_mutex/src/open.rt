@@ -28,12 +28,12 @@ use std::snapshot::Snapshot;
 const USUAL_PROCESSORS: u64 = 8;
 
 impl<T: Kept> Mutex<T> {
-    /// A mutex round this value, and its seats in order, numbered from 1. `seats` is 1 to 4,095, and `budget`, how many takes
-    /// each seat may make, 1 to 2^36. The value has to suit a mutex that has had no queued take. The pace is the usual one
-    /// until `set_pace`.
+    /// A mutex around this value, and its seats in order, numbered from 1. `seats` is 1 to 4,095. `budget`, the number of takes
+    /// that each seat may make, is 1 to 2^36. The value has to suit a mutex that has had no queued take. The pace is the one
+    /// for eight processors until `set_pace`.
     ///
-    /// Outside these limits it answers Limit, and asks for no memory. It answers Memory if a request for memory was refused. On
-    /// a fault the value is dropped. No other call of a mutex takes memory.
+    /// Outside these limits it returns Limit, and requests no memory. It returns Memory if a request for memory was refused. On
+    /// a fault the value is dropped. Of the other functions of a mutex only `run` allocates.
     pub fn new(
         alloc: Global,
         seats: u64,
@@ -95,7 +95,7 @@ impl<T: Kept> Mutex<T> {
     }
 }
 
-/// The table of a mutex that nobody holds or wants, and its first seat.
+/// The table of a mutex that no seat holds or wants, and its first seat.
 fn new_table<T: Kept>(
     alloc: Global,
     limits: Limits,

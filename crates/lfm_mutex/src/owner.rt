@@ -1,4 +1,4 @@
-//! The call that tells which seat owns the mutex.
+//! The call that returns which seat owns the mutex.
 ghost use Rattle.std.specs.Prelude.{◌≡◌};
 ghost use Rattle.lfm_mutex.specs.Belongs.{Beside, OfMutex};
 ghost use Rattle.lfm_mutex.specs.calls.RunGoesOn.{RunGoesOnFrom};
@@ -12,8 +12,8 @@ use lfm_table::Kept;
 
 impl<T: Kept> Mutex<T> {
     /// The seat that the owner word names, by one load, or None if no seat owns the mutex. It is the caller's own number
-    /// exactly if the caller holds the mutex. Another seat's number may be out of date when it is read. It refuses nothing, not
-    /// even a seat that sleeps or is in a call, and never waits.
+    /// exactly if the caller holds the mutex. Another seat's number may be out of date when the caller reads it. The call
+    /// refuses nothing, not even for a seat that sleeps or has an open call, and never waits.
     pub fn owner(&self, seat: &mut Seat<T>) -> Option<SeatNo>
         requires belongs { OfMutex seat.old self.now }
         ensures belongs { Beside seat.old seat.new }

@@ -1,5 +1,5 @@
-//! How a seat waits: how often it tries before it queues, and how long it then looks for its grant before it parks. No atomic
-//! step stands here.
+//! How a seat waits: how often it tries before it queues, and how long it then polls for its grant before it parks. No atomic
+//! step of the protocol is in this file.
 ghost use Rattle.std.specs.Prelude.{◌≡◌, ◌≤◌, ◌<◌, IfOk};
 
 use std::hint::spin_loop;
@@ -7,14 +7,14 @@ use std::io;
 use std::thread::{Threads, available_parallelism};
 use std::time::{Clock, Duration, Instant};
 
-/// How often a queued seat looks at its wake word before it parks, unless its mutex is told otherwise. How long that lasts
-/// depends on the processor, but even on a fast one it is about two wake-ups by the system.
+/// How often a queued seat polls its wake word before it parks, unless the pace of its mutex is set otherwise. How long that
+/// takes depends on the processor; even on a fast one it is about two wake-ups by the system.
 pub const LOOKS_BEFORE_SLEEP: u32 = 800;
 
-/// Spins before a seat queues. With their pauses they lasted about 8 microseconds on the machine that was measured.
+/// Spins before a seat queues. With their pauses they took about 8 microseconds on the machine that was measured.
 const SPINS: u32 = 12;
 
-/// Spins on one processor: the try alone. Further spins would keep the holder from running.
+/// Spins on one processor: only the first try. Further spins would keep the holder from running.
 const SPINS_OF_ONE_PROCESSOR: u32 = 1;
 
 /// Naps after the spins.
@@ -23,40 +23,40 @@ const NAPS: u32 = 4;
 /// Up to this number of seats there is no crowd, however few processors there are.
 const FEW: u64 = 8;
 
-/// Pauses before each look of a queued seat. They leave the cache line of the word to the seat that is to store the grant.
+/// Pauses before each poll of a queued seat. They leave the cache line of the word to the seat that is to store the grant.
 const PAUSES_PER_LOOK: u32 = 4;
 
-/// How long a queued seat should look, in nanoseconds: about two wake-ups by the system.
+/// How long a queued seat should poll, in nanoseconds: about two wake-ups by the system.
 const LOOK_NANOSECONDS: u64 = 20_000;
 
-/// Looks whose pauses are timed in one run. The load of a look takes a fraction of its pauses.
+/// How many polls have their pauses timed in one run. The load of a poll takes a fraction of the time of its pauses.
 const LOOKS_TIMED: u32 = 200;
 
-/// Timed runs. The shortest counts, since an interruption only adds to a run.
+/// Timed runs. The shortest counts, since an interruption only makes a run longer.
 const RUNS_TIMED: u32 = 5;
 
-/// The fewest looks that a measurement gives.
+/// The fewest polls that a measurement gives.
 const FEWEST_LOOKS: u64 = 100;
 
-/// The most looks that a measurement gives.
+/// The most polls that a measurement gives.
 const MOST_LOOKS: u64 = 4_000;
 
 /// How a seat waits for the mutex. It has two parts.
 ///
-/// *Before it queues*, a seat that doesn't hold and locks by `lock_barging` spins and then naps. A look that finds the mutex
-/// free is followed by a try.
-/// - The first spin is a try. Each further one is some pauses and a look at the count. The spins end early if more than two
+/// *Before it queues*, a seat that doesn't hold and locks by `lock_barging` spins and then naps. If a read of the count finds
+/// the mutex free, a try follows.
+/// - The first spin is a try. Each further spin is some pauses and a read of the count. The spins end early if more than two
 ///   seats hold or wait.
-/// - A nap is a look, a sleep of about 20 microseconds, and another look. The naps end early if more than 8 seats hold or wait,
-///   and more than twice `near`. If one seat is counted and none owns, the mutex may have been handed over to a thread that has
-///   not run since. The first nap is then a yield, which lets that thread run on the same processor.
+/// - A nap is a read of the count, a sleep of about 20 microseconds, and another read. The naps end early if more than 8 seats
+///   hold or wait, and more than twice `near`. If one seat is counted and none owns, the mutex may have been handed over to a
+///   thread that has not run since. The first nap is then a yield, which lets that thread run on the same processor.
 ///
 /// `lock` queues without spins and naps.
 ///
-/// *Once it has queued*, a seat looks at its wake word before it parks. A grant mostly comes within about 20 microseconds, and
-/// to park and be woken costs far more than the looks. But if many seats are ahead, or all threads share one processor, each
-/// look is lost time. So a seat looks only if at most `near` seats hold or wait. If the looks last less than two wake-ups, one
-/// thread that parks soon makes all that queue behind it park too.
+/// *Once it has queued*, a seat polls its wake word before it parks. A grant mostly comes within about 20 microseconds, and
+/// parking and being woken cost far more than polling. But if many seats are ahead, or all threads share one processor, each
+/// poll is lost time. So a seat polls only if at most `near` seats hold or wait. If the polls last less than two wake-ups, one
+/// thread that parks early makes all threads that queue behind it park too.
 ///
 /// ```
 /// mutex.set_pace(Pace::of_machine(&rt)?);
@@ -70,8 +70,8 @@ pub struct Pace {
 }
 
 impl Pace {
-    /// A pace with this number of looks, made only if the mutex counts at most `near` seats that hold or wait, the seat itself
-    /// among them. It has no spins and no naps: with it `lock_barging` is `lock`.
+    /// A pace with this number of polls, made only if the mutex counts at most `near` seats that hold or wait, including the
+    /// seat itself. It has no spins and no naps: with it `lock_barging` is `lock`.
     pub fn new(looks: u32, near: u64) -> Pace
         ensures { (result.looks ≡ looks) × (result.near ≡ near) × (result.spins ≡ 0) × (result.naps ≡ 0) }
     {
@@ -95,10 +95,10 @@ impl Pace {
         }
     }
 
-    /// The pace for a machine with this number of processors. With one, a seat spins once and naps 4 times before it queues,
-    /// and then parks at once: further spins and looks would keep the holder from its work. With more, it spins 12 times and
-    /// naps 4 times, and once it has queued it looks `LOOKS_BEFORE_SLEEP` times if no more seats hold or wait than there are
-    /// processors. A mutex that is not told otherwise has the pace for eight.
+    /// The pace for a machine with this number of processors. With one processor, a seat spins once and naps 4 times before it
+    /// queues, and then parks at once: further spins and polls would keep the holder from running. With more, it spins 12 times
+    /// and naps 4 times before it queues. Then it polls `LOOKS_BEFORE_SLEEP` times if no more seats hold or wait than there are
+    /// processors. The pace of a new mutex is that for eight processors.
     pub fn for_processors(processors: u64) -> Pace
         ensures one { processors ≤ 1 → (result.looks ≡ 0) × (result.near ≡ 0) × (result.spins ≡ 1) }
         ensures more { 1 < processors → (result.looks ≡ 800) × (result.near ≡ processors) × (result.spins ≡ 12) }
@@ -110,9 +110,9 @@ impl Pace {
         Pace::new(LOOKS_BEFORE_SLEEP, processors).with_barging(SPINS, NAPS)
     }
 
-    /// The pace for the processors that this program may use: that of `for_processors`, but with as many looks as last about 20
-    /// microseconds here, from 100 to 4,000. It times the pauses of some looks. It ends with an error if the system doesn't
-    /// tell the processors or the time.
+    /// The pace for the processors that this program may use: that of `for_processors`, but, if there is more than one, with as
+    /// many polls as take about 20 microseconds on this machine, from 100 to 4,000. It times the pauses of some polls. It
+    /// returns an error if the system doesn't report the number of processors or the time.
     pub fn of_machine<R: Threads + Clock>(rt: &R) -> io::Result<Pace>
         ensures looks { IfOk result (λ p. (p.near ≤ 1 → p.looks ≡ 0) × (1 < p.near → (100 ≤ p.looks) × (p.looks ≤ 4_000))) }
         ensures spins { IfOk result (λ p. (p.near ≤ 1 → p.spins ≡ 1) × (1 < p.near → p.spins ≡ 12) × (p.naps ≡ 4)) }
@@ -125,14 +125,14 @@ impl Pace {
         Ok(Pace::new(0, 0).with_barging(SPINS_OF_ONE_PROCESSOR, NAPS))
     }
 
-    /// How often a queued seat looks before it parks.
+    /// How often a queued seat polls its wake word before it parks.
     pub fn looks(self) -> u32
         ensures { result ≡ self.looks }
     {
         self.looks
     }
 
-    /// A queued seat looks only if at most this number of seats hold or wait.
+    /// A queued seat polls only if at most this number of seats hold or wait.
     pub fn near(self) -> u64
         ensures { result ≡ self.near }
     {
@@ -158,7 +158,7 @@ impl Pace {
         count > FEW.max(self.near.saturating_mul(2))
     }
 
-    /// The looks of a seat that finds this count.
+    /// How often a seat that finds this count polls.
     pub(crate) fn looks_at(self, count: u64) -> u32
         ensures near { count ≤ self.near → result ≡ self.looks }
         ensures far { self.near < count → result ≡ 0 }
@@ -167,7 +167,7 @@ impl Pace {
     }
 }
 
-/// Makes the pauses before a look of a queued seat.
+/// Makes the pauses before a poll of a queued seat.
 #[inline(always)]
 pub(crate) fn pause() {
     pause_for(PAUSES_PER_LOOK);
@@ -181,7 +181,7 @@ pub(crate) fn pause_for(pauses: u32) {
     }
 }
 
-/// The time of the shortest run: how long the pauses of LOOKS_TIMED looks took.
+/// The time of the shortest run: how long the pauses of LOOKS_TIMED polls took.
 fn shortest<R: Clock>(rt: &R) -> io::Result<Duration> {
     let mut shortest = Duration::MAX;
     for _ in 0..RUNS_TIMED {
@@ -194,7 +194,7 @@ fn shortest<R: Clock>(rt: &R) -> io::Result<Duration> {
     Ok(shortest)
 }
 
-/// How many looks last as long as a queued seat should look, if the pauses of LOOKS_TIMED looks took this time.
+/// How many polls last as long as a queued seat should poll, if the pauses of LOOKS_TIMED polls took this time.
 fn looks_lasting(time: Duration) -> u32
     ensures { (100 ≤ result) × (result ≤ 4_000) }
 {

@@ -1,5 +1,5 @@
-//! Pushes a record: that of `lock`'s own seat, or that of `send_lock`'s target. Fast path: the push word has not changed since
-//! it was loaded, and no handoff is posted. Everything else is the slow path (`calls::finish`).
+//! Pushes a record: that of the locker itself, or that of the target of a `send_lock`. Fast path: the push word has not changed
+//! since it was loaded, and no handoff is posted. Everything else is the slow path (`calls::finish`).
 ghost use Rattle.std.specs.Prelude.{◌≡◌};
 ghost use Rattle.lfm_protocol.specs.declared.points.Point.TheVariants.{PushLoad};
 ghost use Rattle.lfm_table.specs.FastPath.{KeepsNumberAndLimits, SeatFits};
@@ -17,11 +17,11 @@ use lfm_words::{Handoff, unpack_link};
 pub(crate) enum Pushed {
     /// The record is queued, and no handoff is posted. The call has ended: a locker sleeps, and a sender has sent.
     Queued,
-    /// The slow path goes on from the point of this stop (`stop_at_push`).
+    /// The slow path continues at the point of this stop (`stop_at_push`).
     Stopped(PushStop),
 }
 
-/// Pushes a record and loads the handoff word. It stores no point: that is left to the caller.
+/// Pushes a record and loads the handoff word. It stores no point: the caller does that.
 #[inline(always)]
 pub(crate) fn push<T: Kept>(
     table: &SharedTable<T>,

@@ -1,5 +1,5 @@
-//! The calls of a seat that sleeps: `try_receive` tells whether it was granted the mutex, and `receive_lock` waits for it.
-//! Nothing is held while a seat waits, and how often it looks before it sleeps is bounded.
+//! The calls of a seat that sleeps: `try_receive` checks whether the seat was granted the mutex, and `receive_lock` waits for
+//! the grant. A seat holds nothing while it waits, and how often it polls before it sleeps is bounded.
 ghost use Rattle.std.specs.Prelude.{◌≡◌, ◌<◌};
 ghost use Rattle.lfm_protocol.specs.declared.answers.Answer.TheVariants as Answered;
 ghost use Rattle.lfm_protocol.specs.declared.answers.Call.{Call as CallNow};
@@ -28,8 +28,8 @@ use lfm_words::Wake;
 use std::sync::Wait;
 
 impl<T: Kept> Mutex<T> {
-    /// Waits until the seat, which sleeps, is granted the mutex, and answers how it came to hold. It makes a receive, then
-    /// looks as often as the pace of the mutex says, and then sleeps until it is woken.
+    /// Waits until the sleeping seat is granted the mutex, and returns how it acquired the mutex. It makes a receive, then
+    /// polls as often as the pace of the mutex says, and then sleeps until it is woken.
     ///
     /// Refuses with NotWaiting if the seat doesn't sleep, or if a call of it is open.
     pub fn receive_lock<R: Wait>(&self, rt: &R, seat: &mut Seat<T>) -> Result<How, Refusal>
@@ -44,7 +44,7 @@ impl<T: Kept> Mutex<T> {
         self.receive_lock_within(rt, seat, self.pace.looks_at(count))
     }
 
-    /// `receive_lock` with this number of looks before it sleeps. With 0 it sleeps after its first receive, which suits a seat
+    /// `receive_lock` with this number of polls before it sleeps. With 0 it sleeps after its first receive, which suits a seat
     /// whose grant is not expected soon.
     #[inline(never)]
     pub fn receive_lock_within<R: Wait>(
@@ -73,9 +73,9 @@ impl<T: Kept> Mutex<T> {
         unreachable!()
     }
 
-    /// Waits for a grant in the wake word: makes at most this number of looks, and parks if none of them finds a grant. Returns
-    /// how many looks are left. A look is a load and no step of the seat. The pauses between looks leave the cache line of the
-    /// word to the seat that grants.
+    /// Waits for a grant in the wake word: polls at most `looks` times, and parks if no poll finds a grant. Returns how many
+    /// polls are left. A poll is a load, but no step of the seat. The pauses between polls leave the cache line of the word to
+    /// the seat that grants.
     fn await_grant<R: Wait>(&self, rt: &R, wake: usize, looks: u32) -> u32
         requires { wake < self.now.table.table_id.words }
     {
@@ -89,8 +89,8 @@ impl<T: Kept> Mutex<T> {
         0
     }
 
-    /// One load of the wake word of a seat that sleeps: how it came to hold, or None if it was not granted the mutex and sleeps
-    /// on.
+    /// One load of the wake word of a seat that sleeps. Returns how the seat acquired the mutex, or None if the mutex was not
+    /// granted to it, and it still sleeps.
     ///
     /// Refuses with NotWaiting if the seat doesn't sleep, or if a call of it is open. It never waits, and makes at most 3
     /// atomic steps.

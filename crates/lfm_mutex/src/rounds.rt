@@ -15,15 +15,15 @@ use std::thread::Threads;
 
 impl<T: Kept> Mutex<T> {
     /// Starts a thread for each seat. Each thread calls the closure with its round, from 0 to `rounds - 1`, and its seat, and
-    /// stops early at the first Err. It joins all threads, and returns all seats, in their order. It sleeps until all threads
-    /// have ended.
+    /// stops early at the first Err. `run` joins all threads, and returns all seats, in their order. It sleeps until all
+    /// threads have ended.
     ///
-    /// What the closure answered is not kept: `run` returns Ok with all seats also if a thread stopped early. A caller that
-    /// needs to know counts the rounds, or gives each seat enough takes. After the closure, its seat is still one of this
+    /// The results of the closure are not kept: `run` returns Ok with all seats even if a thread stopped early. A caller that
+    /// needs to know this counts the rounds, or gives each seat enough takes. After the closure, its seat is still one of this
     /// mutex, holds as often as before, and sleeps only if it slept before.
     ///
-    /// No call is made before all threads have been started. If a request for memory is refused, or a thread can't be started,
-    /// no call is made at all, and all seats are handed back.
+    /// No thread calls the closure before all threads have been started. If a request for memory is refused, or a thread can't
+    /// be started, the closure is never called, and all seats are returned.
     ///
     /// ```
     /// let seats = mutex.run(&rt, seats, 1_000, &|_: u64, seat: &mut Seat<u64>| -> Result<(), Refusal>

@@ -1,5 +1,5 @@
-//! A seat of the mutex: what one thread uses it with. Its fields are the crate's own; callers see a seat by its readers, and
-//! contracts by `sight`.
+//! A seat of the mutex: what one thread uses it with. Its fields are private to the crate. Callers read a seat by its methods,
+//! and contracts by `sight`.
 ghost use Rattle.std.specs.Prelude.{◌≡◌, ◌<◌, ◌-◌, Some, None, MatchOption};
 ghost use Rattle.std.specs.Coded.{Coded-set};
 ghost use Rattle.lfm_table.specs.Props.{IsReady-prop, Became-prop};
@@ -13,9 +13,9 @@ use lfm_protocol::SeatState;
 use lfm_protocol::points::Point;
 use lfm_table::{Kept, TableSeat, Woken};
 
-/// What one thread uses the mutex with. A seat may move between threads, and each call borrows it for its whole length. If it
-/// is dropped while it holds, no other seat gains the mutex any more. If it is dropped while it sleeps, no other does once the
-/// mutex is granted to it.
+/// What one thread uses the mutex with. A seat may move between threads, and each call borrows it for its whole length. If a
+/// seat is dropped while it holds, no other seat can acquire the mutex again. If it is dropped while it sleeps, no other seat
+/// can acquire the mutex once it is granted to the dropped seat.
 ///
 /// These lines are compiled in the crate `example_cache`:
 ///
@@ -29,9 +29,10 @@ use lfm_table::{Kept, TableSeat, Woken};
 /// ```
 #[derive(Drop)]
 pub struct Seat<T: Drop> {
-    /// What a step needs of the seat beside its state: the place at the table, the value while it is in hand, and the number.
+    /// What a step needs of the seat apart from its state: the place at the table, the value while it is in hand, and the
+    /// number.
     pub(crate) table_seat: TableSeat<T>,
-    /// The state of the seat. A fast path writes of it only what a call changes.
+    /// The state of the seat. A fast path writes only the fields that a call changes.
     pub(crate) state: SeatState,
     /// The seats that calls with this one have woken.
     pub(crate) woken: Woken,
@@ -41,7 +42,7 @@ pub struct Seat<T: Drop> {
     pub ghost rooted: { Rooted table_seat.place.table_id.words table_seat.place.id table_seat.number table_seat.limits table_seat.place.me.0 },
 }
 
-/// What a seat tells of itself. None of these touches a word of the mutex, allocates or waits.
+/// What a caller can read from a seat. None of these functions accesses a word of the mutex, allocates or waits.
 impl<T: Kept> Seat<T> {
     ghost use Rattle.lfm_mutex.specs.calls.Sight.{sight};
     ghost use Rattle.lfm_mutex.specs.Belongs.{budget_of};

@@ -1,4 +1,4 @@
-//! Sections: a seat comes to hold, a closure changes the value, and the seat gives up that hold.
+//! Sections: a seat locks, a closure changes the value, and the seat gives up that hold.
 ghost use Rattle.std.specs.Prelude.{◌≡◌, ◌+◌, ◌<◌, Some};
 ghost use Rattle.std.specs.Fn.{FnOnceReturnsAtMut};
 ghost use Rattle.lfm_mutex.specs.Belongs.{Beside, OfMutex, limits_of, tries_of};
@@ -15,12 +15,12 @@ use lfm_table::Kept;
 use std::sync::Wait;
 
 impl<T: Kept> Mutex<T> {
-    /// Comes to hold as `lock_barging` does, lends the value to the closure, and gives up that hold as `unlock` does, so that
-    /// the seat holds as often as before. Returns what the closure returned. The value that the closure leaves has to follow
-    /// the one that was found, and to suit the mutex, as `Kept` of its type says. Any u64 and any bool does.
+    /// Locks as `lock_barging` does, lends the value to the closure, and gives up that hold as `unlock` does, so that the seat
+    /// holds as often as before. Returns what the closure returned. The value that the closure leaves has to follow the one
+    /// that was found, and to suit the mutex, as `Kept` of its type says. For u64 and bool every value does.
     ///
     /// Refuses as `lock`: Asleep, DepthFull, Spent, in this order. Then the closure is not called, and nothing has changed. It
-    /// sleeps and wakes as these two calls do, and takes no memory.
+    /// sleeps and wakes as these two calls do, and allocates nothing.
     ///
     /// ```
     /// let total = mutex.with(&rt, &mut seat, |total| {
@@ -55,7 +55,7 @@ impl<T: Kept> Mutex<T> {
     /// `with` by `try_lock`: it never waits.
     ///
     /// Refuses as `try_lock`: Asleep, DepthFull, Spent, Busy, in this order. Then the closure is not called, and the seat is as
-    /// it was. Whatever others do, it makes at most 13 atomic steps more than the mutex has seats.
+    /// it was. Whatever other seats do, it makes at most N + 13 atomic steps, N being the number of seats.
     ///
     /// ```
     /// match mutex.try_with(&mut seat, |cache| cache.find(key)) {

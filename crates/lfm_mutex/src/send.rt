@@ -1,5 +1,5 @@
-//! `send_lock`: locks on behalf of a seat that waits, which then gains the mutex or is queued. Fast path: the target gains a
-//! free mutex, or is queued while no handoff is posted (`push`). Everything else is the slow path (`calls::finish`).
+//! `send_lock`: locks on behalf of a seat that waits, the target. Fast path: the target acquires a free mutex, or is queued
+//! while no handoff is posted (`push`). Everything else is the slow path (`calls::finish`).
 ghost use Rattle.std.specs.Prelude.{◌≡◌, ◌+◌, ◌<◌, ◌≤◌, length};
 ghost use Rattle.lfm_protocol.specs.declared.answers.Answer.TheVariants as Answered;
 ghost use Rattle.lfm_protocol.specs.declared.answers.Call.{Call as CallNow};
@@ -31,12 +31,12 @@ use lfm_table::{Kept, WakeUp};
 use lfm_words::Wake;
 
 impl<T: Kept> Mutex<T> {
-    /// Locks on behalf of a seat that has waited since its `start_wait`, the target: that seat gains the mutex or is queued.
-    /// The caller may hold the mutex or not, and is charged nothing.
+    /// Locks on behalf of the target, a seat that has waited since its `start_wait`: the target acquires the mutex or is
+    /// queued. The caller may hold the mutex or not, and is charged nothing.
     ///
-    /// Refuses, in this order: Asleep, NoSuchSeat (the target is above the mutex's seats), NotWaiting (the target
-    /// doesn't wait, or was sent before). It never waits, and wakes the seat that it grants the mutex, if any. It makes at
-    /// most 9 atomic steps more than the mutex has seats, and two for each exchange of the push word that fails because
+    /// Refuses, in this order: Asleep, NoSuchSeat (the target is above the number of seats), NotWaiting (the target doesn't
+    /// wait, or was already sent). It never waits, and wakes the seat to which it grants the mutex, if any. It makes at most N
+    /// + 9 atomic steps, N being the number of seats, and two more for each exchange of the push word that fails because
     /// another seat has changed the word.
     pub fn send_lock(&self, seat: &mut Seat<T>, target: SeatNo) -> Result<(), Refusal>
         requires belongs { OfMutex seat.old self.now }
@@ -52,8 +52,8 @@ impl<T: Kept> Mutex<T> {
         sent
     }
 
-    /// `send_lock`, with the same answers and refusals, which hands its caller the wake-up of the seat that it granted the
-    /// mutex, if any. The caller has to spend it by `wake`, or to wake that seat's thread by other means.
+    /// `send_lock`, with the same answers and refusals, but it wakes no thread. It also returns the wake-up of the seat to
+    /// which it granted the mutex, if any. The caller has to pass that to `wake`, or to wake that seat's thread by other means.
     pub fn send_lock_without_waking(
         &self,
         seat: &mut Seat<T>,
@@ -68,7 +68,7 @@ impl<T: Kept> Mutex<T> {
         ensures bounded { MakesBesideFailures ((limits_of self.now).seats + 9) (sight seat.old) (sight seat.new) }
         ensures wakes { Wakes (limits_of self.now).seats result.1 (sight seat.old).trail (sight seat.new).trail }
     {
-        // These checks find a call that is refused at its start. The slow path makes them again to say which refusal it is.
+        // These checks find a call that is refused at its start. The slow path repeats them, to return the right refusal.
         if asleep(&seat.state) {
             return send_slow(self, seat, target);
         }
@@ -150,8 +150,8 @@ fn send_without_hold<T: Kept>(
     (Ok(()), wake_up)
 }
 
-/// The same for a seat that holds, so that the count is at least 1. That is a fact of the invariant, not of this contract; the
-/// slow path handles a 0.
+/// The same for a seat that holds. The count is then at least 1 by the invariant, but not by this contract, so the slow path
+/// handles a 0.
 #[inline(always)]
 fn send_with_hold<T: Kept>(
     mutex: &Mutex<T>,
@@ -245,7 +245,7 @@ fn finish_send<T: Kept>(
     }
 }
 
-/// The whole of `send_lock` by the slow path. Only a call that is refused comes here.
+/// The whole of `send_lock` by the slow path. Only a refused call is made in this way.
 #[inline(always)]
 fn send_slow<T: Kept>(
     mutex: &Mutex<T>,

@@ -1,5 +1,5 @@
-//! How a release that found others in the count serves the oldest queued seat, for an `unlock` as for a `start_wait`. Fast
-//! path: the pop list has a record, or the push list has exactly one. Everything else is the slow path (`calls::finish`).
+//! How a release that found others in the count serves the oldest queued seat, in `unlock` and in `start_wait`. Fast path: the
+//! pop list has a record, or the push list has exactly one. Everything else is the slow path (`calls::finish`).
 ghost use Rattle.std.specs.Prelude.{◌≡◌, ◌+◌, ◌≤◌, length, false};
 ghost use Rattle.lfm_protocol.specs.declared.points.Carrier.{Carrier as CarrierNow};
 ghost use Rattle.lfm_protocol.specs.declared.points.Point.TheVariants.{GrantWakeStore, TakeClearHead};
@@ -51,7 +51,7 @@ fn finish_release<T: Kept>(
     }
 }
 
-/// Stores the point at which a release that found others in the count serves the oldest seat. Out of line, as `stop_at`.
+/// Stores the point at which a release that found others in the count serves the oldest seat. Out of line, like `stop_at`.
 #[inline(never)]
 pub(crate) fn stop_at_serving<T: Kept>(
     state: &mut SeatState,
@@ -67,7 +67,7 @@ pub(crate) fn stop_at_serving<T: Kept>(
     };
 }
 
-/// Stores the grant for the seat of the oldest record. That ends an `unlock`; a `start_wait` then stores its own wake word.
+/// Stores the grant for the seat of the oldest record. An `unlock` ends with it; a `start_wait` then stores its own wake word.
 #[inline(always)]
 fn grant<T: Kept>(
     mutex: &Mutex<T>,
@@ -108,7 +108,8 @@ fn grant<T: Kept>(
 }
 
 /// Clears the push list. If the list had one record, that is the oldest, and it is served. If it had none, a seat is counted
-/// and not queued yet, and the release posts. If it had more, the oldest is found last, after one load for each: slow path.
+/// and not queued yet, and the release posts. If it had more, the oldest is found last, after one load for each record: the
+/// slow path does that.
 #[inline(always)]
 fn serve_pushed<T: Kept>(
     mutex: &Mutex<T>,

@@ -31,9 +31,9 @@ pub use crate::steps::kinds::{
     store_owner, store_wake, subtract_count,
 };
 
-/// Begins a call: makes the checks in the order of the refusals, charges the take, and sets the first point. It answers what
-/// the core's `begin` answers for these data of the seat: Open if steps follow, the answer if none does, the refusal, or InCall
-/// if a call of the seat is open. It touches no word and never waits.
+/// Begins a call: makes the checks in the order of the refusals, charges the take, and sets the first point. It returns what
+/// the core's `begin` returns for this state of the seat: Open if steps follow, the answer if no step follows, the refusal, or
+/// InCall if a call of the seat is already open. It accesses no word and never waits.
 pub fn start<T: Kept>(mutex: &Mutex<T>, seat: &mut Seat<T>, call: Call) -> Turn
     requires belongs { OfMutex seat.old mutex.now }
     ensures belongs { Beside seat.old seat.new }
@@ -45,10 +45,10 @@ pub fn start<T: Kept>(mutex: &Mutex<T>, seat: &mut Seat<T>, call: Call) -> Turn
 }
 
 /// Makes the one atomic step at the seat's point: one operation on one word, and then the seat's own method of the core for
-/// that kind of step. It answers Open if the call goes on, the answer or refusal that ends the call, or Idle if no call of the
-/// seat is open. At the store that ends a hold, the value that is left has to follow the one that was found.
+/// that kind of step. It returns Open if the call goes on, the answer or refusal that ends the call, or Idle if no call of the
+/// seat is open. At the store that ends a hold, the value that the seat leaves has to follow the one that it found.
 ///
-/// It never waits, and wakes the seat whose grant it stores.
+/// It never waits. If it stores a grant, it wakes the seat that is granted the mutex.
 pub fn next<T: Kept>(mutex: &Mutex<T>, seat: &mut Seat<T>) -> Turn
     requires belongs { OfMutex seat.old mutex.now }
     requires leaves { is_release (state_of seat.old).point ≡ true → MayLeave T.follows T.fits (sight seat.old) }
@@ -91,8 +91,8 @@ pub(crate) fn begin_call<T: Kept>(mutex: &Mutex<T>, seat: &mut Seat<T>, call: Ca
     seat.state.begin(limits, call)
 }
 
-/// `next`, with the contract on which the proofs of the calls build. It wakes nobody, and hands out the wake-up of the seat
-/// that it granted.
+/// `next`, with the contract on which the proofs of the calls build. It wakes no thread. It returns the wake-up of the seat to
+/// which it granted the mutex, if any.
 pub(crate) fn make_next<T: Kept>(mutex: &Mutex<T>, seat: &mut Seat<T>) -> (Turn, Option<WakeUp>)
     requires belongs { seat.old.table_seat.place.table_id ≡ mutex.now.table.table_id }
     requires leaves { (r : Releaser) → seat.old.state.point ≡ ReleaseOwnerStore r → MayBeLeft T.follows T.fits seat.old.table_seat.moving seat.old.table_seat.place.me.0 }

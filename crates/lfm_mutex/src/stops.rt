@@ -1,7 +1,8 @@
-//! The points at which the fast path of a `lock` or a `try_lock`, or a push, stops. There the slow path (`calls::finish`) or
-//! `queue` takes the call over. The path says where it stops by a value of one or two words, and a function out of line stores
-//! the point. A `Point` has more words. If the fast path built one itself, it would lie in memory that the compiler clears
-//! before the first atomic step, also if the path does not stop.
+//! The points at which a fast path of `lock` or `try_lock`, or a push, stops. There the slow path (`calls::finish`) or `queue`
+//! takes over the call. The fast paths of `lock` and `try_lock` pass where they stop as a `Stop`, or as the handoff word that
+//! they loaded. A push returns it as a `PushStop`. Each is one or two words, and a function out of line stores the point. A
+//! `Point` has more words: if one of these paths built one itself, the compiler would clear its memory before the first atomic
+//! step, even if the path does not stop. The points of `unlock`, `start_wait` and `send_lock` are stored in `serve` and `send`.
 ghost use Rattle.std.specs.Prelude.{◌≡◌};
 ghost use Rattle.lfm_protocol.specs.declared.points.Point.TheVariants.{TryHandoffExchange};
 ghost use Rattle.lfm_laws.specs.table.Words.{handoff_of};
@@ -12,7 +13,7 @@ use lfm_protocol::SeatState;
 use lfm_protocol::points::{Entrant, Point, Pusher};
 use lfm_words::{unpack_handoff, unpack_link};
 
-/// Where a fast path stops that has no word to pass on.
+/// Where a fast path of `lock` or `try_lock` stops if it has no word to pass on.
 #[derive(Clone, Copy)]
 pub(crate) enum Stop {
     /// A `lock` of a seat that doesn't hold found others in the count. The load of the owner is next.
@@ -30,13 +31,13 @@ pub(crate) enum Stop {
 /// Where a push stops, with the word that it found. The word is unpacked out of line too.
 #[derive(Clone, Copy)]
 pub(crate) enum PushStop {
-    /// Another seat has changed the push word to this one. The pusher's link is to be stored anew.
+    /// Another seat has changed the push word to this one. The pusher's link has to be stored again.
     Changed(u64),
     /// The record is queued, and this handoff word has a post. A seat has released meanwhile, and found no record.
     Posted(u64),
 }
 
-/// Stores the point at which a fast path stops. Out of line, since it happens seldom.
+/// Stores the point at which a fast path stops. Out of line, since it happens rarely.
 #[inline(never)]
 pub(crate) fn stop_at(state: &mut SeatState, stop: Stop)
     ensures { state.new ≡ record state.old { point = stop_point stop } }
@@ -50,7 +51,7 @@ pub(crate) fn stop_at(state: &mut SeatState, stop: Stop)
     };
 }
 
-/// Stores the point at which a push stops. Out of line, as `stop_at`.
+/// Stores the point at which a push stops. Out of line, like `stop_at`.
 #[inline(never)]
 pub(crate) fn stop_at_push(state: &mut SeatState, pusher: Pusher, stop: PushStop)
     ensures { state.new ≡ record state.old { point = push_stop_point pusher stop } }
@@ -66,7 +67,7 @@ pub(crate) fn stop_at_push(state: &mut SeatState, pusher: Pusher, stop: PushStop
     };
 }
 
-/// Stores the point at which a `try_lock` has found a handoff posted in this word. Out of line, as `stop_at`.
+/// Stores the point at which a `try_lock` has found a post in this handoff word. Out of line, like `stop_at`.
 #[inline(never)]
 pub(crate) fn stop_at_post(state: &mut SeatState, word: u64)
     ensures { state.new ≡ record state.old { point = TryHandoffExchange (handoff_of word) } }

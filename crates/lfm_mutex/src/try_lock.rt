@@ -1,5 +1,5 @@
-//! `try_lock`. Fast path: the mutex is free, the seat holds it, or another seat does and no handoff is posted. Everything else
-//! is the slow path (`calls::finish`).
+//! `try_lock`. Fast path: the mutex is free, the seat holds it, or another seat holds it and no handoff is posted. Everything
+//! else is the slow path (`calls::finish`).
 ghost use Rattle.std.specs.Prelude.{◌≡◌, ◌<◌};
 ghost use Rattle.lfm_protocol.specs.declared.answers.Call.{Call as CallNow};
 ghost use Rattle.lfm_protocol.specs.declared.points.Point.TheVariants.{Rest};
@@ -27,12 +27,13 @@ use lfm_table::{Kept, WakeUp};
 use lfm_words::Handoff;
 
 impl<T: Kept> Mutex<T> {
-    /// Gains the mutex or deepens the hold without queueing. A gain is charged one take. A post that no one has accepted is
-    /// accepted.
+    /// Acquires the mutex or deepens the hold, without queueing. An acquisition is charged one take. If it finds a post that no
+    /// other call has accepted, it accepts it.
     ///
-    /// Refuses, in this order: Asleep, DepthFull and Spent as `ask`, and Busy: the count was not 0, another seat was the owner,
-    /// and no post stood there or another call was faster to accept it. Busy gives its charge back. It never waits and wakes
-    /// nobody. Whatever others do, it makes at most 6 atomic steps. As `trylock` of OSv's lfmutex.
+    /// Refuses, in this order: Asleep, DepthFull and Spent as `ask`, and Busy: the count was not 0, this seat was not the
+    /// owner, and nothing was posted or another call was faster to accept the post. Busy gives the charge back. It never waits
+    /// and wakes no thread. Whatever other seats do, it makes at most 6 atomic steps. It corresponds to `trylock` of OSv's
+    /// lfmutex.
     #[inline(always)]
     pub fn try_lock(&self, seat: &mut Seat<T>) -> Result<Locked, Refusal>
         requires belongs { OfMutex seat.old self.now }
@@ -83,7 +84,7 @@ pub fn try_without_hold<T: Kept>(mutex: &Mutex<T>, seat: &mut Seat<T>) -> Result
     };
     let found = gain::<CountExchange, T>(table, &mut seat.table_seat, &state);
     if found == 0 {
-        // The plain writes stand together, in this gap between two steps: see `steps` of `lfm_table`.
+        // The plain writes are together, between two steps: see `steps` of `lfm_table`.
         seat.state.depth = 1;
         seat.state.takes = takes;
         state.point = Point::EnterOwnerStore(Entrant::Trier, How::Free);
@@ -156,7 +157,7 @@ fn finish_try<T: Kept>(mutex: &Mutex<T>, seat: &mut Seat<T>) -> Result<Locked, R
     }
 }
 
-/// The whole of `try_lock` by the slow path. Only a call that is refused at its start comes here.
+/// The whole of `try_lock` by the slow path. Only a call that is refused at its start is made in this way.
 #[inline(always)]
 fn try_slow<T: Kept>(mutex: &Mutex<T>, seat: &mut Seat<T>) -> Result<Locked, Refusal>
     requires belongs { OfMutex seat.old mutex.now }

@@ -1,4 +1,4 @@
-//! `unlock`. Fast path: the seat holds more than once, nobody waits, or the oldest queued seat is served (`serve`). It writes
+//! `unlock`. Fast path: the seat holds more than once, no seat waits, or the oldest queued seat is served (`serve`). It writes
 //! only the fields of the seat that change. Everything else is the slow path (`calls::finish`).
 ghost use Rattle.std.specs.Prelude.{◌≡◌, ◌+◌, ◌<◌};
 ghost use Rattle.lfm_protocol.specs.declared.answers.Answer.TheVariants as Answered;
@@ -25,12 +25,12 @@ use lfm_table::steps::{keep_held, retake};
 use lfm_table::{Kept, WakeUp};
 
 impl<T: Kept> Mutex<T> {
-    /// Gives up one hold, and at depth 1 the mutex: to the oldest queued seat, or by a post to a locker that is not queued yet,
-    /// or to nobody. At depth 1 the value that is left has to follow the one that was found.
+    /// Gives up one hold. At depth 1 it gives up the mutex: to the oldest queued seat, or by a post to a locker that is not
+    /// queued yet, or leaves it free. At depth 1 the value that the seat leaves has to follow the one that it found.
     ///
-    /// Refuses, in this order: Asleep, NotOwner (the seat doesn't hold). It never waits, and wakes the seat that it grants
-    /// the mutex, if any. Whatever others do, it makes at most 7 atomic steps more than the mutex has seats. As `unlock`
-    /// of LFthreads' mutex and of OSv's lfmutex.
+    /// Refuses, in this order: Asleep, NotOwner (the seat doesn't hold). It never waits, and wakes the seat to which it grants
+    /// the mutex, if any. Whatever other seats do, it makes at most N + 7 atomic steps, N being the number of seats. It
+    /// corresponds to `unlock` of LFthreads' mutex and of OSv's lfmutex.
     #[inline(always)]
     pub fn unlock(&self, seat: &mut Seat<T>) -> Result<Unlocked, Refusal>
         requires belongs { OfMutex seat.old self.now }
@@ -47,8 +47,8 @@ impl<T: Kept> Mutex<T> {
         unlocked
     }
 
-    /// `unlock`, with the same answers and refusals, which hands its caller the wake-up of the seat that it granted the mutex,
-    /// if any. The caller has to spend it by `wake`, or to wake that seat's thread by other means.
+    /// `unlock`, with the same answers and refusals, but it wakes no thread. It also returns the wake-up of the seat to which
+    /// it granted the mutex, if any. The caller has to pass that to `wake`, or to wake that seat's thread by other means.
     #[inline(always)]
     pub fn unlock_without_waking(
         &self,
@@ -99,7 +99,7 @@ pub fn unlock_last_hold<T: Kept>(mutex: &Mutex<T>, seat: &mut Seat<T>) -> (Unloc
         ..seat.state
     };
     keep_held::<OwnerStore, T>(table, &mut seat.table_seat, &state);
-    // The plain writes stand together, in this gap between two steps: see `steps` of `lfm_table`.
+    // The plain writes are together, between two steps: see `steps` of `lfm_table`.
     seat.state.depth = 0;
     state.depth = 0;
     state.point = Point::ReleaseCountSubtract(Releaser::Unlocker);
@@ -128,7 +128,7 @@ pub fn unlock_inner_hold<T: Kept>(mutex: &Mutex<T>, seat: &mut Seat<T>) -> Unloc
     Unlocked::Still(seat.state.depth)
 }
 
-/// The whole of `unlock` by the slow path. Only a call that is refused comes here.
+/// The whole of `unlock` by the slow path. Only a refused call is made in this way.
 #[inline(always)]
 fn unlock_slow<T: Kept>(
     mutex: &Mutex<T>,

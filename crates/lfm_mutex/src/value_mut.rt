@@ -1,4 +1,4 @@
-//! Lending the value to be written. The clause names the row of `Seat`, which the file that declares `Seat` cannot import.
+//! Lends the value for writing. The clause names the row of `Seat`, which the file that declares `Seat` cannot import.
 ghost use Rattle.std.specs.Prelude.{◌≡◌, ◌<◌, Some, MatchOption};
 ghost use Rattle.std.specs.Borrow.{sem};
 ghost use Rattle.lfm_mutex.specs.ValueMut.{LendsValue};

@@ -1,5 +1,5 @@
-//! `start_wait`: the mutex is given up, and the seat sleeps until it is sent. Its fast path is that of `unlock`, with the store
-//! of the seat's own wake word at the end. Everything else is the slow path (`calls::finish`).
+//! `start_wait`: the seat gives up the mutex, and sleeps until another seat sends it. Its fast path is that of `unlock`, with
+//! the store of the seat's own wake word at the end. Everything else is the slow path (`calls::finish`).
 ghost use Rattle.std.specs.Prelude.{◌≡◌, ◌+◌, ◌<◌};
 ghost use Rattle.lfm_protocol.specs.declared.answers.Answer.TheVariants as Answered;
 ghost use Rattle.lfm_protocol.specs.declared.answers.Call.{Call as CallNow};
@@ -25,12 +25,12 @@ use lfm_table::steps::{keep, keep_held, retake};
 use lfm_table::{Kept, WakeUp};
 
 impl<T: Kept> Mutex<T> {
-    /// Gives up the mutex as `unlock` does, and falls asleep until another seat sends this one. It charges the take
-    /// that ends the wait. It never answers Still.
+    /// Gives up the mutex as `unlock` does, and puts the seat to sleep until another seat sends it. It charges the take by
+    /// which the seat acquires the mutex again. It never answers Still.
     ///
-    /// Refuses, in this order: Asleep, NotOwner, Nested (the seat holds above depth 1), Spent (it has no take left). It
-    /// never waits: a receive does. Whatever others do, it makes at most 8 atomic steps more than the mutex has seats. As
-    /// the first half of `wait` of OSv's condition variable.
+    /// Refuses, in this order: Asleep, NotOwner, Nested (the seat holds above depth 1), Spent (it has no take left). It never
+    /// waits: a receive does. It wakes the seat to which it grants the mutex, if any. Whatever other seats do, it makes at most
+    /// N + 8 atomic steps, N being the number of seats. It corresponds to the first half of `wait` of OSv's condition variable.
     pub fn start_wait(&self, seat: &mut Seat<T>) -> Result<Unlocked, Refusal>
         requires belongs { OfMutex seat.old self.now }
         requires leaves { MayRelease T.follows T.fits (sight seat.old) }
@@ -46,8 +46,8 @@ impl<T: Kept> Mutex<T> {
         released
     }
 
-    /// `start_wait`, with the same answers and refusals, which hands its caller the wake-up of the seat that it granted the
-    /// mutex, if any. The caller has to spend it by `wake`, or to wake that seat's thread by other means.
+    /// `start_wait`, with the same answers and refusals, but it wakes no thread. It also returns the wake-up of the seat to
+    /// which it granted the mutex, if any. The caller has to pass that to `wake`, or to wake that seat's thread by other means.
     pub fn start_wait_without_waking(
         &self,
         seat: &mut Seat<T>,
@@ -62,7 +62,7 @@ impl<T: Kept> Mutex<T> {
         ensures bounded { MakesAtMost ((limits_of self.now).seats + 8) (sight seat.old) (sight seat.new) }
         ensures wakes { Wakes (limits_of self.now).seats result.1 (sight seat.old).trail (sight seat.new).trail }
     {
-        // These checks find a call that is refused at its start. The slow path makes them again to say which refusal it is.
+        // These checks find a call that is refused at its start. The slow path repeats them, to return the right refusal.
         if asleep(&seat.state) {
             return wait_slow(self, seat);
         }
@@ -102,7 +102,7 @@ pub fn wait_last_hold<T: Kept>(mutex: &Mutex<T>, seat: &mut Seat<T>) -> (Unlocke
         ..seat.state
     };
     keep_held::<OwnerStore, T>(table, &mut seat.table_seat, &state);
-    // The plain writes stand together, in this gap between two steps: see `steps` of `lfm_table`.
+    // The plain writes are together, between two steps: see `steps` of `lfm_table`.
     seat.state.depth = 0;
     seat.state.takes = takes;
     state.depth = 0;
@@ -118,7 +118,7 @@ pub fn wait_last_hold<T: Kept>(mutex: &Mutex<T>, seat: &mut Seat<T>) -> (Unlocke
     (Unlocked::Free, None)
 }
 
-/// The whole of `start_wait` by the slow path. Only a call that is refused comes here.
+/// The whole of `start_wait` by the slow path. Only a refused call is made in this way.
 #[inline(always)]
 fn wait_slow<T: Kept>(
     mutex: &Mutex<T>,

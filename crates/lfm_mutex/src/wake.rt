@@ -12,8 +12,8 @@ use lfm_table::parking::wake;
 use lfm_table::{Kept, WakeUp, Woken};
 
 impl<T: Kept> Mutex<T> {
-    /// Wakes the thread of the seat that a call of this mutex has granted it, if there is such a seat and its thread parks. It
-    /// is one call of the system, makes no atomic step and never waits.
+    /// Wakes the thread of the seat to which a call has granted this mutex, if there is such a seat and its thread is parked.
+    /// With a wake-up it makes one system call. It makes no atomic step and never waits.
     #[inline(always)]
     pub fn wake(&self, wake_up: Option<WakeUp>)
         requires { (t : ℕ) → wake_up ≡ Some t → t ≤ (limits_of self.now).seats }
@@ -22,7 +22,7 @@ impl<T: Kept> Mutex<T> {
         self.wake_seat(wake_up, &mut woken);
     }
 
-    /// `wake`, for a call that was made with this seat: the seat that it wakes is the next that this one has woken.
+    /// `wake`, for a call that was made with this seat. The seat that it wakes is added to those that this seat has woken.
     #[inline(always)]
     pub fn wake_from(&self, seat: &mut Seat<T>, wake_up: Option<WakeUp>)
         requires belongs { OfMutex seat.old self.now }
@@ -35,7 +35,7 @@ impl<T: Kept> Mutex<T> {
         self.wake_seat(wake_up, &mut seat.woken);
     }
 
-    /// `wake`, which adds to the seats that were woken.
+    /// `wake`, which adds the seat that it wakes to `woken`.
     #[inline(always)]
     pub(crate) fn wake_seat(&self, wake_up: Option<WakeUp>, woken: &mut Woken)
         requires { (t : ℕ) → wake_up ≡ Some t → t ≤ (limits_of self.now).seats }

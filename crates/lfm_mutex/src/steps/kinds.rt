@@ -1,8 +1,8 @@
 //! The atomic step of each kind by itself: one operation on one word, and then the seat's own method of the core for that kind.
-//! Each has the condition that the seat's point is of its kind, and is one event of the core.
+//! Each function requires that the seat's point is of its kind, and is one event of the core.
 //!
-//! Each answers Open if the call goes on, and else the answer or refusal that ends the call. None of them waits or takes
-//! memory, and `store_wake` alone wakes a seat.
+//! Each returns Open if the call goes on, and otherwise the answer or refusal that ends the call. None of them waits or
+//! allocates, and only `store_wake` wakes a seat.
 ghost use Rattle.std.specs.Prelude.{◌≡◌, ◌≢◌, true, false, Some};
 ghost use Rattle.lfm_protocol.specs.declared.kinds.Kind.{Kind as KindNow};
 ghost use Rattle.lfm_protocol.specs.declared.points.Point.TheVariants.{ReleaseOwnerStore};
@@ -28,8 +28,8 @@ use lfm_table::transition::{add_loaded, advance, drop_oldest, oldest_of};
 use lfm_table::{Kept, WakeUp};
 use std::marker::Brand;
 
-/// Makes the step at the seat's point, which is of this kind, and hands out the wake-up of the seat that it granted. The proofs
-/// of the calls build on this contract.
+/// Makes the step at the seat's point, which is of this kind, and returns the wake-up of the seat to which it granted the
+/// mutex, if any. The proofs of the calls build on this contract.
 #[inline(always)]
 pub(crate) fn make_of<T: Kept>(
     mutex: &Mutex<T>,
@@ -49,15 +49,15 @@ pub(crate) fn make_of<T: Kept>(
     let table = &mutex.table;
     let number = seat.table_seat.number;
     let state = seat.state;
-    // What the step may give away leaves this seat's hands before it: once the word is stored, the next owner may come. So the
-    // record that the step serves leaves the pop list, and then the value, with that list, goes into its slot.
+    // What the step may give away is put back before the step: once the word is stored, the next owner may use it. So the
+    // record that the step serves is removed from the pop list, and then the value, with that list, is put into its slot.
     let may_give = gives(state.point);
     drop_oldest(&mut seat.table_seat.moving, &state);
     prepare(table, &mut seat.table_seat, may_give);
     let (found, wake_up) = make_step::<T, Brand>(kind, table, &mut seat.table_seat, &state);
-    // What the step has brought is taken in after it: the record of a loaded link, or the value, if the seat carries it now.
-    // `settle` tells that by `carries_after` before the seat moves on, since `advance`, the proved transition, needs the oldest
-    // record, which lies with the value.
+    // What the step brings is taken after it: the record of a loaded link, or the value, if the seat carries it now. `settle`
+    // decides that by `carries_after` before `advance` changes the seat's state. `advance`, the proved transition, needs the
+    // oldest record, which is kept with the value.
     add_loaded(&mut seat.table_seat.moving, number, &state, found);
     settle(table, &mut seat.table_seat, &state, found);
     let oldest = oldest_of(&seat.table_seat.moving);
@@ -98,7 +98,7 @@ fn make_within<T: Kept>(mutex: &Mutex<T>, seat: &mut Seat<T>, kind: Kind) -> Tur
     make_waking_none(mutex, seat, kind)
 }
 
-/// Compare-and-exchange of the count from 0 to 1, which finds the count: the first step of a `try_lock`.
+/// Compare-and-exchange of the count from 0 to 1, which reads the count: the first step of a `try_lock`.
 pub fn exchange_count<T: Kept>(mutex: &Mutex<T>, seat: &mut Seat<T>) -> Turn
     requires belongs { OfMutex seat.old mutex.now }
     requires is_next { kind_of (state_of seat.old).point ≡ Some KindNow.CountExchange }
@@ -110,8 +110,8 @@ pub fn exchange_count<T: Kept>(mutex: &Mutex<T>, seat: &mut Seat<T>) -> Turn
     make_within(mutex, seat, Kind::CountExchange)
 }
 
-/// Adds 1 to the count, and finds the count before: a locker or a sender comes in, or a `try_lock` that took a post
-/// over.
+/// Adds 1 to the count, and reads the count before: for a `lock`, for the target of a `send_lock`, or for a `try_lock` that
+/// accepted a post.
 pub fn add_count<T: Kept>(mutex: &Mutex<T>, seat: &mut Seat<T>) -> Turn
     requires belongs { OfMutex seat.old mutex.now }
     requires is_next { kind_of (state_of seat.old).point ≡ Some KindNow.CountAdd }
@@ -123,8 +123,8 @@ pub fn add_count<T: Kept>(mutex: &Mutex<T>, seat: &mut Seat<T>) -> Turn
     make_within(mutex, seat, Kind::CountAdd)
 }
 
-/// Subtracts 1 from the count, and finds the count before: a release gives up its part, or a locker that owns takes its
-/// own back.
+/// Subtracts 1 from the count, and reads the count before: for a release, or for a `lock` of a seat that already owns and had
+/// counted itself.
 pub fn subtract_count<T: Kept>(mutex: &Mutex<T>, seat: &mut Seat<T>) -> Turn
     requires belongs { OfMutex seat.old mutex.now }
     requires is_next { kind_of (state_of seat.old).point ≡ Some KindNow.CountSubtract }
@@ -136,7 +136,7 @@ pub fn subtract_count<T: Kept>(mutex: &Mutex<T>, seat: &mut Seat<T>) -> Turn
     make_within(mutex, seat, Kind::CountSubtract)
 }
 
-/// Loads the owner word: a `lock` or `try_lock` sees whether its own seat owns.
+/// Loads the owner word: a `lock` or `try_lock` checks whether its own seat owns.
 pub fn load_owner<T: Kept>(mutex: &Mutex<T>, seat: &mut Seat<T>) -> Turn
     requires belongs { OfMutex seat.old mutex.now }
     requires is_next { kind_of (state_of seat.old).point ≡ Some KindNow.OwnerLoad }
@@ -148,8 +148,8 @@ pub fn load_owner<T: Kept>(mutex: &Mutex<T>, seat: &mut Seat<T>) -> Turn
     make_within(mutex, seat, Kind::OwnerLoad)
 }
 
-/// Stores the owner word: 0 as a release ends a hold, or the seat's own number as it comes to hold. At the store that ends a
-/// hold, what is in hand has to follow what was found.
+/// Stores the owner word: 0 when a release ends a hold, or the seat's own number when it acquires the mutex. At the store that
+/// ends a hold, the value in hand has to follow the one that was found.
 pub fn store_owner<T: Kept>(mutex: &Mutex<T>, seat: &mut Seat<T>) -> Turn
     requires belongs { OfMutex seat.old mutex.now }
     requires is_next { kind_of (state_of seat.old).point ≡ Some KindNow.OwnerStore }
@@ -174,7 +174,7 @@ pub fn load_push<T: Kept>(mutex: &Mutex<T>, seat: &mut Seat<T>) -> Turn
     make_within(mutex, seat, Kind::PushLoad)
 }
 
-/// Compare-and-exchange of the push word that was seen for one that has the pushed record as its newest.
+/// Compare-and-exchange of the push word, from the word that was seen to one that has the pushed record as its newest.
 pub fn exchange_push<T: Kept>(mutex: &Mutex<T>, seat: &mut Seat<T>) -> Turn
     requires belongs { OfMutex seat.old mutex.now }
     requires is_next { kind_of (state_of seat.old).point ≡ Some KindNow.PushExchange }
@@ -186,8 +186,7 @@ pub fn exchange_push<T: Kept>(mutex: &Mutex<T>, seat: &mut Seat<T>) -> Turn
     make_within(mutex, seat, Kind::PushExchange)
 }
 
-/// Clears the head of the push word, keeps its stamp, and finds the word before: the carrier takes the pushed records
-/// over.
+/// Clears the head of the push word, keeps its stamp, and reads the word before: the carrier takes over the pushed records.
 pub fn clear_head<T: Kept>(mutex: &Mutex<T>, seat: &mut Seat<T>) -> Turn
     requires belongs { OfMutex seat.old mutex.now }
     requires is_next { kind_of (state_of seat.old).point ≡ Some KindNow.ClearHead }
@@ -224,7 +223,7 @@ pub fn store_link<T: Kept>(mutex: &Mutex<T>, seat: &mut Seat<T>) -> Turn
     make_within(mutex, seat, Kind::LinkStore)
 }
 
-/// Loads the handoff word: the post that stands, if any.
+/// Loads the handoff word: the current post, if any.
 pub fn load_handoff<T: Kept>(mutex: &Mutex<T>, seat: &mut Seat<T>) -> Turn
     requires belongs { OfMutex seat.old mutex.now }
     requires is_next { kind_of (state_of seat.old).point ≡ Some KindNow.HandoffLoad }
@@ -236,7 +235,7 @@ pub fn load_handoff<T: Kept>(mutex: &Mutex<T>, seat: &mut Seat<T>) -> Turn
     make_within(mutex, seat, Kind::HandoffLoad)
 }
 
-/// Stores a fresh post of the seat in the handoff word.
+/// Stores a new post of the seat in the handoff word.
 pub fn store_handoff<T: Kept>(mutex: &Mutex<T>, seat: &mut Seat<T>) -> Turn
     requires belongs { OfMutex seat.old mutex.now }
     requires is_next { kind_of (state_of seat.old).point ≡ Some KindNow.HandoffStore }
@@ -248,7 +247,7 @@ pub fn store_handoff<T: Kept>(mutex: &Mutex<T>, seat: &mut Seat<T>) -> Turn
     make_within(mutex, seat, Kind::HandoffStore)
 }
 
-/// Compare-and-exchange of an expected post for none in the handoff word: the post is accepted, taken over, or taken back.
+/// Compare-and-exchange of the handoff word, from an expected post to none: the post is accepted, taken over, or taken back.
 pub fn exchange_handoff<T: Kept>(mutex: &Mutex<T>, seat: &mut Seat<T>) -> Turn
     requires belongs { OfMutex seat.old mutex.now }
     requires is_next { kind_of (state_of seat.old).point ≡ Some KindNow.HandoffExchange }
@@ -260,7 +259,7 @@ pub fn exchange_handoff<T: Kept>(mutex: &Mutex<T>, seat: &mut Seat<T>) -> Turn
     make_within(mutex, seat, Kind::HandoffExchange)
 }
 
-/// Loads the seat's own wake word: a receive finds its grant there, or none.
+/// Loads the seat's own wake word: a receive checks for its grant.
 pub fn load_wake<T: Kept>(mutex: &Mutex<T>, seat: &mut Seat<T>) -> Turn
     requires belongs { OfMutex seat.old mutex.now }
     requires is_next { kind_of (state_of seat.old).point ≡ Some KindNow.WakeLoad }
@@ -272,7 +271,7 @@ pub fn load_wake<T: Kept>(mutex: &Mutex<T>, seat: &mut Seat<T>) -> Turn
     make_within(mutex, seat, Kind::WakeLoad)
 }
 
-/// Stores a wake word: a grant, which wakes its seat; or the seat's own as it waits, or no longer sleeps.
+/// Stores a wake word: a grant, whose seat it wakes, or the seat's own, when it starts to wait or no longer sleeps.
 pub fn store_wake<T: Kept>(mutex: &Mutex<T>, seat: &mut Seat<T>) -> Turn
     requires belongs { OfMutex seat.old mutex.now }
     requires is_next { kind_of (state_of seat.old).point ≡ Some KindNow.WakeStore }
@@ -286,7 +285,7 @@ pub fn store_wake<T: Kept>(mutex: &Mutex<T>, seat: &mut Seat<T>) -> Turn
     turn
 }
 
-/// Compare-and-exchange of the wake word of a seat that waits, so that this sender alone sends it.
+/// Compare-and-exchange of the wake word of a seat that waits, so that only this sender sends it.
 pub fn exchange_wake<T: Kept>(mutex: &Mutex<T>, seat: &mut Seat<T>) -> Turn
     requires belongs { OfMutex seat.old mutex.now }
     requires is_next { kind_of (state_of seat.old).point ≡ Some KindNow.WakeExchange }

@@ -6,6 +6,6 @@ use Rattle.lfm_mutex.specs.Belongs.{OfMutex}
 use mathlib.Core.Option.{some}
 use lib.ListN.{get_elem?}
 
--- each of them is a seat of the mutex
+-- each item of the list is a seat of the mutex
 abbrev pub SeatsOf : {T : Type 0} → List (Seat T) → Mutex T → Type 0
 SeatsOf seats m = (j : ℕ) (s : _) → get_elem? seats j ≡ some s → OfMutex s m

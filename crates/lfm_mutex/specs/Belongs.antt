@@ -1,4 +1,4 @@
--- What belongs to a mutex, and what its own data are. Contracts name a mutex and its seats by these words alone.
+-- What belongs to a mutex, and a seat's own state. The names by which contracts speak of a mutex and its seats.
 use Rattle.std.specs.Prelude.{◌≡◌, ℕ, ◌+◌}
 use Rattle.lfm_protocol.specs.declared.limits.Limits.{Limits}
 use Rattle.lfm_protocol.specs.declared.seats.SeatState.{SeatState}
@@ -9,7 +9,7 @@ use Rattle.lfm_mutex.specs.declared.mutex.Mutex.{Mutex}
 abbrev pub limits_of : {T : Type 0} → Mutex T → Limits
 limits_of m = m.limits
 
--- the seat is one of the mutex's
+-- the seat is one of this mutex
 abbrev pub OfMutex : {T : Type 0} → Seat T → Mutex T → Type 0
 OfMutex s m = (s.table_seat.place.table_id ≡ m.table.table_id) × (s.table_seat.limits ≡ m.limits)
 
@@ -21,10 +21,10 @@ Beside s t = (t.table_seat.place.table_id ≡ s.table_seat.place.table_id) × (t
 abbrev pub budget_of : {T : Type 0} → Seat T → ℕ
 budget_of s = s.table_seat.limits.budget
 
--- the seat's own data, as the core has them
+-- the seat's own state, as in the core
 abbrev pub state_of : {T : Type 0} → Seat T → SeatState
 state_of s = s.state
 
--- how often a seat tries at most before it queues: at each spin and after each nap of the mutex's pace
+-- how often a seat tries at most before it queues: once for each spin and each nap of the pace of the mutex
 abbrev pub tries_of : {T : Type 0} → Mutex T → ℕ
 tries_of m = m.pace.spins + m.pace.naps

@@ -1,4 +1,5 @@
--- What keeps a mutex from being closed, and what a close gives back. A seat lies in something of type A, and `look` says how it is seen.
+-- What keeps a mutex from being closed, and what a close returns. A is the type in which a caller keeps a seat; `look` gives
+-- the sight of that seat.
 use Rattle.std.specs.Prelude.{◌≡◌, ◌≢◌, ◌⊎◌, ℕ, ◌<◌, ◌≤◌, List, [], true, false, Some, None}
 use mathlib.Core.Option.{some}
 use lib.ListN.{get_elem?}
@@ -15,7 +16,7 @@ use Rattle.lfm_table.specs.Actions.{KnowsRun, events_of, own_of, part_of}
 use Rattle.lfm_laws.specs.table.Words.{words}
 use Rattle.lfm_mutex.specs.calls.Sight.{Sight}
 
--- the seat that is named
+-- the seat that it names
 abbrev pub named : Missing → ℕ
 named (NotBack k) = k
 named (Holding k) = k
@@ -25,7 +26,7 @@ named (Asleep k) = k
 abbrev pub Idle : {T : Type 0} → Sight T → Type 0
 Idle s = (s.depth ≡ 0) × (s.asleep ≡ false)
 
--- the first thing of three that is true of a seat
+-- why this seat can't be joined: it holds, or it doesn't hold and sleeps. A seat that is there never gives NotBack
 abbrev pub Hinders : {T : Type 0} → Missing → Sight T → Type 0
 Hinders (NotBack k) s = ⊥
 Hinders (Holding k) s = (s.number ≡ k) × (0 < s.depth)
@@ -35,7 +36,7 @@ module _ {A : Type 0} {T : Type 0} (look : A → Sight T) (seats : List A) where
   abbrev pub NoneHasHeld : Type 0
   NoneHasHeld = (i : ℕ) (s : A) → get_elem? seats i ≡ some s → (look s).found ≡ None
 
-  -- A seat that has held left this value last. If none has, it is the opening value, which each seat has as its last.
+  -- A seat that has held left this value last. If no seat has held, it is the opening value, which each seat has as its last.
   abbrev pub LeftLast : T → Type 0
   LeftLast v = (i : ℕ) × (s : A) × (get_elem? seats i ≡ some s) × ((look s).last ≡ Some v) × ((look s).found ≡ None → NoneHasHeld)
 
@@ -48,7 +49,7 @@ module _ {A : Type 0} {T : Type 0} (look : A → Sight T) (seats : List A) where
   abbrev pub NoneHasEnded : T → Type 0
   NoneHasEnded v = (j : ℕ) (t : A) → get_elem? seats j ≡ some t → ((look t).ended ≡ 0) × ((look t).last ≡ Some v)
 
-  -- The last hold of all left this value. If none has ended, it is the opening value
+  -- The last hold of all left this value. If no hold has ended, it is the opening value.
   abbrev pub LeftByLastHold : T → Type 0
   LeftByLastHold v = EndedLast v ⊎ NoneHasEnded v
 
@@ -74,7 +75,7 @@ module _ {A : Type 0} {T : Type 0} (look : A → Sight T) (seats : List A) where
   abbrev pub AllStand : ℕ → Type 0
   AllStand n = (k : ℕ) → 0 < k → k ≤ n → Stands k
 
--- the count is 0, nothing is posted and nobody is queued
+-- the count is 0, nothing is posted and no seat is queued
 pub record IsFree (c : Core) : Type 0 where
   pub count : c.count ≡ 0
   pub handoff : c.handoff ≡ unposted
@@ -86,9 +87,9 @@ abbrev pub AreFree : List ℕ → Type 0
 AreFree ws = (c : Core) × (ws ≡ words c) × IsFree c
 
 module _ {A : Type 0} {T : Type 0} (look : A → Sight T) (past : A → List Action) (l : Limits) (seats : List A) where
-  -- Since the opening with these limits some actions of these seats, and of nobody else, have led from the start to a free state. The trail
-  -- of each seat is its part of them. `past` says which actions a seat knew: they are the run up to its own last step or load of the owner
-  -- word, and the later ones are all of others.
+  -- Some actions of these seats, and of no others, have led from the start with these limits to a free state. The trail of each
+  -- seat is its part of them. `past` gives the actions that a seat knew: they are the run up to its own last step or load of
+  -- the owner word, and all later actions are of others.
   pub record HaveRun : Type 0 where
     pub actions : List Action
     pub allowed : are_in_limits l.seats l.budget ≡ true

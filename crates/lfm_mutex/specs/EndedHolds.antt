@@ -1,6 +1,6 @@
--- The holds that have ended at a table, and that a close has no second value to give back. Holds are numbered 1, 2, 3 and on
--- over all seats, in the order in which they end, and of each seat the number of the one that it ended last is known. No law of
--- words or of steps stands here.
+-- The holds that have ended at a table, and that a close can return only one value. Holds are numbered 1, 2, 3 and so on over
+-- all seats, in the order in which they end. Of each seat, the number of the hold that it ended last is known. Laws of words
+-- and of steps are in other files.
 use Rattle.std.specs.Prelude.{◌≡◌, ℕ, ◌<◌, List, length, Option, Some, None, true}
 use mathlib.Core.Option.{some}
 use lib.ListN.{get_elem?}
@@ -16,13 +16,13 @@ use Rattle.lfm_table.specs.declared.rule.Moving.{Moving}
 use Rattle.lfm_table.specs.declared.seat_view.View.{View}
 use Rattle.lfm_table.specs.Rule.{AreNumbered, Held}
 
--- the hold of this number left this value; if the number is 0, none has ended, and it is what a seat has as its last from the
--- beginning
+-- the hold with this number left this value. If the number is 0, no hold has ended, and the value is the one that a seat has as
+-- its last from the start
 abbrev pub LeftByHold : {T : Type 0} → List (View T) → ℕ → T → Type 0
 LeftByHold {T} views n w = (j : ℕ) × (v : View T) × (get_elem? views j ≡ some v) × (v.ended ≡ n) × (v.last ≡ Some w)
 
--- At the table, which is this state of the core and reads as this abstract mutex, n holds have ended: the value in its slot is what
--- the last of them left, and so is the value that a seat carries which doesn't hold
+-- At the table, which is this state of the core and reads as this abstract mutex, n holds have ended: the last of them left the
+-- value in the slot, or the value that is carried by a seat that doesn't hold.
 pub record HaveEnded {T : Type 0} (s : State (Option (Moving T)) (View T)) (c : Core) (a : AbstractMutex) (n : ℕ) : Type 0 where
   pub core : IsCore s c
   pub reads : Reads c a
@@ -35,7 +35,7 @@ module _ {T : Type 0} (follows : ℕ → T → T → Type 0) (fits : T → ℕ �
   abbrev pub HoldsAreNumbered : Type 0
   HoldsAreNumbered = (s : State (Option (Moving T)) (View T)) → Held follows fits s → (c : Core) × (a : AbstractMutex) × (n : ℕ) × HaveEnded s c a n
 
--- of some seats, no two with the same number, the last hold of all left at most one value
+-- among seats of which no two have the same number, the last hold of all left at most one value
 abbrev pub OneLastValue : Type 0 → Type 0
 OneLastValue T =
     (seats : List (Sight T)) (v w : T) → 0 < length seats → ((i j : ℕ) (s t : Sight T) → get_elem? seats i ≡ some s → get_elem? seats j ≡ some t → s.number ≡ t.number → i ≡ j)

@@ -1,4 +1,4 @@
--- A seat as it begins.
+-- A seat when it is made.
 use Rattle.std.specs.Prelude.{◌≡◌, ℕ, [], Option, Some, None}
 use Rattle.lfm_table.specs.Table.{Me}
 use Rattle.lfm_protocol.specs.declared.limits.Limits.{Limits}

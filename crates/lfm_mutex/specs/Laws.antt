@@ -1,4 +1,5 @@
--- What the rule of the table says of a running mutex at every moment, as facts of the core, and what a seat knows of its mutex.
+-- What the rule of the table states about a running mutex at every moment, as facts of the core, and what a seat knows of its
+-- mutex.
 use Rattle.std.specs.Prelude.{◌≡◌, ◌⊎◌, ℕ, ◌+◌, ◌<◌, [], Option, true}
 use mathlib.Core.Option.{some}
 use lib.ListN.{get_elem?}
@@ -20,21 +21,22 @@ use Rattle.lfm_mutex.specs.declared.seat.Seat.{Seat}
 use Rattle.lfm_mutex.specs.Belongs.{OfMutex, limits_of}
 use Rattle.lfm_mutex.specs.calls.Sight.{sight}
 
--- the table's words are those of this state of the core, and each seat there has the data that its last step left
+-- the table's words are those of this state of the core, and each seat of the core has the state that the seat's last step left
 pub record IsCore {T : Type 0} (s : State (Option (Moving T)) (View T)) (c : Core) : Type 0 where
   pub words_are : s.words ≡ words c
   pub seats_are : (j : ℕ) (v : View T) → get_elem? s.views j ≡ some v → seat c.seats (j + 1) ≡ v.state
 
 module _ {T : Type 0} (follows : ℕ → T → T → Type 0) (fits : T → ℕ → Type 0) where
-  -- at every moment words and seats are a steady state of the core, so every law of steady states holds of them
+  -- at every moment the words and seats are a steady state of the core, so every law of steady states holds of them
   abbrev pub TablesAreSteady : Type 0
   TablesAreSteady = (s : State (Option (Moving T)) (View T)) → Held follows fits s → (c : Core) × IsCore s c × Steady c × Lawful c
 
-  -- no posted handoff is left unwatched
+  -- every posted handoff is watched
   abbrev pub PostsAreWatched : Type 0
   PostsAreWatched = (s : State (Option (Moving T)) (View T)) → Held follows fits s → (c : Core) × IsCore s c × Watched c
 
-  -- while no call is open, nothing is posted, and if the count is above 0, a seat holds or a grant waits
+  -- while no call is open, nothing is posted, and if the count is above 0, a seat holds or a seat has a grant that it has not
+  -- loaded
   abbrev pub QuietTablesRest : Type 0
   QuietTablesRest =
       (s : State (Option (Moving T)) (View T)) → Held follows fits s → (c : Core) × IsCore s c × (IsQuiet c → (c.handoff ≡ unposted) × (0 < c.count → IsHeld c ⊎ IsGranted c))
@@ -45,6 +47,6 @@ module _ {T : Type 0} (follows : ℕ → T → T → Type 0) (fits : T → ℕ �
       (s : State (Option (Moving T)) (View T)) → Held follows fits s
       → (c : Core) × IsCore s c × ((k : ℕ) (carrier : Carrier) → (seat c.seats k).point ≡ TakeClearHead carrier → has_won carrier ≡ true → (0 < c.push.next) × (c.popped ≡ []))
 
--- each seat of a mutex is seen with as many seats as the mutex has
+-- the sight of a seat has the number of seats of its mutex
 abbrev pub KnowsItsMutex : Type 0 → Type 0
 KnowsItsMutex T = (s : Seat T) (m : Mutex T) → OfMutex s m → (sight s).seats ≡ (limits_of m).seats

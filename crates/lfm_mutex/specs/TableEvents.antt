@@ -1,4 +1,5 @@
--- A step of a running seat, which may have begun calls before it, is the core's at the core that the table is.
+-- A step of a running seat, which may have begun calls before it, is the core's step at the state of the core that the table
+-- is.
 use Rattle.std.specs.Prelude.{◌≡◌, ℕ, ◌+◌, Option, length, set, slice_index}
 use mathlib.Core.Option.{some}
 use lib.ListN.{get_elem?}
@@ -14,8 +15,8 @@ use Rattle.lfm_table.specs.declared.seat_view.View.{View}
 use Rattle.lfm_table.specs.Rule.{Held}
 use Rattle.lfm_table.specs.Settled.{Became}
 
--- seat k, having become p by begins, makes the core's step: one word, found to be n, becomes what p and n say, the seat, the pop
--- list and the turn are those that the running seat makes of n
+-- Seat k, whose state has become p by starts of calls, makes the core's step. The word that it accesses was n, and becomes what
+-- p and n say. The seat, the pop list and the turn are those that the running seat makes from n.
 pub record IsEvent (c : Core) (k : ℕ) (p : SeatState) (n : ℕ) : Type 0 where
   pub found : n ≡ slice_index (words c) (index p (length c.seats) k)
   pub words_are : words (made (put c k p) k).core ≡ set (words c) (index p (length c.seats) k) (written p k n)
@@ -24,7 +25,7 @@ pub record IsEvent (c : Core) (k : ℕ) (p : SeatState) (n : ℕ) : Type 0 where
   pub turn_is : (made (put c k p) k).turn ≡ (stepped_by p k n (oldest c.popped)).turn
 
 module _ {T : Type 0} (follows : ℕ → T → T → Type 0) (fits : T → ℕ → Type 0) where
-  -- the core is the one of which `TablesStand` speaks
+  -- the state of the core is the one of which `TablesStand` speaks
   abbrev pub TablesStepAsTheCore : Type 0
   TablesStepAsTheCore =
       (s : State (Option (Moving T)) (View T)) (h : Held follows fits s) (j : ℕ) (v : View T) (p : SeatState) → get_elem? s.views j ≡ some v

@@ -1,5 +1,5 @@
--- The run of a running mutex, which the rule of its table carries: how it goes on, what the laws of schedules say of it, and what a
--- trail tells of it.
+-- The run of a running mutex, which the rule of its table includes: how it is extended, what the laws of schedules say about
+-- it, and what a trail records of it.
 use Rattle.std.specs.Prelude.{◌≡◌, ◌⊎◌, ℕ, ◌+◌, ◌*◌, ◌<◌, ◌≤◌, List, [], ◌∷◌, ◌++◌, Option, Some, true, length, replicate, slice_index, slice_index_or, nat_eq, if◌then◌else◌, filter, flat_map, sum_by}
 use mathlib.Core.Option.{some}
 use lib.ListN.{get_elem?}
@@ -43,7 +43,7 @@ use Rattle.lfm_table.specs.Steps.{Ready}
 abbrev pub state_after : Limits → List Action → Core
 state_after l actions = reached l (events_of actions)
 
--- the records that the late actions push, those that leave the queue by them, and those by which they answer Held(Queued)
+-- the records that the late actions push, the records that leave the queue by them, and those by which they answer Held(Queued)
 abbrev pub pushed_since : Limits → List Action → List Action → List Record
 pushed_since l early late = push_record (state_after l early) (events_of late)
 
@@ -72,17 +72,17 @@ abbrev pub own_pushes : Core → ℕ → List Action → List Record
 own_pushes c t [] = []
 own_pushes c t (a ∷ later) = own_push c t a ++ own_pushes (after_action c a) t later
 
--- What a trail tells
+-- What a trail records
 
--- how often its seat comes to own
+-- how often its seat becomes the owner
 abbrev pub entries_told : List Seen → ℕ
 entries_told trail = sum_by (λ (x : Seen). enters_at x.point) trail
 
--- how many steps of calls it has, with the loads for `owner`
+-- how many steps of calls it has, counting the loads for `owner`
 abbrev pub steps_told : List Seen → ℕ
 steps_told trail = sum_by (λ (x : Seen). if is_call x.point then 1 else 0) trail
 
--- the record that seat t pushes by a step at this point which finds n: an exchange of the push word that finds what it expects
+-- the record that seat t pushes by a step at this point that finds n: an exchange of the push word that finds what it expects
 abbrev pub push_noted : ℕ → Point → ℕ → List Record
 push_noted t (PushExchange pusher old) n = if same_link (link_of n) old then record { seat = pushed_seat pusher t; stamp = old.stamp + 1 } ∷ [] else []
 push_noted t _ n = []
@@ -103,31 +103,33 @@ module _ {T : Type 0} (follows : ℕ → T → T → Type 0) (fits : T → ℕ �
   abbrev pub HoldsAfter : Limits → List Action → State (Option (Moving T)) (View T) → Type 0
   HoldsAfter l actions s = (h : Held follows fits s) × (h.opened ≡ l) × (h.actions ≡ actions)
 
-  -- Whenever the rule holds there is a run. Words and seats are the state to which it leads, and trails are its parts. Each seat knows the run
-  -- up to its own last step or load of the owner word. In these actions its part is its whole trail.
+  -- Whenever the rule holds, there is a run. The words and seats are the state to which it leads, and the trails are its parts.
+  -- Each seat knows the run up to its own last step or load of the owner word. The seat's part of these actions is its whole
+  -- trail.
   abbrev pub TablesHaveARun : Type 0
   TablesHaveARun =
       ((s : State (Option (Moving T)) (View T)) → Held follows fits s → (l : Limits) × (actions : List Action) × HoldsAfter l actions s)
       × ((s : State (Option (Moving T)) (View T)) (l : Limits) (actions : List Action) → HoldsAfter l actions s → IsCore s (state_after l actions) × HasRun l actions (state_after l actions) s.views)
 
-  -- What a seat knows is determined. Take early actions of the run that are none, or of which the last is one that the seat notes, and let the
-  -- late ones be all of others. Then the early ones are exactly those that the seat knows.
+  -- What a seat knows is determined. Split the run into early and late actions, where either there are no early ones or the
+  -- last of them is one that the seat notes, and the late ones are all of others. Then the early ones are exactly those that
+  -- the seat knows.
   abbrev pub SeatsKnowUpToTheirLastStep : Type 0
   SeatsKnowUpToTheirLastStep =
       (s : State (Option (Moving T)) (View T)) (l : Limits) (early late : List Action) (j : ℕ) (v : View T) → HoldsAfter l (early ++ late) s → get_elem? s.views j ≡ some v
       → EndsWithOwn (j + 1) early → own_of (j + 1) late ≡ [] → v.actions ≡ early
 
-  -- How a run goes on
+  -- How a run is extended
 
-  -- a table at its opening is the core at its start, and has the empty run
+  -- a table that was just opened is the core at its start, and has the empty run
   abbrev pub TablesOpenAtTheStart : Type 0
   TablesOpenAtTheStart =
       (l : Limits) (x : Moving T) → are_in_limits l.seats l.budget ≡ true → x.popped.records ≡ [] → x.popped.room ≡ l.seats → fits x.value 0
       → HoldsAfter l [] (opening (replicate (4 + 2 * l.seats) 0) (Some x ∷ []) (first_view l x.value)) × (state_after l [] ≡ start l)
 
-  -- A seat whose view stands at place j and which has the value a in its own memory, having become p by begins, makes its step: it finds n,
-  -- has a new view, and takes the moving value or gives it back. The run goes on by these begins and the step, to the core that the core's
-  -- step makes, and the seat then knows the run up to now.
+  -- A seat whose view is at place j and which has the value a in its own memory, and whose state has become p by starts of
+  -- calls, makes its step: it finds n, has a new view, and takes the moving value or gives it back. These starts and the step
+  -- extend the run, to the state that the core's step makes, and the seat then knows the run up to now.
   abbrev pub TablesGoOnAsTheCore : Type 0
   TablesGoOnAsTheCore =
       (s : State (Option (Moving T)) (View T)) (l : Limits) (actions : List Action) (j : ℕ) (me : Me (Option (Moving T)) (View T)) (p : SeatState) (a : Option T) → HoldsAfter l actions s
@@ -137,7 +139,8 @@ module _ {T : Type 0} (follows : ℕ → T → T → Type 0) (fits : T → ℕ �
       × (state_after l (actions ++ begins_and_step me.0.number me.0.state p) ≡ (made (put (state_after l actions) me.0.number p) me.0.number).core)
       × Advanced follows fits p a me (told p me.0.number n) (w, carried_after me.1 act) × (w.actions ≡ actions ++ begins_and_step me.0.number me.0.state p)
 
-  -- These keep the core: seats are split off and joined again, which is no action, and a seat loads the owner word for `owner`, which is one.
+  -- These keep the state of the core: splitting off a seat and joining it again, which are no actions, and a load of the owner
+  -- word for `owner`, which is one.
   abbrev pub OtherStepsKeepTheCore : Type 0
   OtherStepsKeepTheCore =
       (l : Limits) (actions : List Action)
@@ -149,23 +152,24 @@ module _ {T : Type 0} (follows : ℕ → T → T → Type 0) (fits : T → ℕ �
 
   -- The laws of schedules
 
-  -- Each moment of the run is a state that a schedule reaches. The events since lead from it to the state that the table is, and each trail
-  -- is its early part and then its late one. So every law of schedules is about the table.
+  -- At each moment of the run the state is one that a schedule reaches. The events since then lead from it to the state that
+  -- the table is, and each trail is its early part followed by its late one. So every law of schedules applies to the table.
   abbrev pub TablesGoThroughReachedStates : Type 0
   TablesGoThroughReachedStates =
       (s : State (Option (Moving T)) (View T)) (l : Limits) (early late : List Action) → HoldsAfter l (early ++ late) s
       → IsReached (state_after l early) × (state_after l (early ++ late) ≡ run_of (state_after l early) (events_of late))
       × ((j : ℕ) (v : View T) → get_elem? s.views j ≡ some v → v.trail ≡ part_of (start l) (j + 1) early ++ late_part l early late (j + 1))
 
-  -- Refinement. The run, read state by state, is a run of the abstract mutex from the state in which nobody holds, asks or waits.
+  -- Refinement. The run, read state by state, is a run of the abstract mutex from the state in which no seat holds, asks or
+  -- waits.
   abbrev pub TablesRunAsTheAbstractMutex : Type 0
   TablesRunAsTheAbstractMutex =
       (s : State (Option (Moving T)) (View T)) (l : Limits) (actions : List Action) → HoldsAfter l actions s
       → Reads (start l) all_free × ((later : List AbstractMutex) × ReadsRun (start l) (events_of actions) later × IsRun (all_free ∷ later))
 
-  -- First come, first served. From each earlier moment on, what was queued and what was pushed since is, in one order, what has left the
-  -- queue since and what is queued now. Of the whole run the stamps are 1, 2, 3 and so on, and the answers are what has left the queue, or
-  -- all of it but the last.
+  -- First come, first served. From each earlier moment on, the records that were queued and those pushed since then are, in the
+  -- same order, those that have left the queue since and those that are queued now. Over the whole run, the stamps are 1, 2, 3
+  -- and so on, and the answers Held(Queued) are the records that have left the queue, or all of these except the last.
   abbrev pub TablesServeInPushOrder : Type 0
   TablesServeInPushOrder =
       (s : State (Option (Moving T)) (View T)) (l : Limits) (actions : List Action) → HoldsAfter l actions s
@@ -174,8 +178,9 @@ module _ {T : Type 0} (follows : ℕ → T → T → Type 0) (fits : T → ℕ �
       × ((k : ℕ) (d : Record) → k < length (pushed_since l [] actions) → (slice_index_or (pushed_since l [] actions) k d).stamp ≡ k + 1)
       × ((popped_since l [] actions ≡ answered_since l [] actions) ⊎ ((last : Record) × (popped_since l [] actions ≡ answered_since l [] actions ++ last ∷ [])))
 
-  -- Overtaking. While a record that was queued at an earlier moment has not left the queue, seats have come to own, and have stopped owning,
-  -- at most as often as records have left it, and once more. No seat has come to own twice, nor does its trail since then tell that.
+  -- Overtaking. Take a record that was queued at an earlier moment and has not left the queue. Since then seats have become
+  -- owner, and have stopped being owner, at most once more than records have left the queue. No seat has become owner twice,
+  -- nor does its trail since then record that it has.
   abbrev pub TablesOvertakeOnce : Type 0
   TablesOvertakeOnce =
       (s : State (Option (Moving T)) (View T)) (l : Limits) (early late : List Action) (k : ℕ) → HoldsAfter l (early ++ late) s
@@ -184,21 +189,21 @@ module _ {T : Type 0} (follows : ℕ → T → T → Type 0) (fits : T → ℕ �
       × (releases_of_run (state_after l early) (events_of late) ≤ length (popped_since l early late) + 1)
       × ((t : ℕ) → (entries_of_seat (state_after l early) t (events_of late) ≤ 1) × (entries_told (late_part l early late t) ≤ 1))
 
-  -- Lock freedom. Since an earlier moment calls have made at most (5N + 5)(N + k) steps, k being the number of those that have ended since.
-  -- The trails of the N seats have gone on by exactly these steps, and by the loads for `owner`.
+  -- Lock freedom. Since an earlier moment calls have made at most (5N + 5)(N + k) steps, k being the number of calls that have
+  -- ended since. The trails of the N seats have grown by exactly these steps and the loads for `owner`.
   abbrev pub TablesEndCalls : Type 0
   TablesEndCalls =
       (s : State (Option (Moving T)) (View T)) (l : Limits) (early late : List Action) → HoldsAfter l (early ++ late) s
       → (steps_of_run (state_after l early) (events_of late) ≤ (5 * l.seats + 5) * (l.seats + ended_in_run (state_after l early) (events_of late)))
       × (sum_to (λ (t : ℕ). steps_told (late_part l early late t)) l.seats ≡ steps_of_run (state_after l early) (events_of late) + owner_loads late)
 
-  -- the records that a seat has pushed in the run are those that its trail tells
+  -- the records that a seat has pushed in the run are those that its trail records
   abbrev pub TrailsTellThePushes : Type 0
   TrailsTellThePushes =
       (s : State (Option (Moving T)) (View T)) (l : Limits) (actions : List Action) (j : ℕ) (v : View T) → HoldsAfter l actions s → get_elem? s.views j ≡ some v
       → own_pushes (start l) (j + 1) actions ≡ pushes_noted (j + 1) v.trail
 
-  -- and of the answers Held(Queued) of the run, those of the seat are the ones that its trail tells
+  -- of the answers Held(Queued) in the run, those of the seat are the ones that its trail records
   abbrev pub TrailsTellTheAnswers : Type 0
   TrailsTellTheAnswers =
       (s : State (Option (Moving T)) (View T)) (l : Limits) (actions : List Action) (j : ℕ) (v : View T) → HoldsAfter l actions s → get_elem? s.views j ≡ some v

@@ -1,5 +1,5 @@
--- Which state of the core a table is, with its limits and the seats that are not there yet; where the moving value is; and that a
--- table at rest is free. No law of a step stands here.
+-- Which state of the core a table is, with its limits and the seats that are not split off yet; where the moving value is; and
+-- that a table at rest is free. Laws of steps are in other files.
 use Rattle.std.specs.Prelude.{◌≡◌, ℕ, ◌+◌, ◌≤◌, Option, Some, None, length}
 use mathlib.Core.Option.{some}
 use lib.ListN.{get_elem?}
@@ -17,8 +17,8 @@ use Rattle.lfm_table.specs.declared.rule.Moving.{Moving}
 use Rattle.lfm_table.specs.declared.seat_view.View.{View}
 use Rattle.lfm_table.specs.Rule.{Held}
 
--- the table is this state of the core, which reads as this abstract mutex, and the value is out with the one seat that owns or
--- carries, and otherwise in its slot, with the pop list
+-- The table is this state of the core, which reads as this abstract mutex. The moving value is with the one seat that owns or
+-- carries, and otherwise in its slot, with the pop list.
 pub record TableIs {T : Type 0} (s : State (Option (Moving T)) (View T)) (c : Core) (a : AbstractMutex) : Type 0 where
   pub core : IsCore s c
   pub limits_are : (j : ℕ) (v : View T) → get_elem? s.views j ≡ some v → v.limits ≡ limits c
@@ -32,7 +32,7 @@ module _ {T : Type 0} (follows : ℕ → T → T → Type 0) (fits : T → ℕ �
   abbrev pub TablesStand : Type 0
   TablesStand = (s : State (Option (Moving T)) (View T)) (h : Held follows fits s) → (a : AbstractMutex) × TableIs s h.core a
 
-  -- if each seat rests and none holds, the count is 0, nothing is posted and nobody is queued
+  -- if each seat rests and none holds, the count is 0, nothing is posted and no seat is queued
   abbrev pub RestingTablesAreFree : Type 0
   RestingTablesAreFree =
       (s : State (Option (Moving T)) (View T)) → Held follows fits s

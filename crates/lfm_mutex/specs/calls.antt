@@ -1,4 +1,4 @@
--- Runs of a seat's own steps, and calls between two sights of a seat.
+-- Runs of a seat's own steps, and how a call changes the sight of its seat.
 pub mod Runs
 pub mod SeatSteps
 pub mod Sight

@@ -1,5 +1,5 @@
--- How often a seat failed to push in a trail: its exchange of the push word found another word than the one that it had read. Each
--- failure costs two steps, since the link is stored and the exchange made once more.
+-- How often a seat failed to push in a trail: its exchange of the push word found another word than the one that it had read.
+-- Each failure costs two steps, since the link is stored and the exchange made once more.
 use Rattle.std.specs.Prelude.{◌≡◌, ℕ, ◌+◌, ◌*◌, ◌≤◌, List, [], ◌∷◌, ◌++◌, length, if◌then◌else◌}
 use Rattle.lfm_protocol.specs.declared.points.Point.{Point}
 use Rattle.lfm_protocol.specs.declared.points.Point.TheVariants.{PushExchange}
@@ -17,10 +17,10 @@ abbrev pub failed_pushes : List Seen → ℕ
 failed_pushes [] = 0
 failed_pushes (step ∷ steps) = failed_push step.found step.point + failed_pushes steps
 
--- a seat with the first trail, which had `due` steps to make beside failed pushes, has the second, and `still` left
+-- from the first trail, with `due` steps left without failed pushes, the seat has come to the second trail, with `still` left
 abbrev pub Spends : ℕ → ℕ → List Seen → List Seen → Type 0
 Spends due still before after = (new : List Seen) × (after ≡ before ++ new) × (length new + still ≤ due + 2 * failed_pushes new)
 
--- the seat has made at most this number of steps, and two for each of them that failed to push
+-- the seat has made at most this number of steps, and two more for each of them that failed to push
 abbrev pub MakesBesideFailures : {T : Type 0} → ℕ → Sight T → Sight T → Type 0
 MakesBesideFailures k s t = (new : List Seen) × (t.trail ≡ s.trail ++ new) × (length new ≤ k + 2 * failed_pushes new)

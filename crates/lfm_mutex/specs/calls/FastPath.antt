@@ -1,4 +1,4 @@
--- A call on its fast path: its steps so far, and what it comes to.
+-- A call on its fast path: the steps that it has made, and what they add up to.
 use Rattle.std.specs.Prelude.{◌≡◌, ⊤, ℕ, Option, Some, Result, Ok, Err}
 use Rattle.lfm_model.specs.declared.answers.How.{How}
 use Rattle.lfm_model.specs.declared.answers.Locked.{Locked}
@@ -34,7 +34,7 @@ abbrev pub send_turn : Result ⊤ Refusal → Turn
 send_turn (Ok sent) = Ended Answer.Sent
 send_turn (Err refusal) = Refused (Why.By refusal)
 
--- a seat that was p0, with a0 in hand, has made some steps of its call, and is p with a in hand
+-- a seat with the state p0, and with a0 in hand, has made some steps of its call, and now has the state p, and a in hand
 pub record Course {T : Type 0} (follows : ℕ → T → T → Type 0) (suits : T → ℕ → Type 0) (number : ℕ) (p0 : SeatState) (a0 : Option (Moving T)) (v0 : View T) (turn : Turn) (p : SeatState) (a : Option (Moving T)) (v : View T) : Type 0 where
   pub ran : Ran number (opens p0) v0 turn p v
   pub concludes : Concludes p0 turn p
@@ -42,7 +42,8 @@ pub record Course {T : Type 0} (follows : ℕ → T → T → Type 0) (suits : T
   pub last : last_hold v ≡ last_hold v0
   pub held : (how : How) → how_held turn ≡ Some how → Holds follows suits number (last_hold v0) how p a v
 
--- the call of a seat that was seen as s has ended with this turn, and it is seen as t: all that is said of it
+-- the call of a seat with the sight s has ended with this turn, and the seat now has the sight t: the whole contract of the
+-- call
 pub record ComesTo {T : Type 0} (follows : ℕ → T → T → Type 0) (suits : T → ℕ → Type 0) (l : Limits) (call : Call) (s t : Sight T) (turn : Turn) : Type 0 where
   pub turned : Turned follows suits l call s t turn
   pub made : Made l call s t turn

@@ -1,4 +1,4 @@
--- How a push has ended, and what its steps come to.
+-- How a push has ended, and what its steps add up to.
 use Rattle.std.specs.Prelude.{◌≡◌, ℕ, Option, length}
 use Rattle.lfm_protocol.specs.declared.answers.Turn.{Turn}
 use Rattle.lfm_protocol.specs.declared.points.Pusher.{Pusher}
@@ -15,12 +15,12 @@ use Rattle.lfm_mutex.specs.calls.FastPath.{Course}
 use Rattle.lfm_mutex.specs.calls.Stops.{push_stop_point}
 use Rattle.lfm_mutex.specs.calls.WakeUps.{grants_of}
 
--- what a push leaves of its call, by a seat whose data are p
+-- the turn and the seat's state after a push, for a seat whose state was p
 abbrev pub push_end : Pushed → SeatState → Pusher → Stepped
 push_end Pushed.Queued p pusher = pushed p pusher
 push_end (Pushed.Stopped stop) p pusher = opens (record p { point = push_stop_point pusher stop })
 
--- the course of a seat whose steps granted no seat the mutex, and what they have spent of what was due to its call
+-- the course of a seat whose steps granted no seat the mutex, and how many of the steps due to its call they have used
 pub record PlainCourse {T : Type 0} (follows : ℕ → T → T → Type 0) (suits : T → ℕ → Type 0) (number seats : ℕ) (p0 : SeatState) (a0 : Option (Moving T)) (v0 : View T) (turn : Turn) (p : SeatState) (a : Option (Moving T)) (v : View T) : Type 0 where
   pub course : Course follows suits number p0 a0 v0 turn p a v
   pub spends : Spends (due seats (length v0.popped) p0.point) (due seats (length v.popped) p.point) v0.trail v.trail

@@ -1,5 +1,5 @@
--- A run of a seat's own steps: what each found, in order, and what they lead to; which call a point belongs to, and how
--- that call can end; and a number that falls with each step.
+-- A run of a seat's own steps: what each step found, in order, and what the steps lead to; to which call a point belongs, and
+-- how that call can end; and a number that decreases with each step.
 use Rattle.std.specs.Prelude.{◌≡◌, ⊤, ℕ, ◌≤◌, ◌+◌, ◌-◌, ◌*◌, ◌^◌, List, [], ◌∷◌, ◌++◌, Option, Some, None, Bool, true, false, nat_eq, if◌then◌else◌}
 use Rattle.lfm_model.specs.declared.answers.Asked.{Asked}
 use Rattle.lfm_model.specs.declared.answers.How.{How}
@@ -58,7 +58,7 @@ enters Entrant.Locker = locking
 enters Entrant.Trier = trying
 enters Entrant.Receiver = receiving
 
--- the call that stands open at this point
+-- the call that is open at this point
 abbrev pub errand : Point → Errand
 errand Rest = nothing
 errand (Asleep sleeper) = nothing
@@ -92,7 +92,7 @@ errand (EnterOwnerStore entrant how) = enters entrant
 errand (ReceiveWakeLoad sleeper) = receiving
 errand (ReceiveWakeStore stamp) = receiving
 
--- the call that answers so
+-- the call that gives this answer
 abbrev pub answers_for : Answer → Errand
 answers_for (Answer.Asked asked) = locking
 answers_for (Answer.Locked locked) = trying
@@ -106,7 +106,7 @@ refuses_for (By Refusal.Busy) = trying
 refuses_for (By Refusal.NotWaiting) = sending
 refuses_for _ = nothing
 
--- a turn of this call, which has come to this point
+-- a turn of this call that has led to this point
 abbrev pub IsTurn : Errand → Turn → Point → Type 0
 IsTurn e Open q = errand q ≡ e
 IsTurn e (Ended answer) q = answers_for answer ≡ e
@@ -167,24 +167,24 @@ weight n k (EnterOwnerStore entrant how) = 1
 weight n k (ReceiveWakeLoad sleeper) = 3
 weight n k (ReceiveWakeStore stamp) = 2
 
--- what a call that releases makes at most, among n seats
+-- how many steps a call that releases makes at most, with n seats
 abbrev pub release_steps : ℕ → Call → ℕ
 release_steps n Call.StartWait = n + 8
 release_steps n _ = n + 7
 
 -- Runs
 
--- what these finds lead to, each with the oldest record that the pop list had
+-- the result of steps that found these numbers, each with the oldest record that the pop list had
 abbrev pub end_of : ℕ → Stepped → List (ℕ × Option Record) → Stepped
 end_of s st [] = st
 end_of s st (f ∷ finds) = end_of s (stepped_by st.seat s f.0 f.1) finds
 
--- the steps, each the one that those before it ask for
+-- the trail of these steps, each at the point to which the steps before it led
 abbrev pub trail_of : ℕ → SeatState → List (ℕ × Option Record) → List Seen
 trail_of s x [] = []
 trail_of s x (f ∷ finds) = seen x.point f.0 ∷ trail_of s (stepped_by x s f.0 f.1).seat finds
 
--- the seat has made some steps of its call, which began with st, and the table's run has gone on
+-- the seat has made some steps of its call, from the state and turn st, and the table's run has been extended
 pub record Ran {T : Type 0} (s : ℕ) (st : Stepped) (v : View T) (turn : Turn) (p : SeatState) (v' : View T) : Type 0 where
   pub finds : List (ℕ × Option Record)
   pub ends : end_of s st finds ≡ record { seat = p; turn = turn }
@@ -194,7 +194,7 @@ pub record Ran {T : Type 0} (s : ℕ) (st : Stepped) (v : View T) (turn : Turn) 
 
 -- Answers
 
--- how a turn says that its seat holds
+-- how the seat acquired the mutex, if the turn says that it did
 abbrev pub how_asked : Asked → Option How
 how_asked (Asked.Held how) = Some how
 how_asked _ = None
@@ -223,7 +223,7 @@ abbrev pub is_release : Point → Bool
 is_release (ReleaseOwnerStore releaser) = true
 is_release _ = false
 
--- a seat that has begun, before its first step
+-- the state and turn of a call that has begun, before its first step
 abbrev pub opens : SeatState → Stepped
 opens p = record { seat = p; turn = Open }
 
@@ -241,13 +241,13 @@ abbrev pub is_releasing : Errand → Bool
 is_releasing (releasing releaser) = true
 is_releasing _ = false
 
--- a call of this errand can answer so
+-- a call of this errand can end with this turn
 abbrev pub Answers : Errand → Turn → Type 0
 Answers e Open = ⊥
 Answers e (Ended answer) = answers_for answer ≡ e
 Answers e (Refused why) = ⊤
 
--- a call that began so has ended with this turn: at once, or by steps
+-- a call with this state and turn at its start has ended with this turn: at once, or by steps
 abbrev pub CalledBy : {T : Type 0} → Turn → ℕ → Errand → SeatState → View T → Turn → SeatState → View T → Type 0
 CalledBy Open s e q v turn p' v' = Ends e turn × Ran s (opens q) v turn p' v'
 CalledBy t s e q v turn p' v' = (turn ≡ t) × (p' ≡ q) × (v' ≡ v)
@@ -255,13 +255,13 @@ CalledBy t s e q v turn p' v' = (turn ≡ t) × (p' ≡ q) × (v' ≡ v)
 abbrev pub Called : {T : Type 0} → ℕ → Limits → Call → SeatState → View T → Turn → SeatState → View T → Type 0
 Called s l call p v turn p' v' = CalledBy (Begin.begin p l call).turn s (errand_of call) (Begin.begin p l call).seat v turn p' v'
 
--- the number of seats that had come to hold by a queued record when a seat did so, and that number afterwards
+-- the number of seats that had acquired the mutex by a queued record when this one acquired it, and that number afterwards
 abbrev pub Counts : How → ℕ → ℕ → Type 0
 Counts How.Free k answered = k ≡ answered
 Counts (How.Queued stamp) k answered = (k + 1 ≡ stamp) × (answered ≡ stamp)
 
--- the seat has come to hold, and of its last hold before that stands what `before` says: what it has in hand was reached from what it
--- left then, and is exactly that if no later hold than that one has ended; and it suits
+-- The seat has acquired the mutex. Its last hold before that is `before`. The value in hand was reached from the one that it
+-- left then, and is that one if no later hold has ended. The value suits the mutex.
 pub record Holds {T : Type 0} (follows : ℕ → T → T → Type 0) (suits : T → ℕ → Type 0) (s : ℕ) (before : LastHold T) (how : How) (p : SeatState) (a : Option (Moving T)) (v : View T) : Type 0 where
   pub depth : p.depth ≡ 1
   pub rests : p.point ≡ Rest

@@ -1,4 +1,4 @@
--- One turn of a seat: a call that begins, or one atomic step, each as the core has it for that seat.
+-- One turn of a seat: the start of a call, or one atomic step, each as the core makes it for that seat.
 use Rattle.std.specs.Prelude.{◌≡◌, ℕ, ◌+◌, [], ◌∷◌, ◌++◌, Bool, false, true, Option, Some, None}
 use Rattle.lfm_model.specs.declared.answers.How.{How}
 use Rattle.lfm_words.specs.declared.pop_lists.Record.{Record}
@@ -20,25 +20,26 @@ abbrev pub stores_owner : Kind → Bool
 stores_owner Kind.OwnerStore = true
 stores_owner _ = false
 
--- a seat with the data x, which is seen as s, begins a call
+-- a seat with the state x and the sight s begins a call
 abbrev pub Begins : {T : Type 0} → Limits → Call → SeatState → Sight T → Turn → SeatState → Sight T → Type 0
 Begins l call x s turn y t =
     (turn ≡ (begin x l call).turn) × (y ≡ (begin x l call).seat) × (t ≡ record s { depth = y.depth; takes = y.takes; asleep = is_asleep y.point; in_call = is_in_call y.point })
 
--- a seat with the data x makes the step at its point: it found n, and the oldest record of the pop list was o
+-- a seat with the state x makes the step at its point: it found n, and the oldest record of the pop list was o
 abbrev pub Steps : {T : Type 0} → SeatState → Sight T → Turn → SeatState → Sight T → Type 0
 Steps x s turn y t =
     (n : ℕ) × (o : Option Record) × (turn ≡ (stepped_by x s.number n o).turn) × (y ≡ (stepped_by x s.number n o).seat) × (t.number ≡ s.number) × (t.depth ≡ y.depth) × (t.takes ≡ y.takes)
     × (t.trail ≡ s.trail ++ seen x.point n ∷ [])
 
--- what becomes of the value at a step: a seat that comes to hold finds what was left last, the store that ends a hold leaves what
--- was in hand, keeps what had been found and gives the hold the next number, and every other step keeps all of it
+-- What a step does with the value. A seat that acquires the mutex finds the value that was left last. The store that ends a
+-- hold leaves the value in hand, keeps the one that was found, and gives the hold the next number. Every other step changes
+-- none of these.
 pub record KeepsValue {T : Type 0} (follows : ℕ → T → T → Type 0) (fits : T → ℕ → Type 0) (x : SeatState) (s : Sight T) (turn : Turn) (t : Sight T) : Type 0 where
   pub gains : (how : How) → how_held turn ≡ Some how → Finds follows fits how s t
   pub leaves : is_release x.point ≡ true → (t.last ≡ s.value) × (t.found ≡ s.found) × (t.ended ≡ s.holds_ended + 1)
   pub keeps : is_release x.point ≡ false → how_held turn ≡ None → t ≡ record s { depth = t.depth; takes = t.takes; asleep = t.asleep; in_call = t.in_call; trail = t.trail; sends = t.sends }
 
--- a seat with the data x makes the step at its point; without an open call nothing changes
+-- a seat with the state x makes the step at its point; without an open call nothing changes
 abbrev pub StepsOn : {T : Type 0} → (ℕ → T → T → Type 0) → (T → ℕ → Type 0) → Option Kind → SeatState → Sight T → Turn → SeatState → Sight T → Type 0
 StepsOn follows fits None x s turn y t = (turn ≡ Refused Idle) × (y ≡ x) × (t ≡ s)
 StepsOn follows fits (Some k) x s turn y t = Steps x s turn y t × KeepsValue follows fits x s turn t

@@ -1,4 +1,4 @@
--- A section: a seat comes to hold, a closure changes the value, and the seat gives that hold up.
+-- A section: a seat locks, a closure changes the value, and the seat gives up that hold.
 use Rattle.std.specs.Prelude.{◌≡◌, ℕ, Some, Result, Ok, Err}
 use Rattle.lfm_model.specs.declared.answers.Locked.{Locked}
 use Rattle.lfm_model.specs.declared.answers.Unlocked.{Unlocked}
@@ -10,39 +10,40 @@ use Rattle.lfm_mutex.specs.calls.Barging.{BargesBy}
 use Rattle.lfm_mutex.specs.calls.Sight.{Sight, Locks, LocksWaiting, MayRelease, Unlocks}
 use Rattle.lfm_mutex.specs.calls.Trails.{LocksBy, MakesCall}
 
--- the seat is the one that it was, holds as often, and sleeps only if it did
+-- the same seat, with the same depth, which sleeps exactly if it slept before
 abbrev pub StandsAs : {T : Type 0} → Sight T → Sight T → Type 0
 StandsAs s t = (t.number ≡ s.number) × (t.depth ≡ s.depth) × (t.asleep ≡ s.asleep)
 
--- it has another value in hand, and is otherwise as it was
+-- the sight with this value in hand, and otherwise the same
 abbrev pub with_value : {T : Type 0} → Sight T → T → Sight T
 with_value s x = record s { value = Some x }
 
--- how a call of unlock ends, and by which steps
+-- how a call of unlock ends, and which steps it makes
 abbrev pub UnlocksSo : {T : Type 0} → Limits → Sight T → Sight T → Result Unlocked Refusal → Type 0
 UnlocksSo l s t r = Unlocks s t r × MakesCall l (λ x. Answer.Unlocked x) Call.Unlock s t r
 
 module _ {T : Type 0} (follows : ℕ → T → T → Type 0) (fits : T → ℕ → Type 0) (l : Limits) where
-  -- the same of lock
+  -- the same for lock
   abbrev pub LocksSo : Sight T → Sight T → Result Locked Refusal → Type 0
   LocksSo s t r = LocksWaiting follows fits l.budget s t r × LocksBy l s t r
 
-  -- of lock_barging, which makes n tries at most
+  -- the same for lock_barging, which makes at most n tries
   abbrev pub BargesSo : ℕ → Sight T → Sight T → Result Locked Refusal → Type 0
   BargesSo n s t r = LocksWaiting follows fits l.budget s t r × BargesBy l n s t r
 
-  -- and of try_lock
+  -- the same for try_lock
   abbrev pub TriesSo : Sight T → Sight T → Result Locked Refusal → Type 0
   TriesSo s t r = Locks follows fits l.budget s t r × MakesCall l (λ x. Answer.Locked x) Call.TryLock s t r
 
-  -- `locks m r`: the call that is to hold answered r, and the seat was then seen as m. `gives v u w`: the closure, at v, may answer
-  -- u and leave w
+  -- `locks m r`: the call that locks has answered r, and the seat then had the sight m. `gives v u w`: the closure, called with
+  -- the value v, may return u and leave the value w.
   module _ {U : Type 0} (locks : Sight T → Result Locked Refusal → Type 0) (gives : T → U → T → Type 0) where
-    -- whatever the seat finds, what the closure makes of it may be left
+    -- whatever value the seat finds, the value that the closure leaves may be left
     abbrev pub SectionKeeps : Type 0
     SectionKeeps = (m : Sight T) (locked : Locked) (v w : T) (u : U) → locks m (Ok locked) → m.value ≡ Some v → gives v u w → MayRelease follows fits (with_value m w)
 
-    -- The seat came to hold and found a value. The closure made another of it, and answered u. That is what the seat left
+    -- The seat acquired the mutex or deepened its hold, and found a value. The closure changed it and returned u. The seat left
+    -- the changed value.
     pub record Section (t : Sight T) (u : U) : Type 0 where
       pub held : Sight T
       pub locked : Locked
@@ -54,7 +55,7 @@ module _ {T : Type 0} (follows : ℕ → T → T → Type 0) (fits : T → ℕ �
       pub makes : gives found u left
       pub leaves : UnlocksSo l (with_value held left) t (Ok unlocked)
 
-    -- how a section ends: a refusal is that of the call that is to hold
+    -- how a section ends: a refusal is that of the call that locks
     abbrev pub SectionEnds : Sight T → Result U Refusal → Type 0
     SectionEnds t (Ok u) = Section t u
     SectionEnds t (Err r) = locks t (Err r)

@@ -1,4 +1,4 @@
--- What the crates above see of a seat, and what a call makes of it.
+-- What the crates above see of a seat, and how a call changes it.
 use Rattle.std.specs.Prelude.{◌≡◌, ◌≢◌, ◌⊎◌, ⊤, ℕ, zero, suc, ◌+◌, ◌<◌, ◌≤◌, List, [], ◌∷◌, ◌++◌, Bool, true, false, Option, Some, None, Result, Ok, Err}
 use Rattle.lfm_model.specs.declared.answers.Asked.{Asked}
 use Rattle.lfm_model.specs.declared.answers.How.{How}
@@ -25,7 +25,7 @@ use Rattle.lfm_table.specs.declared.seat_view.View.{View}
 use Rattle.lfm_table.specs.Rule.{value_in, seen}
 use Rattle.lfm_table.specs.Reach.{Reached}
 
--- a seat as the crates above see it
+-- a seat, as the crates above see it
 pub record Sight (T : Type 0) : Type 0 where
   pub number : ℕ
   -- how many seats its mutex has
@@ -36,25 +36,26 @@ pub record Sight (T : Type 0) : Type 0 where
   pub asleep : Bool
   -- a call of it is open
   pub in_call : Bool
-  -- the value that it found, while it holds; else the value that it left last, and the opening value before that
+  -- while it holds, the value that it found; otherwise the value that it left last, or the opening value if it has left none
   pub last : Option T
-  -- the value that it found when it came to hold last: it stays when the hold ends, until the next gain; None before the first gain
+  -- the value that it found when it last acquired the mutex. It stays when the hold ends, until the next acquisition; None
+  -- before the first one
   pub found : Option T
-  -- the number of the hold that it ended last; 0 before that. Holds are numbered 1, 2, 3 and on over all seats, in the order in which
-  -- they end
+  -- the number of the hold that it ended last, or 0 if it has ended none. Holds are numbered 1, 2, 3 and so on over all seats,
+  -- in the order in which they end
   pub ended : ℕ
   -- while it holds, how many holds have ended
   pub holds_ended : ℕ
   -- the value that it has in hand while it holds
   pub value : Option T
-  -- while it holds, how many seats have come to hold by a queued record
+  -- while it holds, how many seats have acquired the mutex by a queued record
   pub queued : ℕ
   -- its steps so far
   pub trail : List Seen
   -- the seats that it has sent
   pub sends : List ℕ
 
--- what is seen of a seat that doesn't hold, and of one that does
+-- the second value for a seat that doesn't hold, the third for one that does
 abbrev pub by_depth : {A : Type 0} → ℕ → A → A → A
 by_depth zero out deep = out
 by_depth (suc d) out deep = deep
@@ -68,7 +69,7 @@ is_in_call Rest = false
 is_in_call (Asleep sleeper) = false
 is_in_call _ = true
 
--- the seat that an exchange of its wake word has claimed
+-- the seat t, if an exchange that found this wake word has claimed it
 abbrev pub claimed : ℕ → Wake → List ℕ
 claimed t Wake.Waiting = t ∷ []
 claimed t _ = []
@@ -103,7 +104,7 @@ sight_of n p v a =
 abbrev pub sight : {T : Type 0} → Seat T → Sight T
 sight s = sight_of s.table_seat.number s.state s.table_seat.place.me.0 (value_in s.table_seat.moving)
 
--- a seat as it is made, one of this number of seats
+-- the sight of a new seat, of a mutex with this number of seats
 abbrev pub new_sight : {T : Type 0} → T → ℕ → ℕ → Sight T
 new_sight x seats n =
     record {
@@ -123,36 +124,36 @@ new_sight x seats n =
       sends = [];
     }
 
--- the seat that a number found in the owner word names, if it can be one
+-- the seat that a number found in the owner word names; None if it can name none
 abbrev pub Names : Option ℕ → ℕ → Type 0
 Names (Some k) n = k ≡ n
 Names None n = IsSeatNo n → ⊥
 
--- a reading of the owner word: one load, which tells the caller whether it holds
+-- a read of the owner by `owner`: one load, from which the caller knows whether it holds
 abbrev pub TellsOwner : {T : Type 0} → Sight T → Sight T → Option ℕ → Type 0
 TellsOwner s t r =
     (n : ℕ) × (t ≡ record s { trail = s.trail ++ seen TryOwnerLoad n ∷ [] }) × Names r n × (r ≡ Some s.number → 0 < s.depth) × (0 < s.depth → r ≡ Some s.number)
 
--- The steps of a call that was refused as Busy: the count was not 0, the owner was another seat, and no handoff was posted, or the
--- one that was seen had gone
+-- The steps of a call that was refused as Busy: the count was not 0, this seat was not the owner, and no handoff was posted, or
+-- the one that was seen had gone.
 abbrev pub BusySeen : ℕ → List Seen → Type 0
 BusySeen s new =
     (n m h : ℕ) × (n ≢ 0) × (m ≢ s) × (
     (((handoff_of h).seat ≡ 0) × (new ≡ seen TryCountExchange n ∷ seen TryOwnerLoad m ∷ seen TryHandoffLoad h ∷ []))
     ⊎ ((k : ℕ) × ((handoff_of h).seat ≢ 0) × (same_handoff (handoff_of k) (handoff_of h) ≡ false) × (new ≡ seen TryCountExchange n ∷ seen TryOwnerLoad m ∷ seen TryHandoffLoad h ∷ seen (TryHandoffExchange (handoff_of h)) k ∷ [])))
 
--- an answer of a seat that gave up the mutex
+-- an answer of a call by which a seat gave up the mutex
 abbrev pub IsLeft : Unlocked → Type 0
 IsLeft (Unlocked.Still d) = ⊥
 IsLeft _ = ⊤
 
--- why a call is refused: a turn out of order comes from a seat in the midst of another call
+-- the refusal that a call returns: a turn out of order means that the seat has another call open
 abbrev pub refusal_of : Why → Refusal
 refusal_of (Why.By r) = r
 refusal_of _ = Refusal.Asleep
 
 module _ {T : Type 0} where
-  -- a call that came too early: the seat sleeps, or another call of it is open
+  -- why lock is refused. Asleep: the seat sleeps, or another call of it is open
   abbrev pub LockRefused : ℕ → Sight T → Refusal → Type 0
   LockRefused budget s Refusal.Asleep = s.asleep ≡ true
   LockRefused budget s Refusal.DepthFull = (s.asleep ≡ false) × (max_depth ≤ s.depth)
@@ -175,8 +176,8 @@ module _ {T : Type 0} where
   abbrev pub Deepens : Sight T → Sight T → ℕ → Type 0
   Deepens s t d = (s.asleep ≡ false) × (0 < s.depth) × (s.depth < max_depth) × (d ≡ s.depth + 1) × (t ≡ record s { depth = d; trail = t.trail })
 
-  -- The seat has given up the mutex: what was in hand is what it left last, and what it had found is still known. The hold that it
-  -- ended has the next number
+  -- The seat has given up the mutex. It left last what it had in hand, and the value that it had found is still known. The hold
+  -- that it ended has the next number.
   abbrev pub LeavesOff : Sight T → Sight T → Type 0
   LeavesOff s t = (s.asleep ≡ false) × (s.depth ≡ 1) × (t.number ≡ s.number) × (t.depth ≡ 0) × (t.value ≡ None) × ((x : T) → s.value ≡ Some x → t.last ≡ Some x) × (t.sends ≡ s.sends) × (t.found ≡ s.found) × (t.ended ≡ s.holds_ended + 1)
 
@@ -196,7 +197,7 @@ module _ {T : Type 0} where
   SendRefused n s target Refusal.NoSuchSeat = (s.asleep ≡ false) × (0 < target → n < target)
   SendRefused n s target _ = ⊥
 
-  -- how send_lock ends, of n seats
+  -- how send_lock ends at a mutex with n seats
   abbrev pub Sends : ℕ → Sight T → ℕ → Sight T → Result ⊤ Refusal → Type 0
   Sends n s target t (Ok u) = (s.asleep ≡ false) × (0 < target) × (target ≤ n) × (t ≡ record s { trail = t.trail; sends = s.sends ++ target ∷ [] })
   Sends n s target t (Err Refusal.NotWaiting) =
@@ -204,27 +205,27 @@ module _ {T : Type 0} where
   Sends n s target t (Err r) = SendRefused n s target r × (t ≡ s)
 
 module _ {T : Type 0} (follows : ℕ → T → T → Type 0) (fits : T → ℕ → Type 0) where
-  -- a value that was found by such a take, which must suit k queued takes when it is left
+  -- the value was found by an acquisition of this kind; what the seat leaves then must suit k queued takes
   abbrev pub Suits : How → T → ℕ → Type 0
   Suits How.Free w k = fits w k
   Suits (How.Queued x) w k = (j : ℕ) × (x ≡ j + 1) × (k ≡ x) × fits w j
 
-  -- The seat has come to hold, and found a value that what it left last leads to. If no later hold has ended than its own last one,
-  -- it finds what it left
+  -- The seat has acquired the mutex, and found a value that is reached from what it left last. If no later hold than its own
+  -- last one has ended, it finds what it left.
   abbrev pub Finds : How → Sight T → Sight T → Type 0
   Finds how s t =
       (w : T) × (t.value ≡ Some w) × (t.last ≡ Some w) × ((l : T) → s.last ≡ Some l → Reached follows t.seats s.number l w) × Suits how w t.queued × (t.found ≡ Some w) × (t.ended ≡ s.ended) × (s.ended ≤ t.holds_ended)
       × (s.ended ≡ t.holds_ended → s.last ≡ Some w)
 
-  -- what the seat has in hand may be left
+  -- the seat may leave the value that it has in hand
   abbrev pub MayLeave : Sight T → Type 0
   MayLeave s = (x : T) → s.value ≡ Some x → fits x s.queued × ((l : T) → s.last ≡ Some l → follows s.number l x)
 
-  -- what the seat has in hand may be left, if the call gives up its only hold
+  -- if the call gives up the seat's only hold, the seat may leave the value that it has in hand
   abbrev pub MayRelease : Sight T → Type 0
   MayRelease s = s.depth ≡ 1 → MayLeave s
 
-  -- a seat that doesn't hold comes to hold at once
+  -- a seat that doesn't hold acquires the mutex at once
   abbrev pub Gains : ℕ → How → Sight T → Sight T → Type 0
   Gains budget how s t =
       (s.asleep ≡ false) × (s.depth ≡ 0) × (s.takes < budget) × (t.number ≡ s.number) × (t.depth ≡ 1) × (t.takes ≡ s.takes + 1) × (t.asleep ≡ false) × (t.sends ≡ s.sends) × Finds how s t
@@ -267,7 +268,7 @@ module _ {T : Type 0} (follows : ℕ → T → T → Type 0) (fits : T → ℕ �
   ReceivesLock s t (Err Refusal.NotWaiting) = (s.asleep ≡ false ⊎ (s.in_call ≡ true)) × (t ≡ s)
   ReceivesLock s t (Err r) = ⊥
 
-  -- The same by the turn that ends the call
+  -- The same, by the turn that ends the call
 
   abbrev pub LockTurn : ℕ → Sight T → Sight T → Turn → Type 0
   LockTurn budget s t (Ended (Answer.Asked asked)) = Asks budget s t (Ok asked)
@@ -299,7 +300,7 @@ module _ {T : Type 0} (follows : ℕ → T → T → Type 0) (fits : T → ℕ �
   ReceiveTurn s t (Refused why) = Receives s t (Err Refusal.NotWaiting)
   ReceiveTurn s t _ = ⊤
 
-  -- what a call makes of a seat
+  -- how a call with this turn changes the sight of its seat
   abbrev pub Turned : Limits → Call → Sight T → Sight T → Turn → Type 0
   Turned l Call.Lock s t turn = LockTurn l.budget s t turn
   Turned l Call.TryLock s t turn = TryTurn l.budget s t turn
@@ -308,13 +309,13 @@ module _ {T : Type 0} (follows : ℕ → T → T → Type 0) (fits : T → ℕ �
   Turned l (Call.SendLock k) s t turn = SendTurn l.seats s k t turn
   Turned l Call.Receive s t turn = ReceiveTurn s t turn
 
--- How the last step of a call moves a seat's own data on
+-- How the last step of a call changes a seat's own state
 
 abbrev pub StillAt : Point → Type 0
 StillAt (WaitWakeStore released) = IsLeft released
 StillAt _ = ⊤
 
--- at this point, or by this answer, a seat that was x when its call's steps began
+-- how this answer relates the state x of the seat when the call's steps began to its state p afterwards
 abbrev pub AnsweredBy : SeatState → SeatState → Answer → Type 0
 AnsweredBy x p (Answer.Asked (Asked.Held how)) = (x.depth ≡ 0) × (p.depth ≡ 1) × (p.takes ≡ x.takes) × (p.point ≡ Rest)
 AnsweredBy x p (Answer.Asked (Asked.Again d)) = (0 < x.depth) × (d ≡ x.depth + 1) × (p.depth ≡ d) × (p.takes ≡ x.takes) × (p.point ≡ Rest)
@@ -337,6 +338,6 @@ Concludes x Open p = (p.depth ≡ x.depth) × (p.takes ≡ x.takes) × (StillAt 
 Concludes x (Ended answer) p = AnsweredBy x p answer
 Concludes x (Refused why) p = RefusedBy x p why
 
--- what a seat has in hand while it holds, and what it knows of it, is as it was
+-- while the seat holds, what it has in hand and what it knows of it has not changed
 abbrev pub Stays : {T : Type 0} → ℕ → View T → Option T → View T → Option T → Type 0
 Stays d v a v' a' = 0 < d → (a' ≡ a) × (v'.found ≡ v.found) × (v'.answered ≡ v.answered) × (v'.holds_ended ≡ v.holds_ended)

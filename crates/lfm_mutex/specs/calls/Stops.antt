@@ -17,7 +17,7 @@ stop_point Stop.LockPushes = PushLoad Pusher.Locker
 stop_point Stop.TryEnters = EnterOwnerStore Entrant.Trier How.Free
 stop_point Stop.TryLoadsHandoff = TryHandoffLoad
 
--- the same of a push
+-- the same for a push
 abbrev pub push_stop_point : Pusher → PushStop → Point
 push_stop_point pusher (PushStop.Changed word) = LinkStore pusher (link_of word)
 push_stop_point pusher (PushStop.Posted word) = found_posted pusher (handoff_of word)

@@ -1,4 +1,4 @@
--- The seats that the steps of a trail granted the mutex, and the wake-up that a call hands out for its grant.
+-- The seats to which the steps of a trail granted the mutex, and the wake-up that a call returns for its grant.
 use Rattle.std.specs.Prelude.{◌≡◌, ℕ, ◌<◌, ◌≤◌, List, [], ◌∷◌, ◌++◌, Option, Some, None, Bool, true, false}
 use Rattle.lfm_table.specs.declared.seat_view.Seen.{Seen}
 use Rattle.lfm_table.specs.Grants.{granted_at}
@@ -8,18 +8,18 @@ abbrev pub as_list : Option ℕ → List ℕ
 as_list (Some t) = t ∷ []
 as_list None = []
 
--- the one of two that is there
+-- the first of two if it is there, otherwise the second
 abbrev pub first_of : Option ℕ → Option ℕ → Option ℕ
 first_of (Some t) then = Some t
 first_of None then = then
 
--- in the order of their grants
+-- the seats to which these steps granted the mutex, in the order of the grants
 abbrev pub grants_of : List Seen → List ℕ
 grants_of [] = []
 grants_of (step ∷ steps) = as_list (granted_at step.point) ++ grants_of steps
 
--- the steps from one trail to the other stored a grant exactly if there is a wake-up, which is for the seat that was granted, one
--- of 1 to `seats`
+-- The steps from one trail to the other stored a grant exactly if there is a wake-up. The wake-up is for the seat that was
+-- granted the mutex, one of 1 to `seats`.
 pub record Wakes (seats : ℕ) (wake_up : Option ℕ) (before after : List Seen) : Type 0 where
   pub granted : grants_of after ≡ grants_of before ++ as_list wake_up
   pub above : (t : ℕ) → wake_up ≡ Some t → 0 < t

@@ -1,4 +1,4 @@
--- The holds that have ended at a table, from its rule; and that a close has one value to give back.
+-- The holds that have ended at a table, from the table's rule; and that a close can return only one value.
 use Rattle.std.proofs.Common.{◌≡◌, ℕ, ◌<◌, List, [], ◌∷◌, length, sym, refl, ap, subst, ◌∙◌, arith, inl, inr}
 use mathlib.Core.Option.{some, some-injective}
 use lib.ListN.{get_elem?}

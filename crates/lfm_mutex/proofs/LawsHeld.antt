@@ -1,4 +1,4 @@
--- What the rule of the table says of a running mutex, from the laws of the core, and what a seat knows of its mutex.
+-- What the rule of the table states about a running mutex, from the laws of the core, and what a seat knows of its mutex.
 use Rattle.std.proofs.Common.{ℕ, Option, ap, ◌∙◌}
 use Rattle.lfm_table.specs.Table.{State}
 use Rattle.lfm_laws.specs.steady.Steady.{Steady}

@@ -1,5 +1,5 @@
--- What holds of each element of a list, said by its place and said of all: `Mutex::new` and `Mutex::close` speak of seats by
--- their places, and loops and threads of all.
+-- A fact about each element of a list by its place, and the same fact about all elements: `Mutex::new` and `Mutex::close` use
+-- the first form for seats, and loops and threads the second.
 use Rattle.std.specs.Prelude.{All}
 use Rattle.std.proofs.Common.{◌≡◌, ℕ, zero, suc, ◌<◌, List, [], ◌∷◌, length, get_or, refl, sym, subst, arith}
 use mathlib.Core.Option.{some, some-injective, some-ne-none}

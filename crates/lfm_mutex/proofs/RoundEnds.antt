@@ -1,4 +1,4 @@
--- What rounds make of a seat.
+-- How rounds change a seat.
 use Rattle.std.specs.Prelude.{⊤}
 use Rattle.std.proofs.Common.{◌≡◌, Bool, true, false, ℕ, suc, ◌+◌, ◌<◌, ◌∙◌, Result, Ok, Err, IfOk, is_err, true≢false, inr, refl, sym, subst, arith}
 use Rattle.std.specs.Fn.{Shared}
@@ -11,12 +11,12 @@ use Rattle.lfm_mutex.specs.calls.Sections.{StandsAs}
 use Rattle.lfm_mutex.specs.calls.Sight.{sight}
 use denote.Ref.{MutBor}
 
--- what follows for what is there
+-- if P implies Q, then P of the value of an Ok implies Q of it
 pub if_ok : {X E : Type 0} (P Q : X → Type 0) (r : Result X E) → ((x : X) → P x → Q x) → IfOk r P → IfOk r Q
 if_ok P Q (Ok x) f p = f x p
 if_ok P Q (Err e) f p = tt
 
--- an answer that is an Err, and one that isn't
+-- the refusal of a result that is an Err; and that a result that is no Err is Ok
 pub the_refusal : (y : Result ⊤ Refusal) (b : Bool) → b ≡ is_err y → b ≡ true → (r : Refusal) × (y ≡ Err r)
 the_refusal (Ok u) b e t = absurd (true≢false (sym t ∙ e))
 the_refusal (Err r) b e t = (r, refl)
@@ -32,11 +32,11 @@ module _ {F T : Type 0} (g : Shared F (ℕ × (MutBor (Seat T) × Unit {0})) (Re
       let here : StandsAs (sight s) (sight t) = subst (λ z. StandsAs (sight z) (sight t)) made.2 (subst (λ z. StandsAs (sight made.0.now) (sight z)) made.3 k.1) in
       (subst (λ z. OfMutex z mutex) made.3 k.0, (here.0 ∙ stands.0, here.1 ∙ stands.1, here.2 ∙ stands.2))
 
-  -- a round that was refused is the last one
+  -- a refused round is the last one
   pub ends : (r : Refusal) → y ≡ Err r → HasRounded g f rounds mutex first t
   ends r is = (kept.0, kept.1, inr (i, s, r, below, lead, subst (λ z. RoundGives g f i s z t) is made))
 
-  -- one that was not refused is one more
+  -- a round that was not refused is one more round
   pub goes_on : y ≡ Ok tt → OfMutex t mutex × StandsAs (sight first) (sight t) × RoundsLead g f (i + 1) first t
   goes_on is = let one : suc i ≡ i + 1 = omega arith in
       (kept.0, kept.1, subst (λ n. RoundsLead g f n first t) one (s, lead, subst (λ z. RoundGives g f i s z t) is made))

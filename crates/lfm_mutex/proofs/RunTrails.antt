@@ -1,5 +1,5 @@
--- What a seat's part of a run tells: how often the seat comes to own, how many steps it makes, which records it pushes, and by which it
--- answers that it holds.
+-- What a seat's part of a run records: how often the seat becomes the owner, how many steps it makes, which records it pushes,
+-- and by which records it answers that it holds.
 use Rattle.std.proofs.Common.{◌≡◌, ◌≢◌, ◌⊎◌, ℕ, zero, suc, Bool, true, false, Option, inl, inr, ◌+◌, ◌<◌, ◌≤◌, List, [], ◌∷◌, ◌++◌, length, filter, nat_eq, slice_index, refl, sym, ap, ◌∙◌, subst, ⊎_elim, append-nil, arith, if◌then◌else◌}
 use Rattle.std.proofs.lemmas.Bool.{cases_Bool, cases_eq, cases_lt, eq-eqb, ne_eqb}
 use Rattle.std.proofs.lemmas.Grind.{flat_map-append}
@@ -53,7 +53,7 @@ use Rattle.lfm_table.specs.Actions.{seen, stores, told_of, events_of, after_acti
 use Rattle.lfm_table.proofs.tables.StepFacts.{made_of}
 use Rattle.lfm_mutex.specs.TableRuns.{answer_noted, answers_noted, entries_told, owner_loads, own_push, own_pushes, push_noted, pushes_noted, steps_told}
 
--- What is noted by one seat
+-- What is noted for one seat
 
 plus_none : (n : ℕ) → n ≡ 0 + n
 plus_none n = omega arith
@@ -82,7 +82,7 @@ first_entry c t (Begins s call) later = refl
 first_entry c t (Makes s) later = ap (λ (n : ℕ). n + entries_of_seat (happens c (makes s)).core t (events_of later)) (own_entry c s t)
 first_entry c t (LoadsOwner s) later = let z = owner_load_entry s t c.owner in omega (arith, z)
 
--- a seat comes to own as often as its part tells
+-- By induction on the actions: a seat becomes the owner as often as its part records.
 pub entries_of_part : (c : Core) (t : ℕ) (actions : List Action) → entries_of_seat c t (events_of actions) ≡ entries_told (part_of c t actions)
 entries_of_part c t [] = refl
 entries_of_part c t (d ∷ later) =
@@ -103,7 +103,7 @@ sum_adds : (n : ℕ) (f g : ℕ → ℕ) → sum_to (λ (t : ℕ). f t + g t) n 
 sum_adds zero f g = refl
 sum_adds (suc n) f g = let below = sum_adds n f g in omega (arith, below)
 
--- a sum in which only the seat s counts
+-- a sum in which only the term of seat s is not 0
 sum_of_one : (n s k : ℕ) → 0 < s → s ≤ n → sum_to (λ (t : ℕ). if nat_eq s t then k else 0) n ≡ k
 sum_of_one n s k above within =
     let one : ℕ → ℕ = λ (t : ℕ). if nat_eq s t then k else 0 in
@@ -123,7 +123,7 @@ summed_own n s x above within =
     sum_agrees n (λ (t : ℕ). if nat_eq s t then step_unit x.point else 0) (λ (t : ℕ). steps_told (if_own s t x)) (λ (t : ℕ). own_steps s t x)
     ∙ sum_of_one n s (step_unit x.point) above within
 
--- a number that is no seat's makes no step of a call
+-- a number that is not a seat's adds no step of a call
 summed_absent : (n s : ℕ) (x : Seen) → step_unit x.point ≡ 0 → sum_to (λ (t : ℕ). steps_told (if_own s t x)) n ≡ step_unit x.point
 summed_absent n s x none =
     sum_agrees n (λ (t : ℕ). 0) (λ (t : ℕ). steps_told (if_own s t x))
@@ -146,7 +146,7 @@ is_place : (n s : ℕ) → ((0 < s) × (s ≤ n)) ⊎ ((s ≡ 0) ⊎ (n < s))
 is_place n zero = inr (inl refl)
 is_place n (suc m) = ⊎_elim (λ (far : n < suc m). inr (inr far)) (λ (within : suc m ≤ n). inl (omega arith, within)) (cases_lt n (suc m))
 
--- nobody but the seats 1 to n has a part in these actions
+-- only the seats 1 to n have a part in these actions
 abbrev OnlySeats : ℕ → Core → List Action → Type 0
 OnlySeats n c actions = (t : ℕ) → (t ≡ 0) ⊎ (n < t) → part_of c t actions ≡ []
 
@@ -157,7 +157,7 @@ step_summed c s =
       | inr none ↦ summed_absent (length c.seats) s (noted c s) (ap (λ (x : SeatState). step_unit x.point) none)
     ]
 
--- the steps that an action is, and the loads for `owner`
+-- how many steps of calls and loads for `owner` this action is
 abbrev made_by : Core → Action → ℕ
 made_by c (Begins s call) = stepped_in c (begins s call)
 made_by c (Makes s) = stepped_in c (makes s)
@@ -177,7 +177,7 @@ made_first c (Begins s call) later = omega arith
 made_first c (Makes s) later = omega arith
 made_first c (LoadsOwner s) later = omega arith
 
--- the parts of all seats tell the steps of the run, and the loads for `owner`
+-- By induction on the actions: the parts of all seats record the steps of the run, and the loads for `owner`.
 pub steps_of_parts : (n : ℕ) (c : Core) (actions : List Action) → length c.seats ≡ n → OnlySeats n c actions
     → sum_to (λ (t : ℕ). steps_told (part_of c t actions)) n ≡ steps_of_run c (events_of actions) + owner_loads actions
 steps_of_parts n c [] many only = none_summed n
@@ -196,7 +196,7 @@ steps_of_parts n c (d ∷ later) many only =
 pushes_join : (t : ℕ) (xs ys : List Seen) → pushes_noted t (xs ++ ys) ≡ pushes_noted t xs ++ pushes_noted t ys
 pushes_join t xs ys = flat_map-append (λ (x : Seen). push_noted t x.point x.found) xs ys
 
--- the number that is noted at this point
+-- the number that a step at this point notes
 abbrev noted_at : Core → ℕ → SeatState → ℕ → Point → ℕ
 noted_at c s x seats q =
     told_of (stores (kind q)) (written_by x s (slice_index (words c) (index_by seats (target q s) (kind q))) (kind q)) (slice_index (words c) (index_by seats (target q s) (kind q)))
@@ -230,7 +230,7 @@ action_keeps c (Begins s call) steady = run_keeps c (begins s call ∷ []) stead
 action_keeps c (Makes s) steady = run_keeps c (makes s ∷ []) steady
 action_keeps c (LoadsOwner s) steady = steady
 
--- the records that a seat pushes are those that its part tells
+-- By induction on the actions: the records that a seat pushes are those that its part records.
 pub pushes_told : (c : Core) (t : ℕ) (actions : List Action) → Steady c → own_pushes c t actions ≡ pushes_noted t (part_of c t actions)
 pushes_told c t [] steady = refl
 pushes_told c t (d ∷ later) steady =
@@ -317,7 +317,7 @@ step_answer c s is = elim (cases_Bool (is_seat c.seats s)) [
   | inr none ↦ rw (none, absent_tested c.seats s none) refl
 ]
 
--- of the answers by seat s, those of seat t
+-- whether this is a record of seat t
 abbrev of_seat : ℕ → Record → Bool
 of_seat t r = nat_eq r.seat t
 
@@ -344,7 +344,7 @@ owner_load_answers s t n = ⊎_elim
 answers_join : (t : ℕ) (xs ys : List Seen) → answers_noted t (xs ++ ys) ≡ answers_noted t xs ++ answers_noted t ys
 answers_join t xs ys = flat_map-append (λ (x : Seen). answer_noted t x.point) xs ys
 
--- the answers Held(Queued) of a seat are those that its part tells
+-- By induction on the actions: the answers Held(Queued) of a seat are those that its part records.
 pub answers_told : (c : Core) (t : ℕ) (actions : List Action) → IsReached c → filter (of_seat t) (answer_record c (events_of actions)) ≡ answers_noted t (part_of c t actions)
 answers_told c t [] is = refl
 answers_told c t (Begins s call ∷ later) is = answers_told (happens c (begins s call)).core t later (reached_next c (begins s call) is)

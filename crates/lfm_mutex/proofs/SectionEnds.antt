@@ -1,4 +1,4 @@
--- What a seat is after a section: the hold that it came to is given up again.
+-- The seat after a section: it has given up again the hold by which it locked.
 use Rattle.std.proofs.Common.{◌≡◌, ℕ, ◌+◌, ◌<◌, ◌∙◌, Ok, false, sym, ap, arith}
 use Rattle.lfm_model.specs.declared.answers.How.{How}
 use Rattle.lfm_model.specs.declared.answers.Locked.{Locked}
@@ -48,7 +48,7 @@ module _ {T : Type 0} (follows : ℕ → T → T → Type 0) (fits : T → ℕ �
   gained_holds : (how : How) → Gains follows fits budget how s held → 0 < held.depth
   gained_holds how g = let a = g.4 in omega arith
 
-  -- whoever has locked holds
+  -- a seat that has locked holds
   pub holds_after_lock : (locked : Locked) → LocksWaiting follows fits budget s held (Ok locked) → 0 < held.depth
   holds_after_lock (Locked.Held how) l = gained_holds how l
   holds_after_lock (Locked.Again d) l = deepened_holds d l

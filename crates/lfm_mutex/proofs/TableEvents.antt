@@ -1,4 +1,4 @@
--- A step at a table is an event of the core, from the rule of the table.
+-- A step at a table is an event of the core: from the table's rule.
 use Rattle.std.proofs.Common.{ℕ, ◌+◌, refl, sym, subst, arith}
 use Rattle.lfm_protocol.specs.declared.limits.Limits.{Limits}
 use Rattle.lfm_protocol.specs.declared.seats.SeatState.{SeatState}

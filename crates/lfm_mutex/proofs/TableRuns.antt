@@ -1,4 +1,4 @@
--- The run of a table goes on with each atomic step, and what the laws say of runs of the core holds of it.
+-- Each atomic step extends the run of a table, and what the laws state about runs of the core holds of it.
 use Rattle.std.proofs.Common.{◌≡◌, ◌⊎◌, ℕ, zero, suc, ◌+◌, ◌*◌, ◌<◌, ◌≤◌, List, [], ◌∷◌, ◌++◌, Option, true, length, replicate, reverse, slice_index, refl, sym, ap, ◌∙◌, subst, ⊎_elim, inl, inr, arith}
 use mathlib.Core.Option.{some}
 use lib.ListN.{get_elem?}
@@ -32,14 +32,14 @@ use Rattle.lfm_mutex.proofs.ends.Seats.{joins, joins_keep, owner_keeps, owner_te
 use Rattle.lfm_mutex.specs.Laws.{IsCore}
 use Rattle.lfm_mutex.specs.TableRuns.{HoldsAfter, OtherStepsKeepTheCore, SeatsKnowUpToTheirLastStep, TablesEndCalls, TablesGoOnAsTheCore, TablesGoThroughReachedStates, TablesRunAsTheAbstractMutex, TablesHaveARun, TablesOpenAtTheStart, TablesOvertakeOnce, TablesServeInPushOrder, TrailsTellThePushes, TrailsTellTheAnswers, answers_noted, late_part, pushes_noted, popped_since, pushed_since, state_after}
 
--- each moment of a run in the limits is a state that a schedule reaches
+-- at each moment of a run within the limits, the state is one that a schedule reaches
 reached_after : (l : Limits) (actions : List Action) → are_in_limits l.seats l.budget ≡ true → IsReached (state_after l actions)
 reached_after l actions allowed = record { limits = l; events = events_of actions; allowed = allowed; here = refl }
 
 none_before : (n : ℕ) → 0 + n ≡ n
 none_before n = omega arith
 
--- nobody is queued at the start
+-- no seat is queued at the start
 
 none_unwalked : (n : ℕ) → unwalked (replicate n absent) ≡ 0
 none_unwalked zero = refl
@@ -152,7 +152,7 @@ module _ {T : Type 0} (follows : ℕ → T → T → Type 0) (fits : T → ℕ �
             (once, subst (λ (n : ℕ). n ≤ 1) (entries_of_part (state_after l early) t late) once)),
       )
 
-  -- nobody but the seats has a part in the late actions
+  -- only the seats of the mutex have a part in the late actions
   only_seats : (s : St) (l : Limits) (early late : List Action) → HoldsAfter follows fits l (early ++ late) s → (t : ℕ) → (t ≡ 0) ⊎ (l.seats < t) → late_part l early late t ≡ []
   only_seats s l early late holds t out =
       let h = holds.0 in

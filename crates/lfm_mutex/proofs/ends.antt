@@ -1,4 +1,4 @@
--- How seats are split off and joined, and what is known when all are back.
+-- How seats are split off and joined, and what is known when all seats have been joined again.
 pub mod Ends
 pub mod FreeWords
 pub mod Seats

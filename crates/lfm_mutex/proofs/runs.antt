@@ -1,4 +1,5 @@
--- The steps of a call, one after another: that they end, what they add to the trail, and what a call makes of the sight of its seat.
+-- The steps of a call, one after another: that they end, what they add to the trail, and how a call changes the sight of its
+-- seat.
 pub mod BusyFacts
 pub mod Courses
 pub mod DueFalls

@@ -1,4 +1,4 @@
--- Lists of seats as they come back, and the end of a table.
+-- The list of seats that is handed to a close, and the end of a table.
 use Rattle.std.specs.List.{remove}
 use Rattle.std.specs.Prelude.{Bool, true, false}
 use Rattle.std.proofs.lemmas.Bool.{false≢true}
@@ -58,7 +58,7 @@ total_two f (x ∷ xs) zero (suc j) a b e h n = let q : f x ≡ f a = ap f (some
 total_two f (x ∷ xs) (suc i) zero a b e h n = let q : f x ≡ f b = ap f (some-injective x b h) in let t = total_at f xs i a e in omega arith
 total_two f (x ∷ xs) (suc i) (suc j) a b e h n = let t = total_two f xs i j a b e h (λ q. n (ap suc q)) in omega arith
 
--- A seat that rests after a begin rested before it
+-- A seat that rests after the start of a call rested before it
 
 asleep_rests : (x : SeatState) (sleeper : Sleeper) (call : Call) → x.point ≡ Asleep sleeper → (Begin.begin_asleep x sleeper call).seat.point ≡ Rest → x.point ≡ Rest
 asleep_rests x sleeper Receive at e = absurd (cc)
@@ -116,7 +116,7 @@ module _ {T : Type 0} (follows : ℕ → T → T → Type 0) (suits : T → ℕ 
   abbrev IsResting : SeatState → Type 0
   IsResting x = (x.point ≡ Rest) × (x.depth ≡ 0)
 
-  -- if all seats are back, the view of seat 1 is the only one that was not joined
+  -- if all seats are back, seat 1 is the only one whose view is not joined (by counting roles)
   last_user : (s : St) (h : Held follows suits s) (v : View T) → get_elem? s.views 0 ≡ some v → v.made ≤ length v.joined → (j : ℕ) (z : View T) → get_elem? s.views j ≡ some z → z.role ≡ User → v ≡ z
   last_user s h v at back j z e u =
       let k = h.root v at in let r = roles s.views in let one : used v ≡ 1 = ap used_at k.user in let e0 = k.made in let e1 = k.back in
@@ -124,7 +124,7 @@ module _ {T : Type 0} (follows : ℕ → T → T → Type 0) (suits : T → ℕ 
       (λ zero_j. some-injective v z (sym at ∙ subst (λ (i : ℕ). get_elem? s.views i ≡ some z) zero_j e))
       (λ other. absurd (let one' : used z ≡ 1 = ap used_at u in let b = total_two used s.views 0 j v z at e other in omega arith))
 
-  -- if all seats are back, all of them rest
+  -- if all seats are back, each of them rests
   all_rest : (s : St) (h : Held follows suits s) (v : View T) → get_elem? s.views 0 ≡ some v → v.made ≤ length v.joined → v.state.point ≡ Rest → v.state.depth ≡ 0 → (t : ℕ) → IsResting (seat h.core.seats t)
   all_rest s h v at back rests flat zero = subst IsResting (sym (seat_zero h.core.seats)) (refl, refl)
   all_rest s h v at back rests flat (suc j) =
@@ -135,7 +135,7 @@ module _ {T : Type 0} (follows : ℕ → T → T → Type 0) (suits : T → ℕ 
       (λ (u : z.0.role ≡ Retired). h.others j z.0 z.1 u) (is_user z.0.role)))
       (λ far. subst IsResting (sym (h.later j far)) (refl, refl)) (there_or_past s.views j))
 
-  -- the value at the end is reached from what each seat left last
+  -- the value at the end is reached from the value that each seat left last
   abbrev pub ReachesAll : View T → T → Type 0
   ReachesAll v w = ((l : T) → v.last ≡ Some l → Reached follows v.limits.seats v.number l w) × ((i : ℕ) (g : Joined T) (l : T) → get_elem? v.joined i ≡ some g → g.last ≡ Some l → Reached follows v.limits.seats g.number l w)
 
@@ -143,16 +143,17 @@ module _ {T : Type 0} (follows : ℕ → T → T → Type 0) (suits : T → ℕ 
   abbrev pub NoneAtEnd : View T → Type 0
   NoneAtEnd v = (v.last_found ≡ None) × ((i : ℕ) (g : Joined T) → get_elem? v.joined i ≡ some g → g.found ≡ None)
 
-  -- the value at the end is what seat 1 left last, or what a seat that was joined did
+  -- seat 1, or a seat that was joined, left the value at the end last
   abbrev pub LeftAtEnd : View T → T → Type 0
   LeftAtEnd v w = ((v.last ≡ Some w) × (v.last_found ≡ None → NoneAtEnd v)) ⊎ ((i : ℕ) × (g : Joined T) × (get_elem? v.joined i ≡ some g) × (g.last ≡ Some w) × (g.found ≡ None → NoneAtEnd v))
 
-  -- seat 1, or one that was joined, has this number, left this value last, and so numbered was the hold that it ended then
+  -- seat 1, or a seat that was joined, has this number, left this value last, and ended its last hold with the number `ended`
   abbrev pub Among : View T → ℕ → Option T → ℕ → Type 0
   Among v number last ended =
       ((v.number ≡ number) × (v.last ≡ last) × (v.ended ≡ ended)) ⊎ ((i : ℕ) × (g : Joined T) × (get_elem? v.joined i ≡ some g) × (g.number ≡ number) × (g.last ≡ last) × (g.ended ≡ ended))
 
-  -- this number of holds have ended, and this seat left the value at the end with the last of them, or none has left any
+  -- `count` holds have ended, and this seat left the value at the end with the last of them, or, if none has ended, it is the
+  -- opening value
   pub record LatestAtEnd (v : View T) (w : T) : Type 0 where
     pub seat : ℕ
     pub count : ℕ
@@ -197,7 +198,8 @@ module _ {T : Type 0} (follows : ℕ → T → T → Type 0) (suits : T → ℕ 
       (λ (u : left.1.role ≡ User). let one = last_user s h v at back left.0 left.1 left.2 u in inl (ap (λ (z : View T). z.last) one ∙ left.3, λ none. none_end s h v at (left.4 (sym (ap (λ (z : View T). z.last_found) one) ∙ none))))
       (λ (u : left.1.role ≡ Retired). let a = (h.root v at).gone left.0 left.1 left.2 u in inr (a.0, joined_of left.1, a.1, left.3, λ none. none_end s h v at (left.4 none))) (is_user left.1.role)
 
-  -- The trails at the end are the parts of one run, which has led from the start to a free state. Each seat knew it up to its own last step.
+  -- The trails at the end are the parts of one run, which leads from the start to a free state. Each seat knew that run up to
+  -- its own last step.
   pub record EndsRun (v : View T) : Type 0 where
     pub actions : List Action
     pub allowed : are_in_limits v.limits.seats v.limits.budget ≡ true
@@ -243,25 +245,25 @@ module _ {T : Type 0} (follows : ℕ → T → T → Type 0) (suits : T → ℕ 
         ends_run s h v at free,
       )
 
--- an item that was taken from the end of a list
+-- an item that was removed from the end of a list
 pub was_last : {A : Type 0} (old l : List A) (x : A) → old ≡ l ++ x ∷ [] → get_elem? old (length l) ≡ some x
 was_last old l x e = ap (λ z. get_elem? z (length l)) e ∙ at_last l x (length l) refl
 
 pub was_there : {A : Type 0} (old l : List A) (x y : A) (j : ℕ) → old ≡ l ++ x ∷ [] → get_elem? l j ≡ some y → get_elem? old j ≡ some y
 was_there old l x y j e at = ap (λ z. get_elem? z j) e ∙ at_longer l (x ∷ []) j y at
 
--- a fact on each index below i, and on the item at i
+-- a fact on each item below i, and on the item at i
 pub up_to : {A : Type 0} (P : A → Type 0) (l : List A) (i : ℕ) (x : A) → i < length l → x ≡ get_or l i x → P x → ((j : ℕ) (y : A) → j < i → get_elem? l j ≡ some y → P y) → (j : ℕ) (y : A) → j < i + 1 → get_elem? l j ≡ some y → P y
 up_to P l i x here is p below j y lt e = dite (ℕ_discrete j i) (λ q. subst P (some-injective x y (sym (at_index l i x here is) ∙ (ap (get_elem? l) (sym q) ∙ e))) p) (λ n. below j y (omega arith) e)
 
--- the item that a loop over a list is at
+-- the item that a loop over a list has reached
 pub item_at : {A : Type 0} (l m : List A) (i : ℕ) (x : A) → i < length l → x ≡ get_or m i x → m ≡ l → get_elem? l i ≡ some x
 item_at l m i x here is same = at_index l i x here (is ∙ ap (λ z. get_or z i x) same)
 
 pub each_of : {A : Type 0} (P : A → Type 0) (l : List A) (i : ℕ) → length l ≤ i → ((j : ℕ) (y : A) → j < i → get_elem? l j ≡ some y → P y) → (j : ℕ) (y : A) → get_elem? l j ≡ some y → P y
 each_of P l i far below j y e = let r = length_at l j y e in below j y (omega arith) e
 
--- what is left if one item is taken out
+-- each item that is left after one was removed was in the list before
 pub in_removed : {A : Type 0} (xs : List A) (i j : ℕ) (y : A) → get_elem? (remove xs i) j ≡ some y → (k : ℕ) × (get_elem? xs k ≡ some y)
 in_removed [] zero j y e = absurd (some-ne-none y (sym e))
 in_removed [] (suc i) j y e = absurd (some-ne-none y (sym e))
@@ -276,7 +278,7 @@ not_removed (x ∷ xs) zero (suc k) y e = inr (k, e)
 not_removed (x ∷ xs) (suc i) zero y e = inr (0, e)
 not_removed (x ∷ xs) (suc i) (suc k) y e = ⊎_elim (λ t. inl (ap suc t)) (λ t. inr (suc t.0, t.1)) (not_removed xs i k y e)
 
--- a list in which each number from 1 to n is found has n items
+-- A list in which each number from 1 to n is found has at least n items: each item has one number.
 abbrev at_number : ℕ → ℕ → ℕ
 at_number k x = if eqb x k then 1 else 0
 
@@ -315,13 +317,13 @@ found_all number l (suc n) h = let a = found_all number l n (λ k p q. h k p (om
 pub pigeons : {A : Type 0} (number : A → ℕ) (l : List A) (n : ℕ) → ((k : ℕ) → 0 < k → k ≤ n → (i : ℕ) × (s : A) × (get_elem? l i ≡ some s) × (number s ≡ k)) → n ≤ length l
 pigeons number l n h = let a = found_all number l n h in let b = total_once (λ s. up_to_number n (number s)) l (λ s. once n (number s)) in omega arith
 
--- what missing_for a seat of the list
+-- what `missing_for` returns for a seat of the list hinders the close with that list
 pub hindered_at : {A : Type 0} {T : Type 0} (look : A → Sight T) (l : List A) (i : ℕ) (s : A) (k : ℕ) (m : Missing) → get_elem? l i ≡ some s → (look s).number ≡ k → Hinders m (look s) → (named m ≡ k) × Hindered look l m
 hindered_at look l i s k (NotBack n) at e h = absurd h
 hindered_at look l i s k (Holding n) at e h = (sym h.0 ∙ e, (i, s, at, h))
 hindered_at look l i s k (Sleeping n) at e h = (sym h.0 ∙ e, (i, s, at, h))
 
--- what a seat that doesn't hold left last
+-- the value that a seat that doesn't hold left last
 pub seen_last : {A : Type 0} (d : ℕ) (x y z : A) → d ≡ 0 → by_depth d x y ≡ z → x ≡ z
 seen_last zero x y z flat e = e
 seen_last (suc d) x y z flat e = absurd (omega (arith, flat))
@@ -330,7 +332,7 @@ pub last_seen : {A : Type 0} (d : ℕ) (x y : A) → d ≡ 0 → by_depth d x y 
 last_seen zero x y flat = refl
 last_seen (suc d) x y flat = absurd (omega (arith, flat))
 
--- a seat that isn't asleep is at rest
+-- a seat that isn't asleep rests
 pub rest_of : (q : Point) → is_asleep q ≡ false → q ≡ Rest
 rest_of Rest e = refl
 rest_of _ e = absurd (false≢true (sym e))

@@ -1,4 +1,4 @@
--- If no seat holds, sleeps or is in a call, the count is 0, nothing is posted and nobody is queued.
+-- If no seat holds, sleeps or is in a call, the count is 0, nothing is posted and no seat is queued.
 use Rattle.std.proofs.Common.{◌≡◌, ⊎_elim, inl, inr, ℕ, List, [], ◌∷◌, length, eq-eqb, refl, sym, ◌∙◌, arith}
 use Rattle.std.proofs.lemmas.Bool.{cases_eq}
 use Rattle.lfm_protocol.specs.declared.points.Point.TheVariants.{Rest, Asleep}

@@ -1,4 +1,4 @@
--- Splitting a seat off, joining it again, a reading of the owner, the start and the end.
+-- Splitting a seat off, joining it again, a load for `owner`, the start and the end.
 use Rattle.std.specs.List.{insert}
 use Rattle.std.specs.Prelude.{true, false, ⊤}
 use Rattle.std.proofs.Common.{◌≡◌, ◌≢◌, ℕ, zero, suc, ◌*◌, ◌+◌, ◌<◌, ◌≤◌, List, [], ◌∷◌, ◌++◌, map, length, get_or, set, replicate, sym, refl, ap, ◌∙◌, subst, ◌⊎◌, ⊎_elim, inl, inr, arith, Option, Some, None, length-set, length-append, tests}
@@ -68,7 +68,7 @@ not_both : (r : Role) → r ≡ User → r ≡ Retired → ⊥
 not_both r u e = cc
 
 module _ {T : Type 0} (follows : ℕ → T → T → Type 0) (suits : T → ℕ → Type 0) (c : Core) (g : Ghost) (count : ℕ) (homes : List (maybe.Option (Option (Moving T)))) where
-  -- the parts of the rule that read what each seat is about to do and left last
+  -- the parts of the rule that depend on what each seat does next and left last
   record Parts (views : List (View T)) : Type 0 where
     few : length views ≤ length c.seats
     each : (j : ℕ) (v : View T) → get_elem? views j ≡ some v → Sits c j v
@@ -77,7 +77,7 @@ module _ {T : Type 0} (follows : ℕ → T → T → Type 0) (suits : T → ℕ 
     outside : (j : ℕ) (v : View T) → get_elem? views j ≡ some v → carries_value v.state ≡ true → WithSeat follows suits c g count views j v
     numbered : AreNumbered views count
 
-  -- one view becomes another that says the same
+  -- one view is replaced by another with the same facts
   module _ (views : List (View T)) (p : Parts views) (i : ℕ) (x y : View T) (at : get_elem? views i ≡ some x) (number : y.number ≡ x.number) (limits_are : y.limits ≡ x.limits) (stands : y.state ≡ x.state) (lasts : y.last ≡ x.last) (founds : y.found ≡ x.found)
       (lists : y.popped ≡ x.popped) (holds : y.answered ≡ x.answered) (opens : y.opening ≡ x.opening) (ended : y.last_found ≡ x.last_found) (numbers : y.ended ≡ x.ended) (counts : y.holds_ended ≡ x.holds_ended) where
     sized : (z : View T) → y ≡ z → x.limits.seats ≡ z.limits.seats
@@ -144,7 +144,7 @@ module _ {T : Type 0} (follows : ℕ → T → T → Type 0) (suits : T → ℕ 
       numbered = numbered_same views i x y at (length_at views i x at) opens count lasts numbers p.numbered;
     }
 
-  -- one more view, of a seat that has not stepped
+  -- one more view, of a seat that has made no step
   module _ (views : List (View T)) (p : Parts views) (k r : View T) (at : get_elem? views 0 ≡ some k) (room : length views < length c.seats) (number : r.number ≡ length views + 1) (limits_are : r.limits ≡ limits c) (new : r.state ≡ absent) (lasts : r.last ≡ k.opening) (unheld : r.last_found ≡ None) (unended : r.ended ≡ 0) where
     leads_end : (which : ℕ → Type 0) (t : T) → LeadsToValue follows which views t → Awaits follows views t → LeadsToValue follows which (views ++ r ∷ []) t
     leads_end which t old still j z l e ok is = ⊎_elim (λ u. old j z l u ok is)
@@ -201,7 +201,7 @@ module _ {T : Type 0} (follows : ℕ → T → T → Type 0) (suits : T → ℕ 
   parts : (s : St) (h : Held follows suits s) → Parts follows suits h.core h.ghost_state h.holds_ended s.homes s.views
   parts s h = record { few = h.few; each = h.each; later = h.later; home = h.home; outside = h.outside; numbered = h.numbered }
 
-  -- the views say of the run what they said
+  -- the views state the same about the run as before
 
   same_set : (views : List (View T)) (i : ℕ) (x y : View T) → get_elem? views i ≡ some x → SaysTheSame y x → (j : ℕ) (z : View T) → get_elem? (set views i y) j ≡ some z
       → (v : View T) × (get_elem? views j ≡ some v) × SaysTheSame z v
@@ -308,7 +308,7 @@ module _ {T : Type 0} (follows : ℕ → T → T → Type 0) (suits : T → ℕ 
         run = run_joined h.opened h.actions h.core s.views h.run v w at other there;
       }
 
-  -- both keep the run
+  -- splitting off and joining keep the run
   pub splits_keep : (v : View T) (user : v.role ≡ User) (room : v.made + 2 ≤ v.limits.seats) (s : State (Option (Moving T)) (View T)) (h : Held follows suits s) (at : get_elem? s.views 0 ≡ some v)
       → ((splits v user room s h at).opened ≡ h.opened) × ((splits v user room s h at).actions ≡ h.actions)
   unfolding splits
@@ -343,7 +343,7 @@ module _ {T : Type 0} (follows : ℕ → T → T → Type 0) (suits : T → ℕ 
         let opened : h.opened ≡ me.0.limits = sym (limits_stay h.opened (events_of h.actions) h.run.allowed) ∙ (ap limits (sym h.run.here) ∙ sym sits_here.limits_are) in
         goes_on_by h.opened h.actions h.core s.views h.run (LoadsOwner (id + 1) ∷ []) h.core id me.0 Seen (seen TryOwnerLoad Found) at refl refl load_part (load_by (id + 1)) (load_last (id + 1) (id + 1) refl) refl sits_here.state sits_here.number opened
 
-    -- the rule goes on holding, and the run has gone on by this load
+    -- the rule still holds, and the run is extended by this load
     pub owner_keeps : (after : Held follows suits (stepped s 1 Found id me.1 Seen keeps)) × (after.opened ≡ h.opened) × (after.actions ≡ h.actions ++ LoadsOwner (id + 1) ∷ [])
     owner_keeps =
         let q = quiet follows suits h.core h.ghost_state h.holds_ended s.homes s.views (parts s h) id me.0 Seen at refl refl refl refl refl refl refl refl refl refl refl in
@@ -373,7 +373,7 @@ module _ {T : Type 0} (follows : ℕ → T → T → Type 0) (suits : T → ℕ 
           refl,
         )
 
-    -- what it tells
+    -- what the load shows the caller
     pub owner_tells : ReadsOwner me Found (Seen, me.1)
     owner_tells =
         let sits = h.each id me.0 at in
@@ -423,7 +423,7 @@ first_last follows x l a b seats j first same is = let eq : x ≡ l = some_same 
 some_seats : (seats budget : ℕ) → are_in_limits seats budget ≡ true → 0 < seats
 some_seats seats budget allowed = search (tests, arith, allowed)
 
--- the table at the start
+-- the rule holds of the table at the start
 pub starts : {T : Type 0} (follows : ℕ → T → T → Type 0) (suits : T → ℕ → Type 0) (l : Limits) (ws : List ℕ) (x : Moving T) → are_in_limits l.seats l.budget ≡ true → ws ≡ replicate (4 + 2 * l.seats) 0 → x.popped.records ≡ [] → x.popped.room ≡ l.seats → suits x.value 0
     → Held follows suits (opening ws (Some x ∷ []) (first_view l x.value))
 starts {T} follows suits l ws x allowed are none_popped room fit =
@@ -512,7 +512,7 @@ module _ {T : Type 0} (words id number : ℕ) (l : Limits) (p : SeatState) (m : 
   pub fresh_ready : 0 < number → number ≤ l.seats → IsReady l.seats number p
   fresh_ready above within = subst (λ (q : SeatState). IsReady l.seats number q) (sym is) (ready_absent l.seats number above within)
 
--- a fact on each item, and on one more
+-- a fact on each item, and on one more at the end
 pub and_last : {A : Type 0} (P : ℕ → A → Type 0) (l m : List A) (x : A) → m ≡ l ++ x ∷ [] → P (length l) x → ((j : ℕ) (y : A) → get_elem? l j ≡ some y → P j y) → (j : ℕ) (y : A) → get_elem? m j ≡ some y → P j y
 and_last {A} P l m x is p old j y e = ⊎_elim (λ u. old j y u) (λ u. subst (λ (t : ℕ × A). P t.0 t.1) (λ i. (sym u.0 i, u.1 i)) p) (at_end l x y j (ap (λ z. get_elem? z j) (sym is) ∙ e))
 
@@ -524,14 +524,14 @@ in_front : {A : Type 0} (P : ℕ → A → Type 0) (xs : List A) (x : A) → P 0
 in_front P xs x p ps zero y e = subst (P 0) (some-injective x y e) p
 in_front P xs x p ps (suc j) y e = subst (λ (n : ℕ). P n y) (let q : j + 1 ≡ suc j = omega arith in q) (ps j y e)
 
--- a fact on each item, and on one before all
+-- a fact on each item, and on one more in front
 pub and_first : {A : Type 0} (P : ℕ → A → Type 0) (xs ys : List A) (x : A) → ys ≡ insert xs 0 x → P 0 x → ((j : ℕ) (y : A) → get_elem? xs j ≡ some y → P (j + 1) y) → (j : ℕ) (y : A) → get_elem? ys j ≡ some y → P j y
 and_first P xs ys x is p ps j y e = in_front P xs x p ps j y (ap (λ z. get_elem? z j) (sym (is ∙ insert_first xs x)) ∙ e)
 
 pub limit_facts : (seats budget : ℕ) → are_in_limits seats budget ≡ true → (0 < seats) × (seats ≤ max_seats)
 limit_facts seats budget allowed = (some_seats seats budget allowed, few_seats seats budget allowed)
 
--- the depth of a seat, and that of its view
+-- a seat holds exactly if its view does
 pub depth_seen : (x : SeatState) (l : Limits) (p : SeatState) → Became x l p → (0 < p.depth → 0 < x.depth) × (0 < x.depth → 0 < p.depth)
 depth_seen x l p b = (
   (λ d. let h = b.deep in omega (arith, h, d)),

@@ -1,4 +1,4 @@
--- Which steps a call has made that is refused as Busy.
+-- Which steps a call makes that is refused as Busy.
 use Rattle.std.proofs.Common.{◌≡◌, ◌≢◌, ℕ, ◌+◌, ◌-◌, Bool, true, false, Option, nat_eq, refl, sym, ◌∙◌, inl, inr, if◌then◌else◌, List, [], ◌∷◌, subst}
 use Rattle.lfm_model.specs.declared.answers.How.{How}
 use Rattle.lfm_words.specs.declared.pop_lists.Record.{Record}

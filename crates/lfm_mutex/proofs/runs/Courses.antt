@@ -1,4 +1,4 @@
--- The course of a call: what the steps that it has made come to.
+-- The course of a call: what the steps that it has made add up to.
 use Rattle.std.proofs.Common.{◌≡◌, ◌≢◌, ℕ, ◌+◌, sym, refl, ap, ◌∙◌, subst, Option, Some, None}
 use Rattle.std.specs.Prelude.{true, false}
 use Rattle.lfm_table.specs.Table.{Me}
@@ -45,7 +45,7 @@ module _ {T : Type 0} (follows : ℕ → T → T → Type 0) (suits : T → ℕ 
     held = λ how e. absurd (none_held how e);
   }
 
-  -- one more
+  -- one more step
   pub course_more : (l : Limits) (p q : SeatState) (m : Me (Option (Moving T)) (View T)) (a b : Option (Moving T)) (w : View T) (turn : Turn) → CourseNow Open p a m.0 → Seated s l p m a → Event follows suits p a m.0 turn q b w → kind p.point ≢ None
       → is_release p.point ≡ false → CourseNow turn q b w
   course_more l p q m a b w turn so was e some keeps =
@@ -57,7 +57,7 @@ module _ {T : Type 0} (follows : ℕ → T → T → Type 0) (suits : T → ℕ 
         held = λ how is. holds_now follows suits s l p q m w a b turn (last_hold v0) was so.last e how is;
       }
 
-  -- the steps that the slow path makes from there on
+  -- the steps that the slow path makes after it
   pub course_join : (p q : SeatState) (a b : Option (Moving T)) (v w : View T) (turn : Turn) → CourseNow Open p a v → Course follows suits s p a v turn q b w → CourseNow turn q b w
   course_join p q a b v w turn so then = record {
     ran = ran_join s p0 p q v0 v w turn so.ran then.ran;
@@ -67,7 +67,7 @@ module _ {T : Type 0} (follows : ℕ → T → T → Type 0) (suits : T → ℕ 
     held = λ how is. subst (λ (o : LastHold T). Holds follows suits s o how q b w) so.last (then.held how is);
   }
 
-  -- all that is said of the call that has ended so
+  -- the whole contract of a call that has ended with these steps
   pub comes : (n : ℕ) (l all : Limits) (call : Call) (p q : SeatState) (turn : Turn) (b : Option (Moving T)) (w : View T) → l ≡ all → n ≡ s → is_releasing (errand_of call) ≡ false → Begin.begin p l call ≡ opens p0 → Ends (errand_of call) turn → CourseNow turn q b w
       → ComesTo follows suits all call (sight_of s p v0 (value_in a0)) (sight_of n q w (value_in b)) turn
   comes n l all call p q turn b w same named keeps begins ends so =
@@ -78,7 +78,7 @@ module _ {T : Type 0} (follows : ℕ → T → T → Type 0) (suits : T → ℕ 
         made = makes l call s n p q v0 w (value_in a0) (value_in b) turn named (subst (λ (z : Stepped). CalledBy z.turn s (errand_of call) z.seat v0 turn q w) (sym begins) (ends, so.ran));
       })
 
-  -- one step more, by what is told of it
+  -- one more step, from the contract of that step
   pub course_next : (words id : ℕ) (l : Limits) (p : SeatState) (n : ℕ) (m : Me (Option (Moving T)) (View T)) (a : Option (Moving T)) (m' : Me (Option (Moving T)) (View T)) (a' : Option (Moving T)) (words' id' : ℕ) (st : Stepped)
       → CourseNow Open p a m.0 → Fit s words id l p m a → MadeStep follows suits s words' id' l p n m a m' a' → stepped_by p s n (oldest_in a') ≡ st → kind p.point ≢ None → is_release p.point ≡ false → CourseNow st.turn st.seat a' m'.0
   course_next words id l p n m a m' a' words' id' st so fit did is some keeps =
@@ -91,7 +91,7 @@ module _ {T : Type 0} (follows : ℕ → T → T → Type 0) (suits : T → ℕ 
   first : Event follows suits p0 a m0.0 Open p1 a1 m1.0
   first = event_there follows suits s words' id' l p0 k m0 a m1 a1 did (opens p1) is
 
-  -- what the steps after the store that ends the hold come to
+  -- the whole contract of a release, from the course of the steps after the store that ends the hold
   pub gives_up : (call : Call) (all : Limits) (p q : SeatState) (turn : Turn) (b : Option (Moving T)) (w : View T) → is_releasing (errand_of call) ≡ true → l ≡ all → n ≡ s → Begin.begin p l call ≡ opens p0 → Ends (errand_of call) turn → Course follows suits s p1 a1 m1.0 turn q b w
       → ComesTo follows suits all call (sight_of s p m0.0 (value_in a)) (sight_of n q w (value_in b)) turn
   gives_up call all p q turn b w gives same named begins ends so =

@@ -1,5 +1,5 @@
--- Each step lowers what is due to its call by one, and a failed push raises it by two: so what a call makes is what was due to it,
--- and two for each failure.
+-- Each step lowers the number of steps due to its call by one, and a failed push raises it by two. So a call makes at most the
+-- steps that were due to it, and two for each failure.
 use Rattle.std.proofs.Common.{◌≡◌, ◌≢◌, ◌⊎◌, ℕ, ◌+◌, ◌-◌, ◌*◌, ◌<◌, ◌≤◌, Bool, true, false, Option, Some, None, nat_eq, refl, arith, inl, inr, if◌then◌else◌}
 use Rattle.lfm_words.specs.declared.links.Link.{Link}
 use Rattle.lfm_words.specs.declared.pop_lists.Record.{Record}
@@ -47,7 +47,7 @@ due-le n k (GrantWakeStore (Carrier.Reclaimer r) oldest) = omega arith
 due-le n k (GrantWakeStore Carrier.Sender oldest) = omega arith
 due-le n k _ = omega arith
 
--- The steps of a push, and what comes of it
+-- The steps of a push, and the points that they lead to
 
 abbrev Below : ℕ → ℕ → ℕ → Stepped → Type 0
 Below n k w st = due n k st.seat.point < w
@@ -83,7 +83,7 @@ due_sends : (n k s : ℕ) (o : Option Record) → due n k (take Carrier.Sender s
 due_sends n k s None = omega arith
 due_sends n k s (Some r) = omega arith
 
--- a push exchange goes on to the handoff, or stores its link once more
+-- a push exchange leads to the load of the handoff word, or, if it failed, to storing the link once more
 due_exchanged : (n k : ℕ) (b : Bool) (pusher : Pusher) (found : Link) → due n k (if b then PushedHandoffLoad pusher else LinkStore pusher found) < n + 5 + 2 * (if b then 0 else 1)
 due_exchanged n k true pusher found = omega arith
 due_exchanged n k false pusher found = omega arith
@@ -135,7 +135,7 @@ waits_most : (r : Releaser) → waits_on r ≤ 1
 waits_most Unlocker = omega arith
 waits_most Waiter = omega arith
 
--- nowhere are more than n + 9 steps due
+-- By cases on the point: at most n + 9 steps are due.
 pub due-most : (n k : ℕ) (p : Point) → due n k p ≤ n + 9
 due-most n k (PushedHandoffExchange Pusher.Locker old) = omega arith
 due-most n k (PushedHandoffExchange (Pusher.Sender t) old) = omega arith

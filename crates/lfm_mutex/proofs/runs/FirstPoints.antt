@@ -1,4 +1,4 @@
--- The points at which a call begins and to which no step leads: the exchange of a send and the store that ends a hold.
+-- Points at which a call starts and to which no step leads: the exchange of a send, and the store that ends a hold.
 use Rattle.std.proofs.Common.{◌≡◌, ℕ, Bool, true, false, Option, Some, None, nat_eq, refl, sym, if◌then◌else◌}
 use Rattle.std.proofs.lemmas.Bool.{false≢true}
 use Rattle.lfm_model.specs.declared.answers.Unlocked.{Unlocked}

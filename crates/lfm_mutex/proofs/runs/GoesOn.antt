@@ -1,5 +1,5 @@
--- What is said of a whole call, from what is said of the rest of it: its steps so far are a plain course. The rest is said of the
--- seat as it stands then, under the number and the limits that it has then.
+-- From facts about the rest of a call to the same facts about the whole call, whose steps so far are a plain course. The facts
+-- about the rest are stated for the seat after these steps, with the number and the limits that it has then.
 use Rattle.std.proofs.Common.{◌≡◌, ℕ, List, Option, subst, length}
 use Rattle.lfm_protocol.specs.declared.answers.Turn.{Turn}
 use Rattle.lfm_protocol.specs.declared.answers.Turn.TheVariants.{Open}

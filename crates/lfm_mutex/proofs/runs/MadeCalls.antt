@@ -1,4 +1,4 @@
--- The steps of a call, as they are told between two sights of its seat.
+-- The steps of a call, as contracts state them between two sights of its seat.
 use Rattle.std.proofs.Common.{◌≡◌, ◌⊎◌, inl, inr, ℕ, List, [], ◌∷◌, ◌++◌, true, false, Option, None, refl, sym, subst, ◌∙◌}
 use Rattle.std.specs.Prelude.{Err}
 use Rattle.std.proofs.lemmas.Bool.{false≢true}
@@ -29,7 +29,7 @@ made l call s t Open m = tt
 made l call s t (Ended answer) m = m
 made l call s t (Refused why) m = (why, m)
 
--- a call of the seat's own data is one of what is seen
+-- a call on the seat's own state is a call between its sights
 pub makes : {T : Type 0} (l : Limits) (call : Call) (n n' : ℕ) (p p' : SeatState) (v v' : View T) (a a' : Option T) (turn : Turn) → n' ≡ n → Called n l call p v turn p' v' → Made l call (sight_of n p v a) (sight_of n' p' v' a') turn
 makes l call n n' p p' v v' a a' turn same called =
     made l call (sight_of n p v a) (sight_of n' p' v' a') turn
@@ -40,12 +40,12 @@ pub finds_none_more : {T : Type 0} (l : Limits) (s : Sight T) (ms : List (Sight 
 finds_none_more l s [] m t first last = (subst (λ (z : Sight _). Makes l Call.Receive z t (Ended (Answer.Got None))) first last, refl)
 finds_none_more l s (x ∷ ms) m t first last = (first.0, finds_none_more l x ms m t first.1 last)
 
--- a receive that is refused has changed nothing
+-- a refused receive has changed nothing
 pub refused_receive : {T : Type 0} (follows : ℕ → T → T → Type 0) (fits : T → ℕ → Type 0) (m t : Sight T) (r : Refusal) → Receives follows fits m t (Err r) → (m.asleep ≡ false ⊎ (m.in_call ≡ true)) × (t ≡ m)
 refused_receive follows fits m t Refusal.NotWaiting told = told
 refused_receive follows fits m t _ told = absurd told
 
--- a seat that received before sleeps, so a receive that is refused is the first
+-- a seat that has received sleeps, so only the first receive can be refused
 pub first_receive : {T : Type 0} (s m : Sight T) (trail : List Seen) → ((m ≡ s) ⊎ ((s.asleep ≡ true) × (s.in_call ≡ false))) → m ≡ record s { trail = trail } → (m.asleep ≡ false ⊎ (m.in_call ≡ true)) → m ≡ s
 first_receive s m trail (inl same) seen refused = same
 first_receive s m trail (inr sleeps) seen (inl awake) = absurd (false≢true (sym awake ∙ ((λ i. (seen i).asleep) ∙ sleeps.0)))

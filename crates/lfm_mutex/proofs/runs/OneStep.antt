@@ -1,4 +1,4 @@
--- One turn of a seat by hand, between two sights of it.
+-- One turn of a seat by `start` or `next`, between two sights of it.
 use Rattle.std.proofs.Common.{◌≡◌, ◌≢◌, ◌⊎◌, ℕ, ◌+◌, ◌<◌, true, false, Option, Some, None, refl, sym, ap, subst, ◌∙◌, arith, inl, inr}
 use Rattle.std.proofs.lemmas.Bool.{cases_eq, false≢true}
 use Rattle.lfm_table.specs.Table.{Me}
@@ -41,7 +41,7 @@ Both d k = ((d ≡ 0) × (k ≡ 0)) ⊎ ((0 < d) × (0 < k))
 both_same : (d k : ℕ) → k ≡ d → Both d k
 both_same d k same = elim (cases_eq d 0) [ inl z ↦ inl (z, same ∙ z) | inr some ↦ inr (omega (arith, some), omega (arith, some, same)) ]
 
--- a step that gains nothing holds afterwards exactly if it did before
+-- By cases on the turn: after a step by which the seat acquires nothing, it holds exactly if it held before.
 both : (x p : SeatState) (turn : Turn) → Concludes x turn p → how_held turn ≡ None → Both x.depth p.depth
 both x p Open c none = both_same x.depth p.depth c.0
 both x p (Ended (Answer.Asked (Asked.Held how))) c none = absurd (cc)
@@ -116,12 +116,12 @@ steps_on follows fits None n n' l p q m m' a b turn was number is event =
 steps_on follows fits (Some k) n n' l p q m m' a b turn was number is event =
     told follows fits n n' l p q m m'.0 a b turn was number event (λ z. let f : Some k ≡ None = sym is ∙ z in absurd (cc))
 
--- a step of another kind than a store of the owner word ends no hold
+-- a step of any other kind than a store of the owner word ends no hold
 pub keeps_at : (k : Kind) (q : Point) → kind q ≡ Some k → stores_owner k ≡ false → is_release q ≡ false
 keeps_at k (ReleaseOwnerStore r) is keeps = let same : Kind.OwnerStore ≡ k = cc in absurd (false≢true (sym keeps ∙ ap stores_owner (sym same)))
 keeps_at k _ is keeps = refl
 
--- what may be left is told of what is seen, and asked of what the seat has
+-- that the seat may leave its value is stated about the sight, and required of the seat
 pub leaves_at : {T : Type 0} (follows : ℕ → T → T → Type 0) (fits : T → ℕ → Type 0) (n : ℕ) (l : Limits) (p : SeatState) (m : Me (Option (Moving T)) (View T)) (a : Option (Moving T)) → Seated n l p m a
     → (is_release p.point ≡ true → MayLeave follows fits (sight_of n p m.0 (value_in a))) → (r : Releaser) → p.point ≡ ReleaseOwnerStore r → MayBeLeft follows fits a m.0
 leaves_at follows fits n l p m a was may r at = elim (cases_eq p.depth 0) [
@@ -129,7 +129,7 @@ leaves_at follows fits n l p m a was may r at = elim (cases_eq p.depth 0) [
   | inr some ↦ may_leave follows fits n p m.0 a was.named (omega (arith, some)) (may (ap is_release at))
 ]
 
--- a begin touches neither view nor value
+-- the start of a call changes neither the view nor the value
 pub begins_seen : {T : Type 0} (n n' : ℕ) (l : Limits) (p q : SeatState) (v v' : View T) (a a' : Option (Moving T)) → Became v.state l p → Became v.state l q → n' ≡ n → v' ≡ v → a' ≡ a
     → sight_of n' q v' (value_in a') ≡ record (sight_of n p v (value_in a)) { depth = q.depth; takes = q.takes; asleep = is_asleep q.point; in_call = is_in_call q.point }
 begins_seen {T} n n' l p q v v' a a' was is number view value =

@@ -22,7 +22,7 @@ use Rattle.lfm_mutex.proofs.runs.Spending.{spends_none, spends_join, spends_more
 use Rattle.lfm_mutex.proofs.runs.FastPathPoints.{fit_after, event_there}
 use Rattle.lfm_mutex.proofs.runs.WakeUps.{grants_none}
 
--- the seat after such a course, with what it keeps
+-- the seat after such a course, with the facts that it keeps
 pub record PlainSteps {T : Type 0} (follows : ℕ → T → T → Type 0) (suits : T → ℕ → Type 0) (s : ℕ) (l : Limits) (p0 : SeatState) (a0 : Option (Moving T)) (v0 : View T) (turn : Turn) (p : SeatState) (a : Option (Moving T)) (m : Me (Option (Moving T)) (View T)) : Type 0 where
   pub words : ℕ
   pub id : ℕ
@@ -38,7 +38,7 @@ plain_none {T} follows suits {s} {words} {id} {l} {p} {a} {m} fit = record {
   plain = record { course = course_none follows suits s p a m.0; spends = spends_none (due l.seats (length m.0.popped) p.point) m.0.trail; grants = refl };
 }
 
--- one step more
+-- one more step
 pub plain_next : {T : Type 0} {follows : ℕ → T → T → Type 0} {suits : T → ℕ → Type 0} {s words id n : ℕ} {l : Limits} {p0 p : SeatState} {a0 a b : Option (Moving T)} {v0 : View T} {m m' : Me (Option (Moving T)) (View T)} (st : Stepped)
     → PlainSteps follows suits s l p0 a0 v0 Open p a m → MadeStep follows suits s words id l p n m a m' b → stepped_by p s n (oldest_in b) ≡ st → kind p.point ≢ None → is_release p.point ≡ false → granted_at p.point ≡ None
     → PlainSteps follows suits s l p0 a0 v0 st.turn st.seat b m'

@@ -26,7 +26,7 @@ use Rattle.lfm_table.proofs.tables.StepFacts.{made_of}
 
 -- The exchange
 
--- the push word is as it was loaded
+-- the push word has not changed since it was loaded
 pub exchanged : (u : Pusher) (d t ps s w n : ℕ) (o : Option Record) → n ≡ w → stepped_by (made_of d t ps (PushExchange u (link_of w))) s n o ≡ opens (made_of d t ps (PushedHandoffLoad u))
 exchanged u d t ps s w n o same =
     let stamp = eq-eqb (link_of n).stamp (link_of w).stamp (ap (λ (m : ℕ). (link_of m).stamp) same) in
@@ -56,7 +56,7 @@ found_none u d t ps s n o none = let h = not-false (nat_eq (n % 65536) 0) none i
 pub found_one : (u : Pusher) (d t ps s n : ℕ) (o : Option Record) → is_posted_word n ≡ true → stepped_by (made_of d t ps (PushedHandoffLoad u)) s n o ≡ opens (made_of d t ps (found_posted u (handoff_of n)))
 found_one u d t ps s n o some = let h = not-true (nat_eq (n % 65536) 0) some in rw h refl
 
--- a push that has queued its record ends alike from wherever its seat is said to stand
+-- the end of a push that has queued its record doesn't depend on the seat's point
 pub queued_end : (x : SeatState) (u : Pusher) → pushed (made_of x.depth x.takes x.posts (PushedHandoffLoad u)) u ≡ pushed x u
 queued_end x Pusher.Locker = refl
 queued_end x (Pusher.Sender t) = refl
@@ -73,7 +73,7 @@ handoff_stays (Pusher.Sender u) d t ps s n o = either_stays (nat_eq (n % 65536) 
 
 -- The course
 
--- a load of the push word, a store of the link and an exchange of the push word
+-- a load of the push word, a store of the link, and an exchange of the push word
 pub pushes_by : {T : Type 0} {follows : ℕ → T → T → Type 0} {suits : T → ℕ → Type 0} {s w0 i0 w1 i1 w2 i2 w3 i3 w k n : ℕ} {l : Limits} {a0 a1 a2 a3 : Option (Moving T)} {m0 m1 m2 m3 : Me (Option (Moving T)) (View T)} (x : SeatState) (u : Pusher) (old : Link) (st : Stepped)
     → x.point ≡ PushLoad u → Fit s w0 i0 l x m0 a0
     → MadeStep follows suits s w1 i1 l (made_of x.depth x.takes x.posts (PushLoad u)) w m0 a0 m1 a1 → old ≡ link_of w

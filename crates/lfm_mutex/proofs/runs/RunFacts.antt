@@ -1,4 +1,5 @@
--- A call goes on as the same call to its end, each of its steps makes a number fall, and it holds by its last step.
+-- By cases on the point: each step of a call leads to a point of the same call or ends it, and makes a number decrease. A seat
+-- acquires the mutex by the last step of its call.
 use Rattle.std.proofs.Common.{◌≡◌, ◌≢◌, ◌⊎◌, ℕ, ◌+◌, ◌-◌, ◌*◌, ◌^◌, ◌<◌, ◌≤◌, Bool, true, false, Option, Some, None, nat_eq, refl, sym, ap, subst, ◌∙◌, arith, inl, inr, if◌then◌else◌}
 use Rattle.std.proofs.lemmas.Bool.{cases_eq, ne_eqb, eq-eqb, false≢true}
 use Rattle.lfm_model.specs.declared.answers.How.{How}
@@ -139,7 +140,7 @@ open_point (Asleep sleeper) some e = some refl
 open_point LockCountAdd some e = cc
 open_point _ some e = cc
 
--- The number that falls
+-- The number that decreases
 
 abbrev Falls : ℕ → ℕ → ℕ → Stepped → Type 0
 Falls n k w st = weight n k st.seat.point < w
@@ -224,7 +225,7 @@ left_emptied found old same none some =
 not_same : (found old : Link) → same_link found old ≡ false → found.stamp ≡ old.stamp → found.next ≢ old.next
 not_same found old e same both = let t : same_link found old ≡ true = rw (eq-eqb found.stamp old.stamp same, eq-eqb found.next old.next both) refl in false≢true (sym e ∙ t)
 
--- a push exchange that failed has less left
+-- after a failed push exchange the number is smaller
 left_falls : (found old : Link) → same_link found old ≡ false → IsSeen found old → old.stamp < 2 ^ 48 → left found < left old
 left_falls found old e is small =
     elim (cases_eq found.stamp old.stamp) [
@@ -235,7 +236,7 @@ left_falls found old e is small =
       ]
     ]
 
--- if a record is collected, one step less is to be made than there was room
+-- after a record was collected, fewer steps are left
 weight_collects : (n k : ℕ) (carrier : Carrier) (next : ℕ) → k < n → CollectsWithin k n (TakeLinkLoad carrier next) → (collecting (n - (k + 1)) carrier < collecting (n - k) carrier) × (granting carrier < collecting (n - k) carrier)
 weight_collects n k Carrier.Locker next room within = (omega (arith, room), omega (arith, room))
 weight_collects n k (Carrier.Releaser u) next room within = (omega (arith, room), omega (arith, within))
@@ -301,7 +302,7 @@ pub no_leaves : (q : Point) → is_release q ≡ false → (r : Releaser) → q 
 no_leaves (ReleaseOwnerStore u) other r e = false≢true (sym other)
 no_leaves _ other r e = cc
 
--- A seat comes to hold by its owner store alone
+-- A seat acquires the mutex only by its owner store
 
 how_if : (b : Bool) (u v : Stepped) → how_held u.turn ≡ None → how_held v.turn ≡ None → how_held (if b then u else v).turn ≡ None
 how_if true u v first second = first

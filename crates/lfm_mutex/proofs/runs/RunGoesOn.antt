@@ -1,4 +1,4 @@
--- The run of a table goes on with each step of a seat, and from call to call.
+-- Each step of a seat, and each call, extends the run of a table.
 use Rattle.std.proofs.Common.{◌≡◌, ℕ, Option, refl, subst, sym}
 use Rattle.lfm_table.specs.Table.{Me}
 use Rattle.lfm_protocol.specs.declared.answers.Turn.{Turn}
@@ -13,16 +13,16 @@ pub use Rattle.lfm_table.proofs.tables.Actions.{run_next, run_same}
 use Rattle.lfm_table.proofs.tables.Actions.{run_by, run_rests, step_last}
 use Rattle.lfm_mutex.specs.calls.RunGoesOn.{SameTrailsKnowTheSame}
 
--- with one event of the seat
+-- one event of the seat extends the run
 pub run_stepped : {T : Type 0} {follows : ℕ → T → T → Type 0} {suits : T → ℕ → Type 0} {p p' : SeatState} {a a' : Option (Moving T)} {v w : View T} {turn : Turn} → Event follows suits p a v turn p' a' w → RunGoesOn v w
 run_stepped {T} {follows} {suits} {p} {p'} {a} {a'} {v} {w} {turn} e = run_by e.did.root.number e.did.root.limits_are (step_last v.number v.number v.state p refl) e.did.run
 
--- with a step that is made by itself
+-- a step extends the run
 pub run_made : {T : Type 0} {follows : ℕ → T → T → Type 0} {suits : T → ℕ → Type 0} {number words id : ℕ} {l : Limits} {p : SeatState} {n : ℕ} {m m' : Me (Option (Moving T)) (View T)} {a a' : Option (Moving T)} → MadeStep follows suits number words id l p n m a m' a'
     → RunGoesOn m.0 m'.0
 run_made made = run_stepped made.event
 
--- where the view is as it was
+-- if the view has not changed, the run has not either
 pub run_stays_at : {T : Type 0} {v w : View T} → w ≡ v → RunGoesOn v w
 run_stays_at {T} {v} {w} same = subst (λ (z : View T). RunGoesOn v z) (sym same) run_same
 

@@ -1,4 +1,4 @@
--- A run of a call, one step longer.
+-- A run of a call, with one more step.
 use Rattle.std.proofs.Common.{◌≡◌, ◌≢◌, ◌⊎◌, ℕ, ◌+◌, ◌-◌, ◌<◌, ◌≤◌, nat_eq, if◌then◌else◌, Bool, true, false, Option, Some, None, List, [], ◌∷◌, ◌++◌, length, refl, sym, ap, subst, ◌∙◌, arith, inl, inr, append_assoc, append-nil, length-append}
 use Rattle.std.specs.Prelude.{⊤, nat_lt, ◌&&◌, Result, Ok}
 use Rattle.std.proofs.lemmas.Bool.{false≢true}
@@ -132,7 +132,7 @@ collects_same k j n (TakeLinkLoad (Carrier.Reclaimer releaser) next) same within
 collects_same k j n (TakeLinkLoad Carrier.Sender next) same within = let e = same refl in omega (arith, e, within)
 collects_same k j n _ same within = tt
 
--- what a step needs, with n seats, and k records in the pop list before it and k' after it
+-- what a step requires, with n seats, and k records in the pop list before it and k' after it
 -- room: the pop list has room for a record that joins it
 -- within: a seat that has no record of its own leaves room for one more
 -- grows: only a load of a link adds a record
@@ -155,7 +155,7 @@ walks_on follows suits seats p q v w a b turn sized e =
       ];
     }
 
--- the number of steps that are left falls with each
+-- each step lowers the number of steps that are left
 pub steps_left : {T : Type 0} (follows : ℕ → T → T → Type 0) (suits : T → ℕ → Type 0) (seats s : ℕ) (p q : SeatState) (v w : View T) (a b : Option (Moving T)) (turn : Turn) → kind p.point ≢ None → v.limits.seats ≡ seats → IsReady seats s p
     → Event follows suits p a v turn q b w → weight seats (length w.popped) q.point < weight seats (length v.popped) p.point
 steps_left follows suits seats s p q v w a b turn some sized ready e =
@@ -167,7 +167,7 @@ steps_left follows suits seats s p q v w a b turn some sized ready e =
 pub trail_grows : {T : Type 0} (follows : ℕ → T → T → Type 0) (suits : T → ℕ → Type 0) (p q : SeatState) (v w : View T) (a b : Option (Moving T)) (turn : Turn) → Event follows suits p a v turn q b w → length w.trail ≡ length v.trail + 1
 trail_grows follows suits p q v w a b turn e = ap (λ (l : List Seen). length l) e.did.trail ∙ length-append v.trail (seen p.point e.found ∷ [])
 
--- what has been made and what is left come to no more with each step
+-- no step raises the sum of the steps made and the steps that are left
 pub bounded_more : {T : Type 0} (follows : ℕ → T → T → Type 0) (suits : T → ℕ → Type 0) (seats s : ℕ) (p q : SeatState) (v w : View T) (a b : Option (Moving T)) (turn : Turn) → kind p.point ≢ None → v.limits.seats ≡ seats → IsReady seats s p
     → Event follows suits p a v turn q b w → length w.trail + weight seats (length w.popped) q.point ≤ length v.trail + weight seats (length v.popped) p.point
 bounded_more follows suits seats s p q v w a b turn some sized ready e =
@@ -238,7 +238,7 @@ not_releasing : (e : Errand) (q : Point) → errand q ≡ e → is_releasing e �
 not_releasing e (ReleaseOwnerStore r) is other = absurd (false≢true (sym other ∙ ap is_releasing (sym is)))
 not_releasing e _ is other = refl
 
--- a call that is open after its begin
+-- a call that is open after its start
 pub begun_open : (p : SeatState) (l : Limits) (call : Call) → (Begin.begin p l call).turn ≡ Open → errand (Begin.begin p l call).seat.point ≡ errand_of call
 begun_open p l call is = subst (λ (t : Turn). BeginTold (errand_of call) t (Begin.begin p l call).seat.point) is (begin_told p l call)
 
@@ -284,7 +284,7 @@ called_at_once {T} s l call p p' v v' turn some is_turn is_p same =
       subst (λ (z : Turn). Answers (errand_of call) z) (sym is_turn) (told_answers (errand_of call) (Begin.begin p l call).turn (Begin.begin p l call).seat.point some_t (begin_told p l call)),
     )
 
--- Two runs, one after the other
+-- Two runs in a row
 
 end_join : (s : ℕ) (st : Stepped) (xs ys : List (ℕ × Option Record)) → end_of s st (xs ++ ys) ≡ end_of s (end_of s st xs) ys
 end_join s st [] ys = refl
@@ -327,7 +327,7 @@ module _ {T : Type 0} (follows : ℕ → T → T → Type 0) (suits : T → ℕ 
 pub release_some : (q : Point) (r : Releaser) → q ≡ ReleaseOwnerStore r → kind q ≢ None
 release_some q r at e = let f : Some Kind.OwnerStore ≡ None = sym (ap kind at) ∙ e in absurd (cc)
 
--- a release that is open after its begin stands at the store that ends the hold
+-- a release that is open after its start is at the store that ends the hold
 abbrev ToldRelease : Turn → Point → Type 0
 ToldRelease Open q = (r : Releaser) × (q ≡ ReleaseOwnerStore r)
 ToldRelease _ q = ⊤
@@ -363,7 +363,7 @@ begun_release p q l call is is_open is_q =
     let told = subst (λ (t : Turn). ToldRelease t (Begin.begin p l call).seat.point) is_open (told_at p l call p.point is) in
     (told.0, ap (λ (x : SeatState). x.point) is_q ∙ told.1)
 
--- this number of steps follows the begin of a release
+-- how many steps follow the start of a release
 weight_released : (n k : ℕ) (call : Call) (r : Releaser) → releasing r ≡ errand_of call → weight n k (ReleaseOwnerStore r) ≡ release_steps n call
 weight_released n k Call.Unlock Unlocker is = omega arith
 weight_released n k Call.Unlock Waiter is = absurd (cc)
@@ -439,7 +439,7 @@ module _ {T : Type 0} (follows : ℕ → T → T → Type 0) (suits : T → ℕ 
         fits = subst (λ (y : T). suits y m.0.answered) same knows.0;
       }
 
--- no call holds by its begin
+-- no call acquires the mutex by its start
 
 unheld_if : (b : Bool) (u v : Stepped) → how_held u.turn ≡ None → how_held v.turn ≡ None → how_held (if b then u else v).turn ≡ None
 unheld_if true u v first second = first

@@ -1,4 +1,4 @@
--- What a course, its failed pushes and its wake-ups say of a seat, they say of it under the number and the limits that it had before.
+-- Facts about a course, its failed pushes and its wake-ups hold under equal numbers and limits of the seat.
 use Rattle.std.proofs.Common.{◌≡◌, ℕ, List, subst, Option}
 use Rattle.lfm_protocol.specs.declared.answers.Turn.{Turn}
 use Rattle.lfm_protocol.specs.declared.limits.Limits.{Limits}

@@ -1,4 +1,4 @@
--- The count of a send that has claimed its target, as the first of its steps.
+-- The count step of a send that has claimed its target: the first step after the claim.
 use Rattle.std.proofs.Common.{◌≡◌, ℕ, Option, refl, subst, sym}
 use Rattle.lfm_protocol.specs.declared.answers.Turn.TheVariants.{Open}
 use Rattle.lfm_protocol.specs.declared.limits.Limits.{Limits}
@@ -15,7 +15,7 @@ use Rattle.lfm_table.proofs.tables.StepFacts.{made_of}
 use Rattle.lfm_mutex.specs.calls.Runs.{opens}
 use Rattle.lfm_mutex.proofs.runs.PlainCourses.{PlainSteps, plain_none, plain_next}
 
--- a send of depth d that has counted goes on at the point q
+-- after the count step, a send by a seat of depth d is at the point q
 pub counts : {T : Type 0} {follows : ℕ → T → T → Type 0} {suits : T → ℕ → Type 0} {s w0 i0 w1 i1 n u : ℕ} {l : Limits} {a b : Option (Moving T)} {m m' : Me (Option (Moving T)) (View T)} (x : SeatState) (d : ℕ) (q : Point)
     → x.point ≡ SendCountAdd u → x.depth ≡ d → Fit s w0 i0 l x m a
     → MadeStep follows suits s w1 i1 l (made_of d x.takes x.posts (SendCountAdd u)) n m a m' b → stepped_by (made_of d x.takes x.posts (SendCountAdd u)) s n (oldest_in b) ≡ opens (made_of d x.takes x.posts q)

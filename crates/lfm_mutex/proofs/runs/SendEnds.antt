@@ -1,4 +1,4 @@
--- What has been said of a call of send_lock, as its contract has it.
+-- From the facts of a call of send_lock to its contract.
 use Rattle.std.specs.Prelude.{⊤, ℕ, Result, Ok, Err}
 use Rattle.lfm_model.specs.declared.refusals.Refusal.{Refusal}
 use Rattle.lfm_protocol.specs.declared.answers.Answer.{Answer}

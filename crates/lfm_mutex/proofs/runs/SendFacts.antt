@@ -36,7 +36,7 @@ none_at : (q : Point) (n : ℕ) → is_send q ≡ false → send_at q n ≡ []
 none_at (SendWakeExchange u) n other = absurd (false≢true (sym other))
 none_at _ n other = refl
 
--- a run that doesn't begin with the exchange of a send sends nobody
+-- a run that doesn't start with the exchange of a send sends no seat
 pub no_sends : (s : ℕ) (x : SeatState) (finds : List (ℕ × Option Record)) → is_send x.point ≡ false → sends_of (trail_of s x finds) ≡ []
 no_sends s x [] other = refl
 no_sends s x (f ∷ finds) other = ap (λ (l : List ℕ). l ++ sends_of (trail_of s (stepped_by x s f.0 f.1).seat finds)) (none_at x.point f.0 other) ∙ no_sends s (stepped_by x s f.0 f.1).seat finds (no_send x s f.0 f.1)
@@ -45,7 +45,7 @@ pub sends_join : (xs ys : List Seen) → sends_of (xs ++ ys) ≡ sends_of xs ++ 
 sends_join [] ys = refl
 sends_join (x ∷ xs) ys = ap (λ (l : List ℕ). send_at x.point x.found ++ l) (sends_join xs ys) ∙ sym (append_assoc (send_at x.point x.found) (sends_of xs) (sends_of ys))
 
--- Only the exchange of a send answers that nobody is waiting
+-- Only the exchange of a send answers NotWaiting
 
 abbrev pub is_not_waiting : Turn → Bool
 is_not_waiting (Refused (Why.By Refusal.NotWaiting)) = true

@@ -1,4 +1,5 @@
--- The seat's own methods at the points at which a release that has given up the owner word serves the oldest queued seat, as equations.
+-- The seat's own methods at the points at which a release, after it has given up the owner word, serves the oldest queued seat,
+-- as equations.
 use Rattle.std.proofs.Common.{◌≡◌, ◌≢◌, ℕ, refl, sym, ap, ◌∙◌, Option, Some, None}
 use Rattle.std.specs.Prelude.{true}
 use Rattle.std.proofs.lemmas.Bool.{ne_eqb, eq-eqb}
@@ -25,11 +26,11 @@ use Rattle.lfm_table.proofs.tables.StepFacts.{made_of}
 pub cleared_none : (u : Releaser) (d t ps s n : ℕ) (o : Option Record) → (link_of n).next ≡ 0 → stepped_by (made_of d t ps (TakeClearHead (Carrier.Releaser u))) s n o ≡ opens (made_of d t ps (ReleaseHandoffStore u))
 cleared_none u d t ps s n o none = let h = eq-eqb (link_of n).next 0 none in rw h refl
 
--- it was not, so its links are loaded
+-- the push list was not empty, so its links are loaded
 pub cleared_some : (u : Releaser) (d t ps s n : ℕ) (o : Option Record) → (link_of n).next ≢ 0 → stepped_by (made_of d t ps (TakeClearHead (Carrier.Releaser u))) s n o ≡ opens (made_of d t ps (TakeLinkLoad (Carrier.Releaser u) (link_of n).next))
 cleared_some u d t ps s n o some = let h = ne_eqb (link_of n).next 0 some in rw h refl
 
--- the last link, so its record is the oldest
+-- the last link: its record is the oldest
 pub last_link : (u : Releaser) (d t ps s n next : ℕ) (o : Option Record) → (link_of n).next ≡ 0 → stepped_by (made_of d t ps (TakeLinkLoad (Carrier.Releaser u) next)) s n o ≡ opens (made_of d t ps (GrantWakeStore (Carrier.Releaser u) (loaded next (link_of n))))
 last_link u d t ps s n next o none = let h = eq-eqb (link_of n).next 0 none in rw h refl
 
@@ -41,7 +42,7 @@ pub granted_to : (u : Releaser) (d t ps s n : ℕ) (r : Record) (o : Option Reco
     → stepped_by (made_of d t ps (GrantWakeStore (Carrier.Releaser u) r)) s n o ≡ releases (made_of d t ps (GrantWakeStore (Carrier.Releaser u) r)) u (Unlocked.Granted r.seat)
 granted_to u d t ps s n r o = refl
 
--- a start_wait has released, so its seat sleeps
+-- a start_wait has released the mutex, and its seat sleeps
 pub waited : (d t ps s n : ℕ) (released : Unlocked) (o : Option Record)
     → stepped_by (made_of d t ps (WaitWakeStore released)) s n o ≡ record { seat = made_of d t ps (Asleep Sleeper.Waiter); turn = Ended (Answer.Waiting released) }
 waited d t ps s n released o = refl
@@ -51,7 +52,7 @@ waited d t ps s n released o = refl
 pub freed : (u : Releaser) (d t ps s n : ℕ) (o : Option Record) → n ≡ 1 → stepped_by (made_of d t ps (ReleaseCountSubtract u)) s n o ≡ releases (made_of d t ps (ReleaseCountSubtract u)) u Unlocked.Free
 freed u d t ps s n o e = rw e refl
 
--- a releaser serves whatever its own number is
+-- which seat a releaser serves doesn't depend on its own number
 takes_as : (u : Releaser) (s : ℕ) (o : Option Record) → take (Carrier.Releaser u) s o ≡ take (Carrier.Releaser u) 0 o
 takes_as u s None = refl
 takes_as u s (Some r) = refl

@@ -1,4 +1,4 @@
--- The calls that no other seat can prolong, try_lock and try_receive: they make few steps, whatever those find.
+-- The calls that no other seat can prolong, try_lock and try_receive: they make few steps, whatever these find.
 use Rattle.std.proofs.Common.{◌≡◌, ◌≢◌, ◌⊎◌, inl, inr, ℕ, ◌+◌, ◌≤◌, List, [], ◌∷◌, ◌++◌, length, length-append, Bool, true, false, nat_eq, Option, None, Result, Ok, Err, refl, sym, ap, ◌∙◌, arith, if◌then◌else◌}
 use Rattle.std.specs.Prelude.{nat_lt}
 use Rattle.std.proofs.lemmas.Bool.{false≢true}
@@ -53,7 +53,7 @@ is_short (ReceiveWakeLoad sleeper) = true
 is_short (ReceiveWakeStore stamp) = true
 is_short _ = false
 
--- at a point of these calls, with at most this number of steps left
+-- a point of these calls, with at most this number of steps left
 abbrev pub Short : ℕ → Point → Type 0
 Short k p = (is_short p ≡ true) × (left_at p ≤ k)
 
@@ -69,7 +69,7 @@ short_receives : (x : SeatState) (sleeper : Sleeper) (w : Wake) → Short 2 (rec
 short_receives x sleeper (Grant stamp) = (refl, omega arith)
 short_receives x sleeper _ = (refl, omega arith)
 
--- a step at a point of these leads to another of them, with fewer left; otherwise the seat is at no step
+-- a step from such a point leads to another one, with fewer steps left; otherwise the seat has no next step
 abbrev pub StepsShort : ℕ → Stepped → Type 0
 StepsShort k st = (j : ℕ) × (j + 1 ≤ k) × Short j st.seat.point
 
@@ -92,12 +92,12 @@ short_step_at d t ps s n k o _ short = absurd (false≢true short.0)
 pub idle_step : (x : SeatState) (s n : ℕ) (o : Option Record) → kind x.point ≡ None → stepped_by x s n o ≡ record { seat = x; turn = Refused Idle }
 idle_step x s n o none = ap (λ (k : Option Kind). stepped_of x s n o k) none
 
--- a seat at no step stays idle
+-- a seat without a next step stays idle
 idle_run : (s : ℕ) (x : SeatState) (finds : List (ℕ × Option Record)) → kind x.point ≡ None → (end_of s (record { seat = x; turn = Refused Idle }) finds).turn ≡ Refused Idle
 idle_run s x [] none = refl
 idle_run s x (f ∷ finds) none = ap (λ (z : Stepped). (end_of s z finds).turn) (idle_step x s f.0 f.1 none) ∙ idle_run s x finds none
 
--- a run that doesn't end idle has at most this number of steps
+-- By induction on the steps: a run that doesn't end as idle has at most this number of steps.
 short_run : (s : ℕ) (finds : List (ℕ × Option Record)) (k : ℕ) (st : Stepped) → Short k st.seat.point → (end_of s st finds).turn ≢ Refused Idle → length finds ≤ k
 short_run s [] k st short some = omega arith
 short_run s (f ∷ finds) k st short some =
@@ -110,7 +110,7 @@ long_as : (s : ℕ) (x : SeatState) (finds : List (ℕ × Option Record)) → le
 long_as s x [] = refl
 long_as s x (f ∷ finds) = let h = long_as s (stepped_by x s f.0 f.1).seat finds in omega (arith, h)
 
--- The points at which the calls begin
+-- The points at which the calls start
 
 abbrev pub OpensShort : ℕ → Stepped → Type 0
 OpensShort k st = st.turn ≡ Open → Short k st.seat.point
@@ -146,7 +146,7 @@ leads_few (Refused why) n k q y turn trail trail' short some leads = let same = 
 unchanged : {T : Type 0} (s t : Sight T) (k : ℕ) → t ≡ s → MakesAtMost k s t
 unchanged {T} s t k same = let e = ap (λ (x : Sight T). length x.trail) same in omega (arith, e)
 
--- Busy comes after three steps or four
+-- a call that is refused as Busy has made three or four steps
 busy_few : (s : ℕ) (trail trail' new : List Seen) → trail' ≡ trail ++ new → BusySeen s new → length trail' ≤ length trail + 6
 busy_few s trail trail' new adds busy =
     let more = ap (λ (l : List Seen). length l) adds ∙ length-append trail new in

@@ -1,4 +1,4 @@
--- What the last step of a call makes of a seat's own data, and what a begin does.
+-- How the last step of a call, and its start, change a seat's own state.
 use Rattle.std.proofs.Common.{◌≡◌, ◌≢◌, ◌⊎◌, ℕ, ◌+◌, ◌-◌, ◌<◌, Bool, true, false, Option, Some, None, nat_eq, refl, sym, ◌∙◌, arith, inl, inr, if◌then◌else◌}
 use Rattle.std.proofs.lemmas.Bool.{cases_eq, ne_eqb, eq-eqb, false≢true}
 use Rattle.lfm_model.specs.declared.answers.How.{How}
@@ -29,7 +29,7 @@ use Rattle.lfm_table.proofs.tables.StepFacts.{made_of}
 abbrev EndsWith : SeatState → Stepped → Type 0
 EndsWith x st = Concludes x st.turn st.seat
 
--- a test that goes either way
+-- a test with both outcomes
 either : (x : SeatState) (b : Bool) (u v : Stepped) → (b ≡ true → EndsWith x u) → (b ≡ false → EndsWith x v) → EndsWith x (if b then u else v)
 either x true u v first second = first refl
 either x false u v first second = second refl
@@ -97,7 +97,7 @@ less_one t = elim (cases_eq t 0) [ inl z ↦ inr z | inr n ↦ inl (omega (arith
 ends_busy : (x : SeatState) → x.depth ≡ 0 → EndsWith x (busy x)
 ends_busy x flat = (flat, flat, less_one x.takes, refl)
 
--- what the owner word tells of the depth
+-- the owner word names the seat exactly if the seat holds
 abbrev pub OwnerTold : SeatState → ℕ → ℕ → Type 0
 OwnerTold x s n = kind x.point ≡ Some Kind.OwnerLoad → (n ≡ s → 0 < x.depth) × (0 < x.depth → n ≡ s)
 

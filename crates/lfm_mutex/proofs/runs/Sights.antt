@@ -1,4 +1,4 @@
--- What a call makes of what is seen of its seat.
+-- How a call changes the sight of its seat.
 use Rattle.std.proofs.Common.{◌≡◌, ◌≢◌, ◌⊎◌, ℕ, zero, suc, ◌+◌, ◌-◌, ◌<◌, ◌≤◌, Bool, true, false, Option, Some, None, List, [], ◌∷◌, ◌++◌, length, nat_eq, nat_lt, ◌&&◌, refl, sym, ap, subst, ◌∙◌, arith, tests, inl, inr, if◌then◌else◌, append-nil}
 use Rattle.std.specs.Prelude.{◌↔◌, IsSome, IfSome}
 use Rattle.std.proofs.lemmas.Bool.{cases_eq, ne_eqb, false≢true}
@@ -157,7 +157,7 @@ module _ {T : Type 0} (n n' : ℕ) (p p' : SeatState) (v v' : View T) (a a' : Op
   abbrev Level : Type 0
   Level = ((p.depth ≡ 0) × (p'.depth ≡ 0)) ⊎ ((0 < p.depth) × (0 < p'.depth))
 
-  -- a call that neither gains nor gives up the mutex
+  -- a call that neither acquires nor gives up the mutex
   pub same_but : (d k : ℕ) (asleep in_call : Bool) (sends : List ℕ) → n' ≡ n → p'.depth ≡ d → p'.takes ≡ k → is_asleep p'.point ≡ asleep → is_in_call p'.point ≡ in_call → sends_of v'.trail ≡ sends
       → last_hold v' ≡ last_hold v → Stays p.depth v a v' a' → Level
       → sight_of n' p' v' a' ≡ record (sight_of n p v a) { depth = d; takes = k; asleep = asleep; in_call = in_call; trail = v'.trail; sends = sends }
@@ -200,7 +200,7 @@ abbrev pub BegunEntry : ℕ → SeatState → SeatState → Type 0
 BegunEntry budget p q =
     (p.point ≡ Rest) × (p.depth < max_depth) × (q.depth ≡ p.depth) × (((p.depth ≡ 0) × (p.takes < budget) × (q.takes ≡ p.takes + 1)) ⊎ ((0 < p.depth) × (q.takes ≡ p.takes)))
 
--- a call that is open after its begin
+-- the state after the start of a call that is open then
 abbrev pub Begun : Limits → Call → SeatState → SeatState → Type 0
 Begun l Call.Lock p q = BegunEntry l.budget p q × (q.point ≡ LockCountAdd)
 Begun l Call.TryLock p q = BegunEntry l.budget p q × (q.point ≡ TryCountExchange)
@@ -278,7 +278,7 @@ module _ {T : Type 0} (follows : ℕ → T → T → Type 0) (fits : T → ℕ �
   starts_awake d t ps (Call.SendLock u) = starts_send d t ps u
   starts_awake d t ps Call.Receive = (inl refl, refl)
 
-  -- a call that comes in the midst of another
+  -- a call that starts while another call of the seat is open
   starts_busy : (x : SeatState) (call : Call) → is_asleep x.point ≡ true → is_in_call x.point ≡ true → Starts call x (record { seat = x; turn = Refused Why.InCall })
   starts_busy x Call.Receive asleep busy = (inr busy, refl)
   starts_busy x Call.Lock asleep busy = (asleep, refl)
@@ -303,7 +303,7 @@ module _ {T : Type 0} (follows : ℕ → T → T → Type 0) (fits : T → ℕ �
   told_turn p q call (Ended answer) some is = is
   told_turn p q call (Refused why) some is = is
 
-  -- a call that ends by its begin
+  -- a call that ends at its start
   pub turned_at_once : (p q : SeatState) (call : Call) (turn : Turn) → turn ≢ Open → turn ≡ (Begin.begin p l call).turn → q ≡ (Begin.begin p l call).seat → Turned follows fits l call (sight_of n p v a) (sight_of n q v a) turn
   turned_at_once p q call turn some is seat_is = told_turn p q call turn some (subst (λ (z : Stepped). StartsBy call p z.seat z.turn) (λ i. record { seat = sym seat_is i; turn = sym is i }) (starts p call))
 
@@ -338,7 +338,7 @@ module _ {T : Type 0} (follows : ℕ → T → T → Type 0) (fits : T → ℕ �
   suits_of How.Free w k j counts is = subst (λ (i : ℕ). fits w i) counts is
   suits_of (How.Queued stamp) w k j counts is = (k, sym counts.0, counts.1, is)
 
-  -- what a hold finds
+  -- what a seat that has acquired the mutex finds
   pub finds : (how : How) → p.depth ≡ 0 → Holds follows fits n (last_hold v) how p' a' v' → Finds follows fits how S S'
   finds how flat h =
       let deep : 0 < p'.depth = let e = h.depth in omega (arith, e) in (
@@ -363,7 +363,7 @@ module _ {T : Type 0} (follows : ℕ → T → T → Type 0) (fits : T → ℕ �
   idle : (x : Point) → x ≡ Rest → is_in_call x ≡ false
   idle x at = ap is_in_call at
 
-  -- a hold, by either call that charges at once
+  -- an acquisition by a lock or a try_lock, which both charge at the start
   gains : (budget : ℕ) (how : How) → BegunEntry budget p q → q.depth ≡ 0 → p'.depth ≡ 1 → p'.takes ≡ q.takes → p'.point ≡ Rest → sends_of v'.trail ≡ sends_of v.trail → Holds follows fits n (last_hold v) how p' a' v' → Gains follows fits budget how S S'
   gains budget how b flat deep takes rests sends h =
       let flat_p : p.depth ≡ 0 = sym b.2 ∙ flat in
@@ -509,7 +509,7 @@ module _ {T : Type 0} (follows : ℕ → T → T → Type 0) (fits : T → ℕ �
   send_turned u (Ended _) b ends c stays last ran = tt
   send_turned u Open b ends c stays last ran = tt
 
-  -- the end of a call that makes steps
+  -- the contract of a call that makes steps and releases nothing, from its course
   pub turned_by_steps : (call : Call) (turn : Turn) → is_releasing (errand_of call) ≡ false → Begun l call p q → Ends (errand_of call) turn → Concludes q turn p'
       → ((how : How) → how_held turn ≡ Some how → Holds follows fits n (last_hold v) how p' a' v') → Stays q.depth v (value_in a) v' (value_in a') → last_hold v' ≡ last_hold v → Ran n (opens q) v turn p' v' → Turned follows fits l call S S' turn
   turned_by_steps Call.Lock turn keeps b ends c held stays last ran = lock_turned turn b ends c held stays last (unsent turn ran (ap is_send b.1))
@@ -545,7 +545,7 @@ may_leave {T} follows fits n p v a named deep may x is =
       λ y found. subst (λ (k : ℕ). follows k y x.value) (sym named) (m.1 y (deep_by p.depth v.last v.found deep ∙ found)),
     )
 
--- A seat as it is made, and a reading of the owner
+-- A new seat, and a load for `owner`
 
 pub fresh_sight : {T : Type 0} (x : T) (k n : ℕ) (l : Limits) (p : SeatState) (m : Me (Option (Moving T)) (View T)) (a : Option (Moving T)) (all : Limits) → Fresh x k n l p m a all → sight_of n p m.0 (value_in a) ≡ new_sight x all.seats k
 fresh_sight {T} x k n l p m a all f =

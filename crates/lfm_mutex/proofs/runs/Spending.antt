@@ -1,4 +1,4 @@
--- What a run of steps has spent of what was due to its call: step by step, and one run after another.
+-- How many of the steps due to its call a run of steps has used: step by step, and for two runs in a row.
 use Rattle.std.proofs.Common.{◌≡◌, ◌≢◌, ℕ, ◌+◌, ◌*◌, ◌<◌, ◌≤◌, Option, None, List, [], ◌∷◌, ◌++◌, length, sym, ap, subst, ◌∙◌, arith, append_assoc, append-nil, length-append}
 use Rattle.lfm_words.specs.Popped.{oldest}
 use Rattle.lfm_protocol.specs.declared.answers.Turn.{Turn}
@@ -36,7 +36,7 @@ spends_join i j k t u v first second =
 pub spends_within : (i i' j j' : ℕ) (t u : List Seen) → i ≤ i' → j' ≤ j → Spends i j t u → Spends i' j' t u
 spends_within i i' j j' t u more less spends = let most = spends.2 in (spends.0, spends.1, omega (arith, more, less, most))
 
--- what was due has been spent at most, and two for each failed push
+-- at most the steps that were due have been made, and two more for each failed push
 pub spent : (i k : ℕ) (t u : List Seen) → i ≤ k → Spends i 0 t u → (new : List Seen) × (u ≡ t ++ new) × (length new ≤ k + 2 * failed_pushes new)
 spent i k t u more spends = let most = spends.2 in (spends.0, spends.1, omega (arith, more, most))
 
@@ -44,11 +44,11 @@ pub spent_nothing : (k : ℕ) (t u : List Seen) → u ≡ t → (new : List Seen
 spent_nothing k t u same = ([], same ∙ sym (append-nil t), omega arith)
 
 module _ {T : Type 0} (follows : ℕ → T → T → Type 0) (suits : T → ℕ → Type 0) (p q : SeatState) (v w : View T) (a b : Option (Moving T)) (turn : Turn) (e : Event follows suits p a v turn q b w) where
-  -- a step, whatever it was
+  -- a step of any kind
   pub spends_any : (k : ℕ) → Spends (k + 1) k v.trail w.trail
   spends_any k = (seen p.point e.found ∷ [], e.did.trail, omega arith)
 
-  -- a step costs one of what was due to the call
+  -- a step uses one of the steps that were due to the call
   pub spends_more : (seats s : ℕ) → kind p.point ≢ None → v.limits.seats ≡ seats → IsReady seats s p → Spends (due seats (length v.popped) p.point) (due seats (length w.popped) q.point) v.trail w.trail
   spends_more seats s some sized ready =
       let less = subst (λ (x : SeatState). weight seats (length w.popped) x.point < weight seats (length v.popped) p.point) e.seat_is (steps_left follows suits seats s p q v w a b turn some sized ready e) in

@@ -1,4 +1,4 @@
--- What has been said of a call of try_lock, as its contract has it.
+-- From the facts of a call of try_lock to its contract.
 use Rattle.std.proofs.Common.{ℕ, Result, Ok, Err}
 use Rattle.lfm_model.specs.declared.answers.Locked.{Locked}
 use Rattle.lfm_model.specs.declared.refusals.Refusal.{Refusal}

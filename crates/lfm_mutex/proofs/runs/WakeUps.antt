@@ -35,13 +35,13 @@ pub grants_join : (xs ys : List Seen) → grants_of (xs ++ ys) ≡ grants_of xs 
 grants_join [] ys = refl
 grants_join (x ∷ xs) ys = ap (λ (l : List ℕ). as_list (granted_at x.point) ++ l) (grants_join xs ys) ∙ sym (append_assoc (as_list (granted_at x.point)) (grants_of xs) (grants_of ys))
 
--- a seat that is granted is the one whose word the step touches
+-- By cases on the point: a granted seat is the one whose word the step accesses.
 target_of : (q : Point) (s t : ℕ) → granted_at q ≡ Some t → target q s ≡ t
 target_of (GrantWakeStore carrier oldest) s t is = cc
 target_of (SendWakeStore u) s t is = cc
 target_of _ s t is = absurd (none_some t is)
 
--- so it is one of the table's
+-- so the granted seat is one of the mutex's seats
 pub within_of : (q : Point) (s t seats : ℕ) → granted_at q ≡ Some t → target q s ≤ seats → t ≤ seats
 within_of q s t seats is most = subst (λ (n : ℕ). n ≤ seats) (target_of q s t is) most
 
@@ -71,7 +71,7 @@ wakes_none seats t u same = record {
   inside = λ n some. absurd (none_some n some);
 }
 
--- steps that grant nothing, and then others
+-- steps that grant nothing, followed by others
 pub wakes_after : (seats : ℕ) (wake_up : Option ℕ) (t u v : List Seen) → grants_of u ≡ grants_of t → Wakes seats wake_up u v → Wakes seats wake_up t v
 wakes_after seats wake_up t u v same wakes = record { granted = wakes.granted ∙ ap (λ (l : List ℕ). l ++ as_list wake_up) same; above = wakes.above; inside = wakes.inside }
 
@@ -105,7 +105,7 @@ ends_at d t ps q r s n o at more = ended_open (Answer.Waiting r) (ap (λ (z : Po
 ends_there : (x : SeatState) (r : Unlocked) (s n : ℕ) (o : Option Record) → x.point ≡ WaitWakeStore r → (stepped_by x s n o).turn ≡ Open → ⊥
 ends_there x r s n o at more = ends_at x.depth x.takes x.posts x.point r s n o at more
 
--- what is owed while the call goes on
+-- after a grant an open call is at the last step of a start_wait
 pub once_more : (x : SeatState) (s n : ℕ) (o : Option Record) (first then : Option ℕ) → ((t : ℕ) → first ≡ Some t → (r : Unlocked) × (x.point ≡ WaitWakeStore r)) → then ≡ granted_at x.point → (stepped_by x s n o).turn ≡ Open
     → (t : ℕ) → first_of first then ≡ Some t → (r : Unlocked) × ((stepped_by x s n o).seat.point ≡ WaitWakeStore r)
 once_more x s n o None then waits is more t some = waits_after x s n o t (sym is ∙ some) more

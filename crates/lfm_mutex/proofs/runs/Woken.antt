@@ -1,4 +1,5 @@
--- That the seats that were woken are those that were granted: of one call, and of calls in a row. A try and a receive grant nothing.
+-- The seats that were woken are those that were granted the mutex: for one call, and for calls in a row. A try and a receive
+-- grant nothing.
 use Rattle.std.proofs.Common.{◌≡◌, inl, inr, ℕ, List, [], ◌∷◌, ◌++◌, true, Option, Some, None, Result, Ok, Err, refl, sym, ap, ◌∙◌, append_assoc, append-nil}
 use Rattle.std.proofs.lemmas.Bool.{false≢true}
 use Rattle.lfm_model.specs.declared.answers.How.{How}
@@ -27,7 +28,7 @@ use Rattle.lfm_mutex.specs.calls.Woken.{woken_of, WakesNobody, WokenAsGranted}
 use Rattle.lfm_mutex.proofs.runs.ShortCalls.{Short, is_short, short_step_at, idle_step, try_opens, receive_opens}
 use Rattle.lfm_mutex.proofs.runs.WakeUps.{grants_join}
 
--- Of one call, and of two in a row
+-- For one call, and for two in a row
 
 pub woken_none : {T : Type 0} (s t : Seat T) → WakesNobody s t → grants_of (sight t).trail ≡ grants_of (sight s).trail → WokenAsGranted s t
 woken_none s t nobody none = ([], nobody ∙ sym (append-nil (woken_of s)), none ∙ sym (append-nil (grants_of (sight s).trail)))

@@ -29,7 +29,7 @@ use Rattle.lfm_mutex.proofs.runs.WakeUps.{wakes_none}
 use Rattle.lfm_table.proofs.tables.FastPathSteps.{told_before, same_then}
 use Rattle.lfm_mutex.proofs.lock.queue.Goals as goal
 
--- the load of the owner, which is another seat
+-- the load of the owner word, which finds another seat
 loads_owner : {T : Type 0} {follows : ℕ → T → T → Type 0} {suits : T → ℕ → Type 0} {s w0 i0 w1 i1 n : ℕ} {l : Limits} {a b : Option (Moving T)} {m m' : Me (Option (Moving T)) (View T)} (x : SeatState) → x.point ≡ LockOwnerLoad → x.depth ≡ 0 → Fit s w0 i0 l x m a
     → MadeStep follows suits s w1 i1 l (made_of 0 x.takes x.posts LockOwnerLoad) n m a m' b → n ≢ s → PlainCourse follows suits s l.seats x a m.0 Open (made_of 0 x.takes x.posts (PushLoad Pusher.Locker)) b m'.0
 loads_owner {T} {follows} {suits} {s} {w0} {i0} {w1} {i1} {n} {l} {a} {b} {m} {m'} x at flat fit did other =
@@ -37,11 +37,11 @@ loads_owner {T} {follows} {suits} {s} {w0} {i0} {w1} {i1} {n} {l} {a} {b} {m} {m
     let so = plain_next (opens (made_of 0 x.takes x.posts (PushLoad Pusher.Locker))) (plain_none follows suits (subst (λ (z : SeatState). Fit s w0 i0 l z m a) here fit)) did (not_owned 0 x.takes x.posts s n (oldest_in b) other) (λ e. cc) refl refl in
     subst (λ (z : SeatState). PlainCourse follows suits s l.seats z a m.0 Open (made_of 0 x.takes x.posts (PushLoad Pusher.Locker)) b m'.0) (sym here) so.plain
 
--- the same of a course that has gone on under the number and the limits after the load
+-- the same for a course that continues under the number and the limits after the load
 goes_on : {T : Type 0} {follows : ℕ → T → T → Type 0} {suits : T → ℕ → Type 0} {s k : ℕ} {l j : Limits} {p q : SeatState} {a b : Option (Moving T)} {v w : View T} {turn : Turn} → (k ≡ s) × (j ≡ l) → PlainCourse follows suits k j.seats p a v turn q b w → PlainCourse follows suits s l.seats p a v turn q b w
 goes_on {T} {follows} {suits} {s} {k} {l} {j} {p} {q} {a} {b} {v} {w} {turn} same so = subst (λ (z : ℕ × Limits). PlainCourse follows suits z.0 z.1.seats p a v turn q b w) (λ i. (same.0 i, same.1 i)) so
 
--- the seat stands where it pushes
+-- the seat is at the point where it pushes
 pub push-requires-clause-fit : goal.push-requires-clause-fit
 push-requires-clause-fit g c κs within = let x = c.args.seat.now.state in let h = c.load_other_owner in
     subst (λ (z : Stepped). SeatFits h.new.seat z.seat) (not_owned 0 x.takes x.posts h.new.seat.number h.result (oldest_in h.new.seat.moving) (λ e. h.ensures.other (e ∙ h.ensures.same.0))) h.ensures.step.fit
@@ -65,7 +65,7 @@ returns-in-Queued-clause-wakes g c =
     let so = plain_join (loads_owner s.state c.requires.stands c.requires.flat (record { seated = s.seated; became = s.became; ready = s.ready; rooted = s.rooted }) (told_before h.ensures.same h.ensures.step) h.ensures.other) (goes_on h.ensures.same c.in-Queued.ensures.made) in
     wakes_none s.table_seat.limits.seats s.table_seat.place.me.0.trail p.new.seat.place.me.0.trail so.grants
 
--- the seat stands where the slow path takes over
+-- the seat is at the point where the slow path takes over
 stops : (x : SeatState) (q : Point) → x.depth ≡ 0 → record x { point = q } ≡ made_of 0 x.takes x.posts q
 stops x q flat = λ i. record { depth = flat i; takes = x.takes; posts = x.posts; point = q }
 

@@ -2,7 +2,7 @@ use Rattle.std.proofs.Common.{ap, rules}
 use Rattle.lfm_mutex.proofs.runs.RunGoesOn.{run_stays_at}
 use Rattle.lfm_mutex.proofs.sections.change.Goals as goal
 
--- what is written through the loan changes the value alone
+-- what is written through the borrow changes only the value
 pub returns-clause-belongs : goal.returns-clause-belongs
 returns-clause-belongs g c = let h = rw c.in-Some.is at (c.value_mut.follows.holds c.f.new.arg2) in (ap (λ p. p.table_id) h.1, h.3)
 

@@ -21,7 +21,7 @@ pub push-requires-clause-fit : goal.push-requires-clause-fit
 push-requires-clause-fit g c κs within = let s = c.args.seat.now in let x = s.state in
     subst (λ (z : Point). SeatFits s.table_seat (made_of x.depth x.takes x.posts z)) c.requires.stands (record { seated = s.seated; became = s.became; ready = s.ready; rooted = s.rooted })
 
--- the seat stands there already
+-- the seat is already at that point
 stands : {u : ℕ} (x : SeatState) → x.point ≡ PushLoad (Pusher.Sender u) → x ≡ record x { point = PushLoad (Pusher.Sender u) }
 stands {u} x at = λ i. record { depth = x.depth; takes = x.takes; posts = x.posts; point = at i }
 

@@ -18,7 +18,7 @@ use Rattle.lfm_mutex.proofs.runs.Spending.{spends_any, spends_join}
 use Rattle.lfm_mutex.proofs.runs.WakeUps.{wakes_after, wakes_one}
 use Rattle.lfm_mutex.proofs.send.send_without_hold.Goals as goal
 
--- the seat, which doesn't hold, stands where its target is queued
+-- the seat, which doesn't hold, is at the point where it queues its target
 stands : {u : _} (x : SeatState) → x.depth ≡ 0 → record x { point = PushLoad (Pusher.Sender u) } ≡ made_of 0 x.takes x.posts (PushLoad (Pusher.Sender u))
 stands {u} x flat = λ i. record { depth = flat i; takes = x.takes; posts = x.posts; point = PushLoad (Pusher.Sender u) }
 

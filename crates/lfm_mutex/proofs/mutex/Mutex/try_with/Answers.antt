@@ -11,12 +11,12 @@ use Rattle.lfm_mutex.proofs.mutex.Mutex.try_with.Goals as goal
 pub change-answer-requires-clause-holds : goal.change-answer-requires-clause-holds
 change-answer-requires-clause-holds g c κs within = holds_after_try g.T.Kept.follows g.T.Kept.fits (limits_of c.args.self.now).budget (sight c.args.seat.now) (sight c.try_lock.new.seat) c.in_ok-_locked._locked c.in_ok-_locked.ensures.locks
 
--- what the closure made of what was found may be left
+-- the value that the closure leaves may be left: a precondition of this call
 pub unlock-requires-clause-leaves : goal.unlock-requires-clause-leaves
 unlock-requires-clause-leaves g c κs within = let x = c.change-answer.ensures.changes in
     subst (λ s. MayRelease g.T.Kept.follows g.T.Kept.fits s) (sym x.4) (c.requires.keeps _ c.in_ok-_locked._locked x.0 x.1 _ (c.in_ok-_locked.ensures.locks, c.in_ok-_locked.ensures.steps) x.2 x.3)
 
--- it is left so
+-- the unlock leaves this value
 left : (g : _) (c : goal.In-Ok g) → UnlocksSo (limits_of c.args.self.now) (with_value (sight c.try_lock.new.seat) c.change-answer.ensures.changes.1) (sight c.unlock.new.seat) (Ok c.in-Ok.field-0)
 left g c = subst (λ s. UnlocksSo (limits_of c.args.self.now) s (sight c.unlock.new.seat) (Ok c.in-Ok.field-0)) c.change-answer.ensures.changes.4 (c.in-Ok.ensures.unlocks, c.in-Ok.ensures.steps)
 

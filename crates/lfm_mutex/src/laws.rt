@@ -56,9 +56,9 @@ pub fn resting_tables_are_free<T: Kept>()
     ensures { RestingTablesAreFree T.follows T.fits }
 {}
 
-/// At every moment there is a number n such that the holds that the seats ended last have numbers up to n, no two above 0 the
-/// same, and one is n if n is above 0. A seat that owns or carries knows n as the number of ended holds. The value in the slot,
-/// or with a seat that carries and does not own, is the last value of a seat with the number n.
+/// At every moment there is a number n of ended holds. The hold that a seat ended last has a number up to n, no two of these
+/// numbers above 0 are the same, and one is n if n is above 0. A seat that owns or carries knows n. The value in the slot, or
+/// with a seat that carries and does not own, is the last value of a seat with the number n.
 ///
 /// Definition: `HoldsAreNumbered` in `specs/EndedHolds.antt`. Proof: `proofs/EndedHolds.antt`.
 pub fn holds_are_numbered<T: Kept>()
@@ -73,8 +73,8 @@ pub fn closes_have_one_value<T: Kept>()
     ensures { OneLastValue T }
 {}
 
-/// At the state of the core that the table is, with the calls that a seat has begun since its last step, the core's step leaves
-/// the same word, seat, pop list and turn as the running seat makes from the number that it finds.
+/// Take the state of the core that the table is, after the calls that a seat has begun since its last step. The core's step
+/// from there leaves the word, the seat, the pop list and the turn that the running seat makes from the number that it finds.
 ///
 /// Definition: `TablesStepAsTheCore` in `specs/TableEvents.antt`. Proof: `proofs/TableEvents.antt`.
 pub fn tables_step_as_the_core<T: Kept>()

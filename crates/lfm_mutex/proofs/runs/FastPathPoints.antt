@@ -40,7 +40,7 @@ pub awake_rests : (q : Point) → is_asleep q ≡ false → q ≡ Rest
 awake_rests Rest e = refl
 awake_rests _ e = absurd (false≢true (sym e))
 
--- Begins
+-- Starts of calls
 
 below : (m n : ℕ) → m < n → nat_lt m n ≡ true
 below m n e = search (tests, arith, e)

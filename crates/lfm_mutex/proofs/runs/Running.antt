@@ -180,7 +180,7 @@ ends_of e d Open q some same is = absurd (some refl)
 ends_of e d (Ended answer) q some same is = is ∙ same
 ends_of e d (Refused why) q some same is = is.0 ∙ same
 
--- Begins
+-- Starts of calls
 
 abbrev pub BeginTold : Errand → Turn → Point → Type 0
 BeginTold e Open q = errand q ≡ e

@@ -194,7 +194,7 @@ module _ {T : Type 0} (n n' : ℕ) (p p' : SeatState) (v v' : View T) (a a' : Op
       in
       λ i. record { number = number i; seats = ap (λ (t : LastHold T). t.2.seats) last i; depth = depth i; takes = takes i; asleep = asleep_is i; in_call = in_call_is i; last = lasts i; found = founds i; ended = ap (λ (t : LastHold T). t.3) last i; holds_ended = holds i; value = values i; queued = queued i; trail = v'.trail; sends = sends_are i }
 
--- Begins
+-- Starts of calls
 
 abbrev pub BegunEntry : ℕ → SeatState → SeatState → Type 0
 BegunEntry budget p q =

@@ -19,7 +19,7 @@ module _ {F T : Type 0} (g : Shared F (ℕ × (MutBor (Seat T) × Unit {0})) (Re
   RoundsLead zero s t = t ≡ s
   RoundsLead (suc n) s t = (m : Seat T) × RoundsLead n s m × RoundGives n m (Ok tt) t
 
-  -- s has become t by this number of rounds, or by fewer rounds of which only the last was refused
+  -- s has become t by this number of rounds, none refused, or by at most this number, of which only the last was refused
   abbrev pub RoundsEnd : ℕ → Seat T → Seat T → Type 0
   RoundsEnd rounds s t = RoundsLead rounds s t ⊎ ((n : ℕ) × (m : Seat T) × (r : Refusal) × (n < rounds) × RoundsLead n s m × RoundGives n m (Err r) t)
 

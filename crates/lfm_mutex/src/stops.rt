@@ -24,7 +24,7 @@ pub(crate) enum Stop {
     LockPushes,
     /// A `try_lock` found a count of 0 and owns the mutex. Its owner store is next.
     TryEnters,
-    /// A `try_lock` found another owner. The load of the handoff word is next.
+    /// A `try_lock` found that its own seat is not the owner. The load of the handoff word is next.
     TryLoadsHandoff,
 }
 

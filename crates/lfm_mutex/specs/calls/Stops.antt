@@ -1,4 +1,4 @@
--- The points at which a fast path stops.
+-- The points at which a fast path of lock or try_lock, or a push, stops.
 use Rattle.lfm_model.specs.declared.answers.How.{How}
 use Rattle.lfm_protocol.specs.declared.points.Entrant.{Entrant}
 use Rattle.lfm_protocol.specs.declared.points.Point.{Point}

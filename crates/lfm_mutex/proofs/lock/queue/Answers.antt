@@ -29,7 +29,7 @@ use Rattle.lfm_mutex.proofs.runs.WakeUps.{wakes_none}
 use Rattle.lfm_table.proofs.tables.FastPathSteps.{told_before, same_then}
 use Rattle.lfm_mutex.proofs.lock.queue.Goals as goal
 
--- the load of the owner word, which finds another seat
+-- the load of the owner word, which doesn't find this seat
 loads_owner : {T : Type 0} {follows : ℕ → T → T → Type 0} {suits : T → ℕ → Type 0} {s w0 i0 w1 i1 n : ℕ} {l : Limits} {a b : Option (Moving T)} {m m' : Me (Option (Moving T)) (View T)} (x : SeatState) → x.point ≡ LockOwnerLoad → x.depth ≡ 0 → Fit s w0 i0 l x m a
     → MadeStep follows suits s w1 i1 l (made_of 0 x.takes x.posts LockOwnerLoad) n m a m' b → n ≢ s → PlainCourse follows suits s l.seats x a m.0 Open (made_of 0 x.takes x.posts (PushLoad Pusher.Locker)) b m'.0
 loads_owner {T} {follows} {suits} {s} {w0} {i0} {w1} {i1} {n} {l} {a} {b} {m} {m'} x at flat fit did other =

@@ -35,9 +35,9 @@ impl<T: Kept> Mutex<T> {
     /// queued. The caller may hold the mutex or not, and is charged nothing.
     ///
     /// Refuses, in this order: Asleep, NoSuchSeat (the target is above the number of seats), NotWaiting (the target doesn't
-    /// wait, or was already sent). It never waits, and wakes the seat to which it grants the mutex, if any. With N seats it makes
-    /// at most N + 9 atomic steps, and two more for each exchange of the push word that fails because another seat has changed
-    /// the word.
+    /// wait, or was already sent). It never waits, and wakes the seat to which it grants the mutex, if any. With N seats it
+    /// makes at most N + 9 atomic steps, and two more for each exchange of the push word that fails because another seat has
+    /// changed the word.
     pub fn send_lock(&self, seat: &mut Seat<T>, target: SeatNo) -> Result<(), Refusal>
         requires belongs { OfMutex seat.old self.now }
         ensures belongs { Beside seat.old seat.new }

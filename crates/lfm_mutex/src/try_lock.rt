@@ -32,8 +32,8 @@ impl<T: Kept> Mutex<T> {
     ///
     /// Refuses, in this order: Asleep, DepthFull and Spent as `ask`, and Busy: the count was not 0, this seat was not the
     /// owner, and nothing was posted or the post had gone when the call tried to accept it. Busy gives the charge back. It
-    /// never waits and wakes no thread. Whatever other seats do, it makes at most 6 atomic steps. It corresponds to `trylock` of
-    /// OSv's lfmutex.
+    /// never waits and wakes no thread. Whatever other seats do, it makes at most 6 atomic steps. It corresponds to `trylock`
+    /// of OSv's lfmutex.
     #[inline(always)]
     pub fn try_lock(&self, seat: &mut Seat<T>) -> Result<Locked, Refusal>
         requires belongs { OfMutex seat.old self.now }

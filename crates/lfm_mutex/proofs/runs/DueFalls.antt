@@ -1,4 +1,4 @@
--- Each step lowers the number of steps due to its call by one, and a failed push raises it by two. So a call makes at most the
+-- Each step lowers the number of steps due to its call by at least one, and a failed push adds two. So a call makes at most the
 -- steps that were due to it, and two for each failure.
 use Rattle.std.proofs.Common.{◌≡◌, ◌≢◌, ◌⊎◌, ℕ, ◌+◌, ◌-◌, ◌*◌, ◌<◌, ◌≤◌, Bool, true, false, Option, Some, None, nat_eq, refl, arith, inl, inr, if◌then◌else◌}
 use Rattle.lfm_words.specs.declared.links.Link.{Link}

@@ -1,6 +1,6 @@
 # Makes the tables of scripts/bench_c of its programs' lines, ROW|LOCK|MEDIAN|LEAST|GREATEST: a column for each lock, with the
-# medians, and after each lock of ours its ratio to the other lock of its language. If `is_page` is set, it makes the table of a
-# page, which has the ratios alone, and one line for rows that differ in their numbers.
+# medians, and after each lock of ours its ratio to the other lock of its language. If `form` is `page`, it makes the table of a
+# page, which has the ratios alone, and one line for rows that differ in their numbers; if it is `rows`, the lines of a chart.
 
 # A lock, and the lock beside which it is measured, if it is ours.
 function column(lock, heading, other) {
@@ -98,6 +98,27 @@ function page(    at, row, kind, lock, line, lines, order, names, cells) {
   }
 }
 
+# The lines of a chart, with the greatest ratio first.
+function chart(    row, i, j, worst, order, lines, cells, lock, at, value, ours) {
+  ours[1] = "C here"
+  ours[2] = "C++"
+  ours[3] = "Rust"
+  for (row = 1; row <= many; row++) {
+    if (rows[row] ~ /, most over fewest$/) continue
+    for (at = 1; at <= 3; at++) {
+      lock = ours[at]
+      value = ratio(median[rows[row], lock], median[rows[row], beside[lock]])
+      cells[row] = cells[row] "|" value
+      if (value + 0 > worst[row]) worst[row] = value + 0
+    }
+    for (j = ++lines; j > 1 && worst[order[j - 1]] < worst[row]; j--) order[j] = order[j - 1]
+    order[j] = row
+  }
+  print "chart languages|Time from C, C++ and Rust, divided by that of pthread's or std's mutex||"
+  print "series *C|C++|Rust"
+  for (i = 1; i <= lines; i++) print "row " rows[order[i]] cells[order[i]] "|"
+}
+
 # The line below the headings of a table.
 function rule(line) {
   gsub(/[^|]+/, "---", line)
@@ -105,8 +126,9 @@ function rule(line) {
 }
 
 END {
-  if (is_page) {
-    page()
+  if (form == "page" || form == "rows") {
+    if (form == "page") page()
+    else chart()
     exit
   }
   table("nanoseconds; ratio", "")

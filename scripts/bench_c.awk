@@ -1,6 +1,6 @@
 # Makes the tables of scripts/bench_c of its programs' lines, ROW|LOCK|MEDIAN|LEAST|GREATEST: a column for each lock, with the
 # medians, and after each lock of ours its ratio to the other lock of its language. If `form` is `page`, it makes the table of a
-# page, which has the ratios alone, and one line for rows that differ in their numbers; if it is `rows`, the lines of a chart.
+# page, which has the ratios alone, with the greatest first; if it is `rows`, the lines of a chart.
 
 # A lock, and the lock beside which it is measured, if it is ours.
 function column(lock, heading, other) {
@@ -68,55 +68,46 @@ function table(what, end,    at, row, name, line, lock) {
   }
 }
 
-# The name of a line that has this row too.
-function joined(name, row) {
-  if (match(row, /^[0-9]+/)) return substr(name, 1, length(name) - length(row) + RLENGTH) "; " row
-  match(row, /[0-9].*/)
-  return name "; " substr(row, RSTART)
-}
-
-# The table of a page.
-function page(    at, row, kind, lock, line, lines, order, names, cells) {
-  for (row = 1; row <= many; row++) {
-    kind = rows[row]
-    if (kind ~ /, most over fewest$/) continue
-    gsub(/[0-9]+/, "", kind)
-    if (names[kind] == "") order[++lines] = kind
-    names[kind] = names[kind] == "" ? rows[row] : joined(names[kind], rows[row])
-    for (at = 1; at <= count; at++) {
-      lock = locks[at]
-      line = ratio(median[rows[row], lock], median[rows[row], beside[lock]])
-      cells[kind, lock] = cells[kind, lock] (cells[kind, lock] == "" ? "" : "; ") line
-    }
-  }
-  for (row = 0; row <= lines; row++) {
-    line = row ? "| " names[order[row]] : "|"
-    for (at = 1; at <= count; at++)
-      if (locks[at] in found && beside[locks[at]]) line = line " | " (row ? cells[order[row], locks[at]] : headings[locks[at]])
-    print line " |"
-    if (row == 0) print rule(line)
-  }
-}
-
-# The lines of a chart, with the greatest ratio first.
-function chart(    row, i, j, worst, order, lines, cells, lock, at, value, ours) {
-  ours[1] = "C here"
-  ours[2] = "C++"
-  ours[3] = "Rust"
+# Puts the rows into `order`, those with the greatest ratio first, and returns how many there are.
+function sort_rows(order,    row, j, at, value, worst, lines) {
   for (row = 1; row <= many; row++) {
     if (rows[row] ~ /, most over fewest$/) continue
-    for (at = 1; at <= 3; at++) {
-      lock = ours[at]
-      value = ratio(median[rows[row], lock], median[rows[row], beside[lock]])
-      cells[row] = cells[row] "|" value
-      if (value + 0 > worst[row]) worst[row] = value + 0
+    for (at = 1; at <= count; at++) {
+      value = ratio(median[rows[row], locks[at]], median[rows[row], beside[locks[at]]]) + 0
+      if (value > worst[row]) worst[row] = value
     }
     for (j = ++lines; j > 1 && worst[order[j - 1]] < worst[row]; j--) order[j] = order[j - 1]
     order[j] = row
   }
+  return lines
+}
+
+# The table of a page.
+function page(    at, i, row, line, lines, order) {
+  lines = sort_rows(order)
+  for (i = 0; i <= lines; i++) {
+    row = rows[order[i]]
+    line = i ? "| " row : "|"
+    for (at = 1; at <= count; at++)
+      if (locks[at] in found && beside[locks[at]])
+        line = line " | " (i ? ratio(median[row, locks[at]], median[row, beside[locks[at]]]) : headings[locks[at]])
+    print line " |"
+    if (i == 0) print rule(line)
+  }
+}
+
+# The lines of a chart.
+function chart(    at, i, row, line, lines, order, ours) {
+  split("C here,C++,Rust", ours, ",")
   print "chart languages|Time from C, C++ and Rust, divided by that of pthread's or std's mutex||"
   print "series *C|C++|Rust"
-  for (i = 1; i <= lines; i++) print "row " rows[order[i]] cells[order[i]] "|"
+  lines = sort_rows(order)
+  for (i = 1; i <= lines; i++) {
+    row = rows[order[i]]
+    line = "row " row
+    for (at = 1; at <= 3; at++) line = line "|" ratio(median[row, ours[at]], median[row, beside[ours[at]]])
+    print line "|"
+  }
 }
 
 # The line below the headings of a table.

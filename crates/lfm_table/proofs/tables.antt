@@ -1,4 +1,4 @@
--- One atomic step: what it does to a seat's own data, and that it keeps the rule of the table and what a seat knows.
+-- One atomic step: what it does to a seat's own data, and that it keeps the rule of the table and what holds of a seat.
 pub mod ByKind
 pub mod CoreFacts
 pub mod Actions

@@ -12,7 +12,7 @@ word_at (Access.FetchSub word number) = word
 word_at (Access.FetchAnd word mask) = word
 word_at (Access.CompareExchange word old new) = word
 
--- what the access makes of the number found
+-- the word after the access, which found this number
 abbrev pub becomes : Access → ℕ → ℕ
 becomes (Access.Load word) n = n
 becomes (Access.Store word new) n = new

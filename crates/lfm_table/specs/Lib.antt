@@ -1,4 +1,5 @@
--- The rule of the table and of one seat there: views, what a step asks and tells, and what a seat may become without one.
+-- The rule of the table and of one seat: views, what a step requires and guarantees, and what a seat's data may become without
+-- a step.
 pub use Rattle.atomic_table.specs.Table
 pub mod Accesses
 pub mod Actions

@@ -1,4 +1,4 @@
--- Facts that have one proof, so that a seat can keep them.
+-- Facts of which any two proofs are equal, so that a seat can keep such facts.
 use Rattle.std.specs.Prelude.{◌≡◌, ℕ}
 use Rattle.std.specs.Coded.{×_prop, Unit-prop, le_prop}
 use Rattle.lfm_protocol.specs.declared.limits.Limits.{Limits}
@@ -51,6 +51,6 @@ IsReady-prop seats s x u v =
       stored_wake = IsSmallWake-prop (stored_wake x) u.stored_wake v.stored_wake i;
     }
 
--- if an equation between the data of two seats has one proof
+-- if any two proofs that the data of two seats are equal are themselves equal
 pub Became-prop : ((a b : SeatState) → IsProp (a ≡ b)) → (x : SeatState) (l : Limits) (p : SeatState) → IsProp (Became x l p)
 Became-prop one x l p u v = λ i. record { deep = le_prop u.deep v.deep i; leads = one p (begun x l (calls_to x p)) u.leads v.leads i }

@@ -1,4 +1,4 @@
--- The rule of the table, and what one step tells.
+-- The rule of the table, and what one step guarantees.
 use Rattle.std.specs.Prelude.{◌≡◌, ◌≢◌, ⊤, ℕ, ◌+◌, ◌<◌, ◌≤◌, List, [], ◌∷◌, ◌++◌, length, Option, Some, None, Bool, true, false}
 use mathlib.Core.Option.{some}
 use mathlib.Core.Option as maybe
@@ -39,7 +39,7 @@ use Rattle.lfm_table.specs.Reach.{Reached}
 
 -- Views
 
--- seat 1 as the table begins
+-- seat 1 when the table opens
 abbrev pub first_view : {T : Type 0} → Limits → T → View T
 first_view l x =
     record {
@@ -61,11 +61,11 @@ first_view l x =
       joined = [];
     }
 
--- seat 1 once it has split one more off
+-- seat 1 after it has split one more seat off
 abbrev pub with_split : {T : Type 0} → View T → View T
 with_split v = record v { made = v.made + 1 }
 
--- the seat that it splits off
+-- the seat that is split off
 abbrev pub split_view : {T : Type 0} → View T → View T
 split_view v =
     record {
@@ -90,7 +90,7 @@ split_view v =
 abbrev pub joined_of : {T : Type 0} → View T → Joined T
 joined_of w = record { number = w.number; last = w.last; found = w.last_found; ended = w.ended; trail = w.trail; actions = w.actions }
 
--- v once it has taken in w
+-- v after it has joined w
 abbrev pub with_joined : {T : Type 0} → View T → View T → View T
 with_joined v w = record v { joined = v.joined ++ joined_of w ∷ [] }
 
@@ -130,7 +130,7 @@ abbrev pub sum_over : {A : Type 0} → (A → ℕ) → List A → ℕ
 sum_over f [] = 0
 sum_over f (x ∷ xs) = f x + sum_over f xs
 
--- what seat 1's view k says of all views
+-- what the view k of seat 1 states of all views
 pub record Roots {T : Type 0} (views : List (View T)) (k : View T) : Type 0 where
   pub user : k.role ≡ User
   pub made : length views ≡ k.made + 1
@@ -142,16 +142,16 @@ pub record Roots {T : Type 0} (views : List (View T)) (k : View T) : Type 0 wher
 abbrev pub NoneEnded : {T : Type 0} → List (View T) → Type 0
 NoneEnded {T} views = (j : ℕ) (v : View T) → get_elem? views j ≡ some v → v.last_found ≡ None
 
--- If n holds have ended, this value was left by the last of them. If none has, it is the opening value, which each seat
--- has as its last.
+-- If n holds have ended, the last of them left this value. If none has, it is the opening value, which each seat has as its
+-- last.
 abbrev pub LeftIn : {T : Type 0} → List (View T) → ℕ → T → Type 0
 LeftIn {T} views n w = (j : ℕ) × (v : View T) × (get_elem? views j ≡ some v) × (v.last ≡ Some w) × (v.last_found ≡ None → NoneEnded views) × (v.ended ≡ n)
 
--- The holds that the seats ended last, if n have ended
--- within: they are numbered up to that
--- greatest: one of them has that number
--- differ: no two have the same number
--- opens: a seat that has ended none has the opening value as its last
+-- The numbers of the holds that the seats ended last, if n have ended
+-- within: none is greater than n
+-- greatest: one of them is n, unless n is 0
+-- differ: no two seats have the same number
+-- opens: a seat that has ended no hold has the opening value as its last
 pub record AreNumbered {T : Type 0} (views : List (View T)) (n : ℕ) : Type 0 where
   pub within : (j : ℕ) (v : View T) → get_elem? views j ≡ some v → v.ended ≤ n
   pub greatest : 0 < n → (j : ℕ) × (v : View T) × (get_elem? views j ≡ some v) × (v.ended ≡ n)
@@ -172,18 +172,18 @@ abbrev pub is_carried : {S : Type 0} → Option S → Bool
 is_carried (Some x) = true
 is_carried None = false
 
--- the slots that a seat has at the table, between its steps
+-- the slots that a seat has at the table between its steps
 abbrev pub in_hand : {S : Type 0} → Bool → List (ℕ × Option S)
 in_hand true = (0, None) ∷ []
 in_hand false = []
 
--- what is noted of a hold once a step was made at this point: only the store that ends a hold notes anew
+-- what is recorded of a hold after a step at this point: only the store that ends a hold changes it
 abbrev pub left_by : {A : Type 0} → Point → A → A → A
 left_by (ReleaseOwnerStore releaser) new old = new
 left_by _ new old = old
 
--- of the hold that a seat ended last: the value that it left, and the value that it had found; the limits of its table; and the
--- number of that hold
+-- the hold that a seat ended last: the value that it left, the value that it had found, the limits of its table, and the number
+-- of that hold
 abbrev pub LastHold : Type 0 → Type 0
 LastHold T = Option T × Option T × Limits × ℕ
 
@@ -192,25 +192,26 @@ last_hold v = (v.last, v.last_found, v.limits, v.ended)
 
 -- The rule
 
--- a seat that releases or sends has no record of its own, so the pop list has neither such a record nor the one that is loaded next
+-- A seat that releases or sends has no record of its own. So the pop list has no record of it, and the record that is loaded
+-- next isn't its own.
 abbrev pub CollectsWithin : ℕ → ℕ → Point → Type 0
 CollectsWithin popped seats (TakeLinkLoad (Carrier.Releaser releaser) next) = popped + 2 ≤ seats
 CollectsWithin popped seats (TakeLinkLoad (Carrier.Reclaimer releaser) next) = popped + 2 ≤ seats
 CollectsWithin popped seats (TakeLinkLoad Carrier.Sender next) = popped + 2 ≤ seats
 CollectsWithin popped seats _ = ⊤
 
--- what the view at place j has of the state
+-- how the view at place j agrees with the state
 pub record Sits {T : Type 0} (c : Core) (j : ℕ) (v : View T) : Type 0 where
   pub number : v.number ≡ j + 1
   pub limits_are : v.limits ≡ limits c
   pub state : seat c.seats (j + 1) ≡ v.state
 
 module _ {T : Type 0} (follows : ℕ → T → T → Type 0) where
-  -- what each of some seats left last leads to this value
+  -- the last value of each of the seats that are selected leads to this value
   abbrev pub LeadsToValue : (ℕ → Type 0) → List (View T) → T → Type 0
   LeadsToValue which views w = (j : ℕ) (v : View T) (l : T) → get_elem? views j ≡ some v → which j → v.last ≡ Some l → Reached follows v.limits.seats (j + 1) l w
 
-  -- the same of the seats that are still to come, which begin with the opening value
+  -- the same for the seats that do not exist yet, whose last value is the opening value
   abbrev pub Awaits : List (View T) → T → Type 0
   Awaits views w = (j : ℕ) (k : View T) (l : T) → length views ≤ j → get_elem? views 0 ≡ some k → k.opening ≡ Some l → Reached follows k.limits.seats (j + 1) l w
 
@@ -226,7 +227,7 @@ module _ {T : Type 0} (follows : ℕ → T → T → Type 0) (suits : T → ℕ 
   abbrev pub Mine : Type 0
   Mine = Me (Option (Moving T)) (View T)
 
-  -- the value in its slot, if n holds have ended
+  -- the value is in its slot, and n holds have ended
   pub record AtHome (c : Core) (g : Ghost) (n : ℕ) (homes : List (maybe.Option (Option (Moving T)))) (views : List (View T)) : Type 0 where
     pub value : Moving T
     pub here : get_elem? homes 0 ≡ some (some (Some value))
@@ -237,7 +238,7 @@ module _ {T : Type 0} (follows : ℕ → T → T → Type 0) (suits : T → ℕ 
     pub left : LeftIn views n value.value
     pub fits : suits value.value g.answered
 
-  -- the value that the seat at place j, whose view is v, carries, if n holds have ended
+  -- the seat at place j, whose view is v, carries the value, and n holds have ended
   pub record WithSeat (c : Core) (g : Ghost) (n : ℕ) (views : List (View T)) (j : ℕ) (v : View T) : Type 0 where
     pub value : T
     pub found : v.found ≡ Some value
@@ -249,7 +250,8 @@ module _ {T : Type 0} (follows : ℕ → T → T → Type 0) (suits : T → ℕ 
     pub shallow : v.state.depth ≡ 0 → suits value v.answered × ((l : T) → v.last ≡ Some l → Reached follows v.limits.seats (j + 1) l value)
     pub left : v.state.depth ≡ 0 → LeftIn views n value
 
-  -- words and views are a steady state of the core, to which a run from its start has led, and the value is where the core says
+  -- the words and views are those of a steady state of the core, which a run from its start has reached, and the value is where
+  -- the core requires
   pub record Held (s : State (Option (Moving T)) (View T)) : Type 0 where
     pub core : Core
     pub ghost_state : Ghost
@@ -270,7 +272,7 @@ module _ {T : Type 0} (follows : ℕ → T → T → Type 0) (suits : T → ℕ 
     pub actions : List Action
     pub run : HasRun opened actions core s.views
 
-  -- what a step does with the slot and with what is noted of the value, by whether its seat carries before and after
+  -- what a step does with the slot and with the record of the value, by whether its seat carries it before and after
   abbrev pub Hands : Bool → Bool → Point → Option T → List Record → Mine → Mine → Type 0
   Hands false false q a popped m m' = m'.1 ≡ m.1
   Hands false true q a popped m m' =
@@ -278,7 +280,8 @@ module _ {T : Type 0} (follows : ℕ → T → T → Type 0) (suits : T → ℕ 
   Hands true false q a popped m m' = m'.1 ≡ []
   Hands true true q a popped m m' = (m'.1 ≡ m.1) × (m'.0.found ≡ left_by q a m.0.found)
 
-  -- what a carrier at depth 0 knows of the value: if no later hold has ended than its own last one, it is what it left then
+  -- What a carrier at depth 0 knows of the value: if no hold has ended after its own last one, the value is the one that it
+  -- left then.
   abbrev pub Knows : View T → Type 0
   Knows v =
       (y : T) → v.found ≡ Some y → suits y v.answered × ((l : T) → v.last ≡ Some l → Reached follows v.limits.seats v.number l y) × (v.ended ≤ v.holds_ended) × (v.ended ≡ v.holds_ended → v.last ≡ Some y)
@@ -287,7 +290,8 @@ module _ {T : Type 0} (follows : ℕ → T → T → Type 0) (suits : T → ℕ 
   abbrev pub SeesChange : Point → ℕ → Type 0
   SeesChange q n = (pusher : Pusher) (old : Link) → q ≡ PushExchange pusher old → IsSeen (link_of n) old
 
-  -- one step of a seat whose plain data are p and which has the value a in hand: it found n, and the pop list was this
+  -- one step of a seat whose plain data are p and which has the value a in hand: the step found n, and the pop list before it
+  -- was this
   pub record Advanced (p : SeatState) (a : Option T) (m : Mine) (n : ℕ) (m' : Mine) : Type 0 where
     pub popped : List Record
     pub role : m'.0.role ≡ m.0.role
@@ -312,7 +316,7 @@ module _ {T : Type 0} (follows : ℕ → T → T → Type 0) (suits : T → ℕ 
     pub sees : SeesChange p.point n
     pub hands : Hands (carries_value p) (carries_value (stepped_by p m.0.number n (oldest popped)).seat) p.point a popped m m'
 
--- a load of the owner word that is no step of a call, which changes nothing but the trail and the actions
+-- a load of the owner word that is no step of a call; it changes only the trail and the actions
 abbrev pub ReadsOwner : {T : Type 0} → Me (Option (Moving T)) (View T) → ℕ → Me (Option (Moving T)) (View T) → Type 0
 ReadsOwner m n m' =
     (m' ≡ (record m.0 { trail = m.0.trail ++ seen TryOwnerLoad n ∷ []; actions = m'.0.actions }, m.1)) × (0 < m.0.number) × (n ≡ m.0.number → 0 < m.0.state.depth) × (0 < m.0.state.depth → n ≡ m.0.number)

@@ -1,4 +1,4 @@
--- What a seat's own data have to do with its view.
+-- How a seat's own data agree with its view.
 use Rattle.std.specs.Prelude.{◌≡◌, ℕ, ◌+◌, ◌*◌, ◌<◌, ◌≤◌, length, Option, Some}
 use Rattle.atomic_table.specs.Table.{Me}
 use Rattle.lfm_protocol.specs.declared.limits.Limits.{Limits}
@@ -20,7 +20,7 @@ pub record Seated {T : Type 0} (number : ℕ) (l : Limits) (p : SeatState) (m : 
   pub room : (x : Moving T) → a ≡ Some x → x.popped.room ≡ l.seats
   pub kept : p.depth ≡ 0 → (x : Moving T) → a ≡ Some x → m.0.found ≡ Some x.value
 
--- a seat's number, and what seat 1 knows, which splits the others off and joins them
+-- a seat's number, and what seat 1 knows, which splits the other seats off and joins them
 pub record Rooted {T : Type 0} (words id number : ℕ) (l : Limits) (v : View T) : Type 0 where
   pub low : 0 < number
   pub high : number ≤ l.seats

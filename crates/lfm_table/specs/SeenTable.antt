@@ -1,4 +1,4 @@
--- What a contract sees of the table, of a seat at it, and of the table once it is closed.
+-- What a contract sees of the table, of a seat at it, and of the table after it is closed.
 use Rattle.std.specs.Prelude.{ℕ, List, Option}
 use Rattle.atomic_table.specs.Seated.{TableId}
 use Rattle.atomic_table.specs.Table.{Me}
@@ -15,7 +15,7 @@ pub record SeenPlace (T : Type 0) : Type 0 where
   pub id : ℕ
   pub me : Me (Option (Moving T)) (View T)
 
--- what stands in the words, and what lies in the slots
+-- the numbers in the words, and the contents of the slots
 pub record SeenClosed (T : Type 0) : Type 0 where
   pub words : List ℕ
   pub slots : List (Option (Moving T))

@@ -1,4 +1,5 @@
--- What a seat may have become without a step, as one equation: the calls that lead there are read off from both ends.
+-- What the data of a seat may have become without a step, as one equation: the calls that lead there follow from the data
+-- before and after.
 use Rattle.std.specs.Prelude.{◌≡◌, ◌≤◌, ℕ, zero, suc, ◌-◌, List, [], ◌∷◌}
 use Rattle.lfm_protocol.specs.declared.answers.Call.{Call}
 use Rattle.lfm_protocol.specs.declared.answers.Call.TheVariants.{Lock, TryLock, Unlock, StartWait, SendLock, Receive}
@@ -9,12 +10,12 @@ use Rattle.lfm_protocol.specs.declared.points.Releaser.TheVariants.{Unlocker, Wa
 use Rattle.lfm_protocol.specs.declared.seats.SeatState.{SeatState}
 use Rattle.lfm_laws.specs.table.Settles.{begun}
 
--- this number of calls of unlock
+-- this many calls of unlock
 abbrev pub unlocks : ℕ → List Call
 unlocks zero = []
 unlocks (suc n) = Unlock ∷ unlocks n
 
--- these calls, and then the one that stands open at this point before its first step
+-- these calls, and then the call that is open at this point before its first step
 abbrev pub opened : Point → List Call → List Call
 opened LockCountAdd calls = Lock ∷ calls
 opened TryCountExchange calls = TryLock ∷ calls
@@ -24,7 +25,7 @@ opened (SendWakeExchange t) calls = SendLock t ∷ calls
 opened (ReceiveWakeLoad sleeper) calls = Receive ∷ calls
 opened _ calls = calls
 
--- the calls by which seat x has become p, the latest first
+-- the calls by which the data x of a seat became p, the latest first
 abbrev pub calls_to : SeatState → SeatState → List Call
 calls_to x p = opened p.point (unlocks (x.depth - p.depth))
 

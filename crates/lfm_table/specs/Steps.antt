@@ -1,4 +1,4 @@
--- What a step asks of its seat, and what its parts do in plain memory.
+-- What a step requires of its seat, and what its parts do in plain memory.
 use Rattle.std.specs.Prelude.{◌≡◌, ℕ, ◌+◌, ◌*◌, ◌≤◌, List, [], ◌∷◌, Option, Some, None, Bool, true, false}
 use Rattle.atomic_table.specs.Table.{Me, rest}
 use Rattle.lfm_words.specs.declared.pop_lists.Record.{Record}
@@ -33,11 +33,11 @@ gives_at (SendWakeStore t) = true
 gives_at _ = false
 
 module _ {T : Type 0} (follows : ℕ → T → T → Type 0) (suits : T → ℕ → Type 0) where
-  -- what is in hand may be left after the value that was found
+  -- the value in hand may be left after the value that was found
   abbrev pub MayBeLeft : Option (Moving T) → View T → Type 0
   MayBeLeft a v = (x : Moving T) → a ≡ Some x → suits x.value v.answered × ((y : T) → v.found ≡ Some y → follows v.number y x.value)
 
-  -- what a seat has in hand if its step gives the value away, or ends a hold
+  -- what a seat must have in hand if its step gives the value away or ends a hold
   pub record Ready (p : SeatState) (a : Option T) (me : Me (Option (Moving T)) (View T)) : Type 0 where
     pub empty : carries_value p ≡ false → me.1 ≡ []
     pub loaded : (n : ℕ) (o : Option Record) → carries_value p ≡ true → carries_value (stepped_by p me.0.number n o).seat ≡ false
@@ -45,7 +45,7 @@ module _ {T : Type 0} (follows : ℕ → T → T → Type 0) (suits : T → ℕ 
     pub leaves : (r : Releaser) → p.point ≡ ReleaseOwnerStore r → carries_value p ≡ true
         → (x : T) × (a ≡ Some x) × suits x me.0.answered × ((y : T) → me.0.found ≡ Some y → follows me.0.number y x)
 
-  -- a seat whose data are p, and which has the value a in its own memory, can make its step at a table of this number of words
+  -- a seat whose data are p and which has the value a in its own memory can make its step, at a table of this many words
   pub record CanMake (p : SeatState) (a : Option T) (number seats words : ℕ) (me : Me (Option (Moving T)) (View T)) : Type 0 where
     pub user : me.0.role ≡ User
     pub named : me.0.number ≡ number
@@ -58,12 +58,12 @@ module _ {T : Type 0} (follows : ℕ → T → T → Type 0) (suits : T → ℕ 
 
 -- The parts of a step in plain memory
 
--- what is in hand once the oldest record has been taken out of the pop list, if the step takes it
+-- what is in hand after the oldest record has been taken out of the pop list, if the step takes it
 abbrev pub dropped : {T : Type 0} → SeatState → Option (Moving T) → Option (Moving T)
 dropped p (Some x) = Some (record x { popped = record x.popped { records = popped_if (drops_oldest p) x.popped.records } })
 dropped p None = None
 
--- what stays in hand, and what lies in the slot, if the value is put there
+-- what stays in hand, and what is in the slot, if the value is put there
 abbrev pub kept_out : {T : Type 0} → Bool → Option (Moving T) → Option (Moving T)
 kept_out true a = None
 kept_out false a = a
@@ -76,12 +76,12 @@ abbrev pub add_by : Option Kind → ℕ → ℕ → List Record → List Record
 add_by (Some Kind.LinkLoad) t n l = loaded t (link_of n) ∷ l
 add_by _ t n l = l
 
--- what is in hand once a record that was loaded has joined the pop list
+-- what is in hand after a record that was loaded was added to the pop list
 abbrev pub with_record : {T : Type 0} → SeatState → ℕ → ℕ → Option (Moving T) → Option (Moving T)
 with_record p s n (Some x) = Some (record x { popped = record x.popped { records = add_by (kind p.point) (target p.point s) n x.popped.records } })
 with_record p s n None = None
 
--- the value is taken out of the slot if a seat that has none in hand carries it
+-- the value is taken out of the slot if the seat carries it and does not have it in hand
 abbrev pub Took : {T : Type 0} → Bool → Bool → Option (Moving T) → Me (Option (Moving T)) (View T) → Option (Moving T) → Me (Option (Moving T)) (View T) → Type 0
 Took true b a m a' m' = (a' ≡ a) × (m' ≡ m)
 Took false false a m a' m' = (a' ≡ a) × (m' ≡ m)
@@ -91,7 +91,7 @@ abbrev pub oldest_in : {T : Type 0} → Option (Moving T) → Option Record
 oldest_in (Some x) = oldest x.popped.records
 oldest_in None = None
 
--- what becomes of the value in hand
+-- what happens to the value in hand
 abbrev pub ValueGoes : {T : Type 0} → Bool → Bool → Option (Moving T) → Option (Moving T) → View T → Type 0
 ValueGoes {T} false false a a' v = (a ≡ None) × (a' ≡ None)
 ValueGoes {T} false true a a' v = (a ≡ None) × ((x : Moving T) × (a' ≡ Some x) × (v.found ≡ Some x.value))
@@ -110,7 +110,7 @@ pub record Event {T : Type 0} (follows : ℕ → T → T → Type 0) (suits : T 
   pub value : ValueGoes (carries_value p) (carries_value p') a a' v'
   pub in_hand : (r : Releaser) → p.point ≡ ReleaseOwnerStore r → hand ≡ value_in a
 
--- what a step leads to: nothing, if no call is open
+-- the result of a step; it is refused as Idle if no call is open
 abbrev pub StepLeadsTo : {T : Type 0} → Option Kind → (ℕ → T → T → Type 0) → (T → ℕ → Type 0) → SeatState → Option (Moving T) → Me (Option (Moving T)) (View T) → Turn → SeatState → Option (Moving T) → Me (Option (Moving T)) (View T) → Type 0
 StepLeadsTo None follows suits p a m turn p' a' m' = (turn ≡ Refused Idle) × (p' ≡ p) × (a' ≡ a) × (m' ≡ m)
 StepLeadsTo (Some k) follows suits p a m turn p' a' m' = Event follows suits p a m.0 turn p' a' m'.0

@@ -4,9 +4,9 @@
 //! - the *handoff*: the current post, or 0;
 //! - the *push* word: the newest stamp, and the seat that heads the push list;
 //! - a *link* for each seat: its stamp, and the seat that was pushed before it;
-//! - a *wake* word for each seat: what it finds when it sleeps and looks.
+//! - a *wake* word for each seat: the state that the seat finds when it sleeps and loads the word.
 //!
-//! Their codings are in `docs/PROTOCOL.md`, "Words and seats".
+//! Their encodings are in `docs/PROTOCOL.md`, "Words and seats".
 ghost use Rattle.std.specs.Prelude.{◌≡◌, ◌+◌, ◌≤◌};
 ghost use Rattle.lfm_protocol.specs.Limits.{max_seats};
 
@@ -22,10 +22,10 @@ pub const HANDOFF: usize = 2;
 /// The index of the push word. The link words come next, one for each seat, and then the wake words.
 pub const PUSH: usize = 3;
 
-/// The one slot, where the moving value lies while no seat carries it.
+/// The only slot. The moving value is there while no seat carries it.
 pub const SLOT: usize = 0;
 
-/// The index of the link word of this seat, whose number is at most 4,095.
+/// The index of the link word of this seat. Its number is at most 4,095.
 #[inline(always)]
 pub fn link_at(seat: u64) -> usize
     requires { seat ≤ max_seats }
@@ -34,7 +34,7 @@ pub fn link_at(seat: u64) -> usize
     PUSH + seat as usize
 }
 
-/// The index of the wake word of this seat, in a mutex with this number of seats, at most 4,095.
+/// The index of the wake word of this seat in a mutex with this many seats, at most 4,095.
 #[inline(always)]
 pub fn wake_at(seats: u64, seat: u64) -> usize
     requires few { seats ≤ max_seats }

@@ -1,7 +1,7 @@
-//! The words of a running mutex and the seats at them: what a seat knows, the rule that words and seats keep, the atomic
-//! operation of each kind of step, the steps as the fast paths make them (`steps`), what a step does with the slot (`slot`) and
-//! in the seat's own memory (`transition`), how a table begins and ends, and how a thread sleeps on a wake word and is woken.
-//! The calls are in `lfm_mutex`.
+//! The words of a running mutex and the seats at them: what a seat knows, the rule that words and seats keep, and the atomic
+//! operation of each kind of step. The fast paths make their steps by `steps`. What a step does with the slot is in `slot`, and
+//! what it does in the seat's own memory is in `transition`. Other modules open and close a table, let a thread sleep on a wake
+//! word, and wake it. The calls are in `lfm_mutex`.
 #![tactic(auto)]
 
 pub mod kept;

@@ -1,5 +1,5 @@
-//! What moves with the responsibility, behind one pointer. To bring it from the slot of the table to a seat, and back, is then
-//! a move of that pointer, however large the value is.
+//! What moves with the responsibility, behind one pointer. So moving it between the slot of the table and a seat copies one
+//! pointer, however large the value is.
 ghost use Rattle.std.specs.Prelude.{◌≡◌, ◌<◌, ◌∷◌, drop, length, IfOk};
 ghost use Rattle.std.specs.Borrow.{Lends, sem};
 ghost use Rattle.lfm_words.specs.Popped.{oldest};
@@ -26,7 +26,7 @@ impl<T: Drop> Model for MovingBox<T> {
 }
 
 impl<T: Drop> MovingBox<T> {
-    /// The pop list and the value in one piece of memory, for which this asks. Both are dropped if it is refused.
+    /// Allocates one piece of memory for the pop list and the value. If there is no memory, both are dropped.
     pub fn new(alloc: Global, popped: PopList, value: T) -> Result<MovingBox<T>, AllocError>
         ensures { IfOk result (λ m. m ≡ record { popped = popped; value = value }) }
     {
@@ -35,7 +35,7 @@ impl<T: Drop> MovingBox<T> {
         })
     }
 
-    /// The value. The rest is given back.
+    /// Returns the value. Drops the pop list and frees the memory.
     pub fn into_value(self) -> T
         ensures { result ≡ self.value }
     {
@@ -51,7 +51,7 @@ impl<T: Drop> MovingBox<T> {
         &self.held.value
     }
 
-    /// The guarded value, to be written.
+    /// The guarded value, mutable.
     pub fn value_mut(&mut self) -> &mut T
         ensures* lends { sem 𝓛 (Lends (the_row T.row) T.row self.entry result (λ w. record self.old { value = w })) }
         ensures value { result.now ≡ self.old.value }
@@ -75,7 +75,7 @@ impl<T: Drop> MovingBox<T> {
         held.popped.take_oldest();
     }
 
-    /// Adds the record of this seat and stamp as the oldest of the pop list, which has room for it.
+    /// Adds a record of this seat and stamp as the oldest of the pop list, which must have room for it.
     pub fn add_older(&mut self, seat: SeatNo, stamp: u64)
         requires { length self.old.popped.records < self.old.popped.room }
         ensures { self.new ≡ record self.old { popped = record self.old.popped { records = record { seat = seat; stamp = stamp } ∷ self.old.popped.records } } }

@@ -1,9 +1,9 @@
-//! The sixteen atomic operations on packed words, one for each kind of step. `access` says what an operation does to which
-//! word. `operate` performs it, under one contract for all, and returns the number that it found, or stored. Nothing here moves
-//! the seat on.
+//! The sixteen atomic operations on packed words, one for each kind of step. `access` states what an operation does to which
+//! word. `operate` performs it, under one contract for all kinds, and returns the number that it found or stored. No function
+//! here changes the seat's state.
 //!
-//! Contracts read all that is passed; an operation reads only what it needs. The operations are inlined, so nothing else is
-//! left of data that a caller builds for one step.
+//! The contracts refer to every argument, but an operation reads only what it needs. The operations are inlined, so the
+//! compiler drops the rest of the state that a caller builds for one step.
 ghost use Rattle.std.specs.Prelude.{◌≡◌, ◌≤◌, ℕ, Some};
 ghost use Rattle.lfm_protocol.specs.declared.kinds.Kind.{Kind as KindNow};
 ghost use Rattle.lfm_protocol.specs.Limits.{max_seats};
@@ -26,7 +26,7 @@ use lfm_protocol::SeatState;
 use lfm_protocol::kinds::Kind;
 use lfm_words::{Wake, pack_handoff, pack_link};
 
-/// All but the head of the push word.
+/// All bits of the push word except the head.
 const STAMP: u64 = 0xffff_ffff_ffff_0000;
 
 /// One atomic access to the word at this index of the table.
@@ -51,13 +51,13 @@ pub enum Access {
     CompareExchange(usize, u64, u64),
 }
 
-/// The operation of one kind of step. An implementation only names the access, and `operate` performs it: the check cannot yet
-/// prove a function of an `impl` that passes on a type which is `Send` by a bound, as `T: Kept` is.
+/// The operation of one kind of step. An implementation only names the access, and `operate` performs it. The reason: the
+/// checker cannot yet prove a function of an `impl` that passes on a type which is `Send` by a bound, as `T: Kept` is.
 pub trait Operation {
     /// The kind.
     ghost kind: { KindNow };
 
-    /// What the seat with this number, of this many seats, does to which word. Its point is of this kind.
+    /// The access of the seat with this number, in a mutex with this many seats. The seat's point is of this kind.
     fn access(state: &SeatState, number: u64, seats: u64) -> Access
         requires is_next { kind_of state.now.point ≡ Some kind }
         requires ready { IsReady seats number state.now }
@@ -139,7 +139,7 @@ impl Operation for PushLoad {
     }
 }
 
-/// Compare-and-exchange of the push word, from the one that was seen to the one with the new head.
+/// Compare-and-exchange of the push word: from the word that the seat loaded to the one with the new head.
 pub struct PushExchange;
 
 impl Operation for PushExchange {
@@ -154,7 +154,7 @@ impl Operation for PushExchange {
     }
 }
 
-/// Clears the head of the push word, whose stamp stays.
+/// Clears the head of the push word. The stamp stays.
 pub struct ClearHead;
 
 impl Operation for ClearHead {
@@ -166,7 +166,7 @@ impl Operation for ClearHead {
     }
 }
 
-/// Loads the link that the point names.
+/// Loads the link word of the point's target.
 pub struct LinkLoad;
 
 impl Operation for LinkLoad {
@@ -178,7 +178,7 @@ impl Operation for LinkLoad {
     }
 }
 
-/// Stores the link of the seat that is pushed.
+/// Stores the link of the seat that is being pushed.
 pub struct LinkStore;
 
 impl Operation for LinkStore {
@@ -192,7 +192,7 @@ impl Operation for LinkStore {
     }
 }
 
-/// Loads the handoff.
+/// Loads the handoff word.
 pub struct HandoffLoad;
 
 impl Operation for HandoffLoad {
@@ -204,7 +204,7 @@ impl Operation for HandoffLoad {
     }
 }
 
-/// Stores the handoff.
+/// Stores the handoff word.
 pub struct HandoffStore;
 
 impl Operation for HandoffStore {
@@ -217,7 +217,7 @@ impl Operation for HandoffStore {
     }
 }
 
-/// Compare-and-exchange of the handoff word, from the handoff that was seen to none.
+/// Compare-and-exchange of the handoff word: from the handoff that the seat loaded to none.
 pub struct HandoffExchange;
 
 impl Operation for HandoffExchange {
@@ -244,7 +244,7 @@ impl Operation for WakeLoad {
     }
 }
 
-/// Stores the wake word that the point names.
+/// Stores the wake word of the point's target.
 pub struct WakeStore;
 
 impl Operation for WakeStore {
@@ -272,7 +272,7 @@ impl Operation for WakeExchange {
     }
 }
 
-/// Performs this operation at the seat's point, and returns the number that it found, or stored.
+/// Performs this operation at the seat's point, and returns the number that it found or stored.
 #[inline(always)]
 pub(crate) fn operate<O: Operation, T: Kept, B: Plain<T>>(
     table: &SharedTable<T>,
@@ -311,7 +311,7 @@ pub(crate) fn operate<O: Operation, T: Kept, B: Plain<T>>(
     }
 }
 
-/// `operate` for the operation of this kind.
+/// Like `operate`, for the operation of this kind.
 #[inline(always)]
 fn operate_by_kind<T: Kept, B: Plain<T>>(
     kind: Kind,
@@ -348,8 +348,8 @@ fn operate_by_kind<T: Kept, B: Plain<T>>(
     }
 }
 
-/// Makes the atomic step at the seat's point, which is of this kind. Returns the number that it found, or stored, and the
-/// wake-up of the seat whose grant it stored.
+/// Makes the atomic step at the seat's point, which is of this kind. Returns the number that it found or stored, and a wake-up
+/// if it stored a grant.
 pub fn make_step<T: Kept, B: Plain<T>>(
     kind: Kind,
     table: &SharedTable<T>,

@@ -1,9 +1,9 @@
-//! How the thread of a seat that sleeps parks on the seat's wake word, and how it is woken. Neither changes a word.
+//! How the thread of a sleeping seat parks on the seat's wake word, and how it is woken. Neither changes a word.
 //!
 //! No grant is missed. A thread parks only after it has loaded a word that is no grant, and it sleeps only while the low 32
-//! bits of the word are the ones that it loaded. In these bits a grant differs from every other state, so one that is stored
-//! before the thread sleeps keeps it awake. One that is stored later leaves a wake-up, which can't be dropped and ends in
-//! `wake`. It is not proved that `wake` asks the system for it, nor that the system then wakes the thread.
+//! bits of the word are the ones that it loaded. In these bits a grant differs from every other state. So a grant that is
+//! stored before the thread sleeps prevents the sleep. A grant that is stored later leaves a wake-up, which can't be dropped
+//! and ends in `wake`. It is not proved that `wake` makes the system call, nor that the system then wakes the thread.
 ghost use Rattle.std.specs.Prelude.{◌≡◌, ◌+◌, ◌*◌, ◌<◌, ◌≤◌, [], ◌∷◌, ◌++◌};
 ghost use Rattle.lfm_protocol.specs.Limits.{max_seats};
 
@@ -16,8 +16,8 @@ use lfm_words::Wake;
 use std::sync::Wait;
 use std::time::Duration;
 
-/// Wakes the thread that parks on the wake word of the seat that was granted, if one does. It is one call of the system. The
-/// seat is added to those that were woken.
+/// Wakes the thread that is parked on the wake word of the granted seat, if there is one. It makes one system call. The seat is
+/// added to the list of woken seats.
 pub fn wake<T: Kept>(table: &SharedTable<T>, seats: u64, wake_up: WakeUp, woken: &mut Woken)
     requires few { seats ≤ max_seats }
     requires wide { 4 + 2 * seats ≡ table.now.table_id.words }
@@ -29,7 +29,7 @@ pub fn wake<T: Kept>(table: &SharedTable<T>, seats: u64, wake_up: WakeUp, woken:
     table.wake_one(wake_at(seats, seat));
 }
 
-/// Parks on this wake word if it is no grant, until a wake-up. It may also return for no reason.
+/// Parks on this wake word until a wake-up, if the word is no grant. It may also return without a wake-up.
 pub fn park<T: Kept, R: Wait>(rt: &R, table: &SharedTable<T>, word: usize)
     requires inside { word < table.now.table_id.words }
 {
@@ -39,8 +39,8 @@ pub fn park<T: Kept, R: Wait>(rt: &R, table: &SharedTable<T>, word: usize)
     }
 }
 
-/// `park` for at most this time. A seat that doesn't sleep may nap on its own wake word in this way: no grant is stored there
-/// meanwhile, and a wake-up that is still under way for an earlier grant ends the nap early, which does no harm.
+/// Like `park`, for at most this time. A seat that is awake may nap on its own wake word in this way. No grant is stored there
+/// meanwhile. A late wake-up of an earlier grant only ends the nap early.
 pub fn park_for<T: Kept, R: Wait>(rt: &R, table: &SharedTable<T>, word: usize, time: Duration)
     requires inside { word < table.now.table_id.words }
 {

@@ -1,4 +1,4 @@
-//! The rule of the table: what moves with the responsibility, what the table is given when it opens, and what a seat learns by
+//! The rule of the table: what moves with the responsibility, what the table receives when it opens, and what a seat learns by
 //! each kind of access.
 ghost use Rattle.std.specs.Prelude.{Option, None};
 ghost use Rattle.lfm_protocol.specs.declared.seats.SeatState.{SeatState};
@@ -22,7 +22,7 @@ pub struct Moving<T: Drop> {
     pub value: T,
 }
 
-/// What the table is given when it opens.
+/// What the table receives when it opens.
 #[derive(Drop)]
 pub struct Key<T: Drop> {
     pub limits: Limits,
@@ -38,8 +38,8 @@ impl<T: Kept> TableRule<Option<MovingBox<T>>, View<T>, Key<T>> for MutexRule {
     ghost first = { λ key. first_view key.limits key.opening.value };
 }
 
-/// The seat's plain data before a step, and the guarded value if the seat has it, for the proof alone. A call that passes
-/// `Brand` lets its proof pick them.
+/// For the proof alone: the seat's plain data before a step, and the guarded value if the seat has it. A call that passes
+/// `Brand` lets its proof choose them.
 pub trait Plain<T> {
     ghost state: { SeatState };
 
@@ -68,7 +68,7 @@ impl<T: Kept> Play<Option<MovingBox<T>>, View<T>> for OwnerRead {
     ghost then = { λ _. ReadsOwner };
 }
 
-/// Cuts a new seat off seat 1.
+/// Splits a new seat off seat 1.
 pub struct SeatSplit;
 
 impl<T> Split<View<T>> for SeatSplit {
@@ -77,7 +77,7 @@ impl<T> Split<View<T>> for SeatSplit {
     ghost right = { split_view };
 }
 
-/// The view of a seat that is joined, for the proof alone. A call that passes `Brand` lets its proof pick it.
+/// For the proof alone: the view of a seat that is joined. A call that passes `Brand` lets its proof choose it.
 pub trait JoinedView<T> {
     ghost view: { View T };
 }

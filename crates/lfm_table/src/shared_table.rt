@@ -1,6 +1,6 @@
-//! The words of a mutex as a table, and a seat at it. Their fields are private, so an operation on a word is made by a function
-//! of this crate alone. The functions here are for this crate's own steps. A crate above makes its steps by `operations` and
-//! `steps`, moves the value by `slot`, and uses the functions of the files `opening`, `looks` and `closing`.
+//! The words of a mutex as a table, and a seat at it. Their fields are private, so only functions of this crate perform
+//! operations on a word. The functions in this file are for this crate's own steps. A crate above makes its steps by
+//! `operations` and `steps`, moves the value by `slot`, and uses the functions of the files `opening`, `looks` and `closing`.
 ghost use Rattle.std.specs.Prelude.{◌≡◌, ◌+◌, ◌-◌, ◌%◌, ◌^◌, ◌<◌, ◌∷◌, ◌==◌, Option, bit_and};
 ghost use mathlib.Core.Option.{none};
 ghost use prog.Atomic.{either};
@@ -22,7 +22,7 @@ use std::marker::Model;
 use std::sync::Wait;
 use std::time::Duration;
 
-/// The kit's seat at the table, by which the rule knows what this seat may do. It has no bytes.
+/// The seat of the crate `atomic_table`, by which the rule knows what this seat may do. It has no bytes.
 #[derive(Drop)]
 pub struct AtomicSeat<T: Drop> {
     seat: Seat<Option<MovingBox<T>>, View<T>>,
@@ -50,7 +50,7 @@ impl<T: Kept> Model for SharedTable<T> {
     ghost view = { λ t. record { table_id = t.table.shared.table_id } };
 }
 
-/// The operations on a word. Each asks, as the kit's table does, that the rule is kept whatever the table is.
+/// The operations on a word. Each requires that the rule is kept whatever the table is, as the operations of `atomic_table` do.
 impl<T: Kept> SharedTable<T> {
     /// Loads the word.
     #[inline(always)]
@@ -85,7 +85,7 @@ impl<T: Kept> SharedTable<T> {
         self.table.shared.store::<M>(&mut place.seat, word, new);
     }
 
-    /// Adds this number, and returns the word as it was. The sum wraps.
+    /// Adds this number, and returns the word as it was before. The sum wraps.
     #[inline(always)]
     pub(crate) fn fetch_add<M: Play<Option<MovingBox<T>>, View<T>>>(
         &self,
@@ -102,7 +102,7 @@ impl<T: Kept> SharedTable<T> {
         self.table.shared.fetch_add::<M>(&mut place.seat, word, k)
     }
 
-    /// Subtracts this number, and returns the word as it was. The difference wraps.
+    /// Subtracts this number, and returns the word as it was before. The difference wraps.
     #[inline(always)]
     pub(crate) fn fetch_sub<M: Play<Option<MovingBox<T>>, View<T>>>(
         &self,
@@ -119,7 +119,7 @@ impl<T: Kept> SharedTable<T> {
         self.table.shared.fetch_sub::<M>(&mut place.seat, word, k)
     }
 
-    /// Clears each bit that is 0 in this number, and returns the word as it was.
+    /// Clears each bit that is 0 in this number, and returns the word as it was before.
     #[inline(always)]
     pub(crate) fn fetch_and<M: Play<Option<MovingBox<T>>, View<T>>>(
         &self,
@@ -136,7 +136,7 @@ impl<T: Kept> SharedTable<T> {
         self.table.shared.fetch_and::<M>(&mut place.seat, word, k)
     }
 
-    /// Returns the word as it was, which has become `new` if it was `old`.
+    /// Stores `new` if the word is `old`. Returns the word as it was before.
     #[inline(always)]
     pub(crate) fn compare_exchange<M: Play<Option<MovingBox<T>>, View<T>>>(
         &self,
@@ -157,9 +157,10 @@ impl<T: Kept> SharedTable<T> {
     }
 }
 
-/// What is no step on a word: the slot that a seat has, a load from which no proof learns anything, sleep and wake.
+/// What is not a step on a word: access to the slot that a seat has, loads from which no proof learns anything, sleep and
+/// wake-up.
 impl<T: Kept> SharedTable<T> {
-    /// A plain read and write of the slot that the seat took last.
+    /// A plain read and write of the slot that the seat took most recently.
     #[inline(always)]
     pub(crate) fn exchange(
         &self,
@@ -183,21 +184,21 @@ impl<T: Kept> SharedTable<T> {
         self.table.shared.peek(word)
     }
 
-    /// Sleeps if the low 32 bits of the word are `expected`, until a wake. It may also return for no reason.
+    /// Sleeps until a wake-up if the low 32 bits of the word are `expected`. It may also return without a wake-up.
     pub(crate) fn park<R: Wait>(&self, rt: &R, word: usize, expected: u32)
         requires { word < self.now.table_id.words }
     {
         self.table.shared.park(rt, word, expected);
     }
 
-    /// The same for at most this time.
+    /// Like `park`, for at most this time.
     pub(crate) fn park_timeout<R: Wait>(&self, rt: &R, word: usize, expected: u32, time: Duration)
         requires { word < self.now.table_id.words }
     {
         self.table.shared.park_timeout(rt, word, expected, time);
     }
 
-    /// Wakes one thread that parks on the word, if one does.
+    /// Wakes one thread that is parked on the word, if there is one.
     pub(crate) fn wake_one(&self, word: usize)
         requires { word < self.now.table_id.words }
     {

@@ -1,10 +1,10 @@
-//! How the guarded value goes into the slot of the table and comes out of it again. A value could get lost only here: one seat
-//! at a time has it, and between two such seats it lies in the slot.
+//! How the guarded value is put into the slot of the table and taken out again. Only here could a value get lost: one seat at a
+//! time has it, and between two such seats it is in the slot.
 //!
 //! A step that may give the value away puts it into the slot before the word is written, since the next owner may take it as
-//! soon as the word is written. A step that gains the value takes it out after it has read the word. A step that has put the
-//! value out and hasn't given it away takes it out again. On the slow path `carries_after` tells whether the seat has the value
-//! after its step; a step of a fast path tells it by the number that it found.
+//! soon as the word is written. A step that gains the value takes it out after it has read the word. If a step has put the
+//! value into the slot and has not given it away, it takes it out again. On the slow path `carries_after` returns whether the
+//! seat has the value after its step. A step of a fast path decides this by the number that it found.
 ghost use Rattle.std.specs.Prelude.{◌≡◌, ◌∷◌, Option, None, true, false};
 ghost use Rattle.atomic_table.specs.Table.{rest};
 ghost use Rattle.lfm_laws.specs.table.Carried.{carries_value};
@@ -23,7 +23,7 @@ use lfm_protocol::SeatState;
 use lfm_protocol::points::Point;
 use lfm_words::{Wake, unpack_handoff};
 
-/// A step at this point may give the value away.
+/// Whether a step at this point may give the value away.
 pub fn gives(point: Point) -> bool
     ensures { result ≡ gives_at point }
 {
@@ -36,9 +36,9 @@ pub fn gives(point: Point) -> bool
     )
 }
 
-/// Whether the seat carries the value after its step, which found this number. It is asked before the seat moves on. A seat
-/// that carries goes on carrying unless the step gives the value away (see `gives`). One that doesn't carry gains the value
-/// only by what it found: a count of 0, a grant, a post that it wins, or itself as the owner.
+/// Whether the seat carries the value after its step, which found this number. It is called before the seat's state is
+/// advanced. A seat that carries the value still carries it afterwards unless the step gives it away (see `gives`). A seat that
+/// doesn't carry it gains it only by what it found: a count of 0, a grant, a post that it wins, or itself as the owner.
 pub fn carries_after(state: &SeatState, number: u64, found: u64) -> bool
     ensures { result ≡ carries_value (stepped_by state.now number found None).seat }
 {
@@ -66,15 +66,15 @@ pub fn carries_after(state: &SeatState, number: u64, found: u64) -> bool
     }
 }
 
-/// Replaces what the seat has in hand. This is a function of its own, since an assignment also drops the old value, and its callers
-/// would be proved once for each case.
+/// Replaces what the seat has in hand. This is a separate function since an assignment also drops the old value. In the callers
+/// each case would double the proof.
 fn put<T: Drop>(moving: &mut Option<MovingBox<T>>, new: Option<MovingBox<T>>)
     ensures { moving.new ≡ new }
 {
     *moving = new;
 }
 
-/// Puts this value, if any, into the slot.
+/// Puts this content, if any, into the slot.
 fn put_back<T: Kept>(table: &SharedTable<T>, seat: &mut TableSeat<T>, moving: Option<MovingBox<T>>)
     requires table { seat.old.place.table_id ≡ table.now.table_id }
     requires slot { (x : Option (Moving T)) × (seat.old.place.me.1 ≡ (0, x) ∷ rest seat.old.place.me.1) }
@@ -100,7 +100,7 @@ pub(crate) fn put_out<T: Kept>(table: &SharedTable<T>, seat: &mut TableSeat<T>)
     put_back(table, seat, value);
 }
 
-/// Takes the value out of the slot, for a seat that does not have it.
+/// Takes the value out of the slot. The seat doesn't have it yet.
 #[inline(always)]
 pub(crate) fn take_out<T: Kept>(table: &SharedTable<T>, seat: &mut TableSeat<T>)
     requires table { seat.old.place.table_id ≡ table.now.table_id }
@@ -129,8 +129,8 @@ pub fn prepare<T: Kept>(table: &SharedTable<T>, seat: &mut TableSeat<T>, gives: 
     put_back(table, seat, value);
 }
 
-/// Takes the value out of the slot if the seat carries it after its step and does not have it yet. That is tested first, since
-/// it costs less than `carries_after`.
+/// Takes the value out of the slot if the seat carries it after its step and doesn't have it yet. Whether it has it is tested
+/// first, since that costs less than `carries_after`.
 pub fn settle<T: Kept>(
     table: &SharedTable<T>,
     seat: &mut TableSeat<T>,

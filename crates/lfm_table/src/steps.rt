@@ -1,9 +1,9 @@
-//! The atomic steps of the fast paths, named by what becomes of the guarded value. A fast path hardly ever stores a point. It
-//! builds the seat's state at the step's point and passes it; after inlining, only what the step reads of it is left. The proof
-//! needs the rest.
+//! The atomic steps of the fast paths, named by what happens to the guarded value. A fast path rarely stores a point. It builds
+//! the seat's state at the step's point and passes it. After inlining, only the fields that the step reads are left. The proof
+//! needs the other fields.
 //!
-//! An atomic step waits for the plain writes before it. So a fast path makes its writes in one gap between two steps, in which
-//! the value moves anyway.
+//! An atomic step waits for the plain writes before it. Therefore a fast path makes its plain writes together, between two
+//! steps where the value moves in any case.
 ghost use Rattle.std.specs.Prelude.{◌≡◌, ◌≢◌, ◌<◌, ◌≤◌, ℕ, Some, None, true, false};
 ghost use Rattle.lfm_protocol.specs.declared.kinds.Kind.{Kind as KindNow};
 ghost use Rattle.lfm_protocol.specs.declared.points.Point.TheVariants.{ReleaseOwnerStore};
@@ -29,8 +29,8 @@ use lfm_protocol::SeatState;
 use lfm_words::Wake;
 use std::marker::Brand;
 
-/// Makes the step for a seat that carries the value after it exactly if it did before. Nothing but the word changes: no record
-/// joins or leaves the pop list, and no value is given away.
+/// Makes a step after which the seat carries the value exactly if it did before. The step changes only the word: it adds no
+/// record to the pop list, removes none, and gives no value away.
 #[inline(always)]
 pub fn keep<O: Operation, T: Kept>(
     table: &SharedTable<T>,
@@ -51,7 +51,7 @@ pub fn keep<O: Operation, T: Kept>(
     operate::<O, T, Brand>(table, seat, state)
 }
 
-/// `keep` for a seat that carries the value: it goes on carrying it.
+/// Like `keep`, for a seat that carries the value and still carries it afterwards.
 #[inline(always)]
 pub fn keep_held<O: Operation, T: Kept>(
     table: &SharedTable<T>,
@@ -72,7 +72,7 @@ pub fn keep_held<O: Operation, T: Kept>(
     keep::<O, T>(table, seat, state)
 }
 
-/// Loads the owner for a seat that doesn't hold. It finds another, and goes on without the value.
+/// Loads the owner for a seat that doesn't hold. It finds another number than its own, and has no value afterwards.
 #[inline(always)]
 pub fn load_other_owner<T: Kept>(
     table: &SharedTable<T>,
@@ -94,7 +94,7 @@ pub fn load_other_owner<T: Kept>(
     operate::<OwnerLoad, T, Brand>(table, seat, state)
 }
 
-/// Makes the step for a seat that doesn't carry the value. It carries the value afterwards exactly if it found 0.
+/// Makes a step of a seat that doesn't carry the value. Afterwards it carries the value exactly if it found 0.
 #[inline(always)]
 pub fn gain<O: Operation, T: Kept>(
     table: &SharedTable<T>,
@@ -121,7 +121,7 @@ pub fn gain<O: Operation, T: Kept>(
     0
 }
 
-/// Loads the seat's own wake word for a seat that sleeps. It carries the value afterwards exactly if it found a grant.
+/// Loads the seat's own wake word for a seat that sleeps. Afterwards it carries the value exactly if it found a grant.
 #[inline(always)]
 pub fn gain_by_grant<T: Kept>(
     table: &SharedTable<T>,
@@ -146,8 +146,9 @@ pub fn gain_by_grant<T: Kept>(
     found
 }
 
-/// Subtracts 1 from the count for a seat that has given up the owner word. Before this step the value goes into its slot: if
-/// the count was 1, the next seat may come in and take it at once. If the count was more, this seat takes the value out again.
+/// Subtracts 1 from the count for a seat that has cleared the owner word. Before this step the value is put into its slot: if
+/// the count was 1, the next seat may acquire the mutex and take the value at once. If the count was more, this seat takes the
+/// value out again.
 #[inline(always)]
 pub fn retake<T: Kept>(table: &SharedTable<T>, seat: &mut TableSeat<T>, state: &SeatState) -> u64
     requires table { seat.old.place.table_id ≡ table.now.table_id }
@@ -169,7 +170,7 @@ pub fn retake<T: Kept>(table: &SharedTable<T>, seat: &mut TableSeat<T>, state: &
     found
 }
 
-/// Loads a link of a list that was cleared, for a seat that carries the value, and adds its record to the pop list.
+/// Loads a link of a cleared list, for a seat that carries the value, and adds its record to the pop list.
 #[inline(always)]
 pub fn collect<T: Kept>(table: &SharedTable<T>, seat: &mut TableSeat<T>, state: &SeatState) -> u64
     requires table { seat.old.place.table_id ≡ table.now.table_id }
@@ -186,9 +187,10 @@ pub fn collect<T: Kept>(table: &SharedTable<T>, seat: &mut TableSeat<T>, state: 
     found
 }
 
-/// Stores a grant in the wake word of another seat, for a seat that gives the value away by it, and hands out the wake-up of
-/// the granted seat. Once the grant is stored, that seat may take the value and the pop list, which lie in the slot together.
-/// So the record that the grant serves, if there is one, leaves the pop list first, and then both go into the slot.
+/// Stores a grant in the wake word of another seat, and returns the wake-up of that seat. The calling seat gives the value away
+/// by this store. After the store, the granted seat may take the value and the pop list, which are in the slot together.
+/// Therefore the record that the grant serves, if there is one, is removed from the pop list first. Then both are put into the
+/// slot.
 #[inline(always)]
 pub fn grant<T: Kept>(
     table: &SharedTable<T>,

@@ -1,5 +1,5 @@
-//! What a step does in the seat's own memory, beside the slot: which record the pop list that the seat carries loses or gains,
-//! and how the seat's state moves on. The state moves by the methods of the core alone.
+//! What a step does in the seat's own memory, except for the slot: which record it takes from or adds to the pop list that the
+//! seat carries, and how the seat's state advances. Only the methods of the core change the state.
 ghost use Rattle.std.specs.Prelude.{◌≡◌, ◌<◌, Some, length};
 ghost use Rattle.lfm_model.specs.SeatNumbers.{IsSeatNo};
 ghost use Rattle.lfm_protocol.specs.declared.kinds.Kind.{Kind};
@@ -25,7 +25,7 @@ pub fn oldest_of<T: Drop>(moving: &Option<MovingBox<T>>) -> Option<Record>
     }
 }
 
-/// Takes the oldest record out of the pop list, if the step at the seat's point serves it.
+/// Takes the oldest record out of the pop list if the step at the seat's point serves it.
 pub fn drop_oldest<T: Drop>(moving: &mut Option<MovingBox<T>>, state: &SeatState)
     ensures { moving.new ≡ dropped state.now moving.old }
 {
@@ -38,7 +38,7 @@ pub fn drop_oldest<T: Drop>(moving: &mut Option<MovingBox<T>>, state: &SeatState
     }
 }
 
-/// Adds the record of a loaded link to the pop list.
+/// Adds the record of a link that was loaded to the pop list.
 pub fn add_loaded<T: Drop>(
     moving: &mut Option<MovingBox<T>>,
     number: u64,
@@ -59,7 +59,7 @@ pub fn add_loaded<T: Drop>(
     }
 }
 
-/// Moves the seat on by what its step found: the core's own method of the kind.
+/// Advances the seat's state by what its step found, with the core's method of that kind.
 pub fn advance(state: &mut SeatState, number: u64, found: u64, oldest: Option<Record>) -> Turn
     requires { HasNumbers state.old state.old.point }
     ensures seat { state.new ≡ (stepped_by state.old number found oldest).seat }

@@ -1,4 +1,4 @@
-//! The wake-up that is owed once a grant is stored. It can't be lost: it is spent by `wake`, passed on, or turned into the
+//! The wake-up that is owed after a grant is stored. It can't be lost: it is used up by `wake`, passed on, or turned into the
 //! number of its seat.
 ghost use Rattle.std.specs.Prelude.{◌≡◌, None};
 ghost use Rattle.lfm_model.specs.SeatNumbers.{IsSeatNo};
@@ -10,11 +10,11 @@ use lfm_protocol::SeatState;
 use lfm_words::Wake;
 use std::marker::Model;
 
-/// That a seat was granted the mutex, and is still to be woken. Only the step that stores a grant makes one. A contract sees
-/// the number of the seat.
+/// States that a seat was granted the mutex and is still to be woken. Only the step that stores a grant makes one. A contract
+/// sees the number of the seat.
 ///
-/// The type has no `Drop`, so a path that loses a wake-up does not compile. It has to go to `parking::wake`, to a caller, or
-/// into a seat's number. `parking::wake` adds the seat to those that were woken.
+/// The type has no `Drop`, so a path that loses a wake-up does not compile. A wake-up must be passed to `parking::wake`,
+/// returned to a caller, or turned into a seat's number. `parking::wake` adds the seat to the list of woken seats.
 ///
 /// ```
 /// let (found, wake_up) = make_step::<T, B>(kind, table, seat, state);
@@ -46,7 +46,7 @@ impl WakeUp {
         }
     }
 
-    /// What is owed after the store of a wake word at the seat's point: the wake-up of the target if it is granted.
+    /// What is owed after the store of a wake word at the seat's point: the wake-up of the target if the store is a grant.
     #[inline(always)]
     pub(crate) fn owed_by(number: u64, state: &SeatState) -> Option<WakeUp>
         requires { IsSeatNo (target state.now.point number) }
@@ -56,7 +56,7 @@ impl WakeUp {
         WakeUp::owed(state.stored_wake(), target)
     }
 
-    /// For a step that granted nothing: takes the None that it handed out.
+    /// Consumes the wake-up of a step that granted nothing, which is None.
     pub fn expect_none(wake_up: Option<WakeUp>)
         requires { wake_up ≡ None }
     {
@@ -66,8 +66,8 @@ impl WakeUp {
         }
     }
 
-    /// The number of the seat that is to be woken. From here on nothing ensures that the seat is woken. It is for callers that
-    /// wake threads by means of their own.
+    /// The number of the seat that is to be woken. After this call nothing ensures that the seat is woken. It is for callers
+    /// that wake threads in another way.
     pub fn into_seat(self) -> SeatNo
         ensures { result ≡ self }
     {

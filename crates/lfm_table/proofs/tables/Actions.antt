@@ -1,5 +1,5 @@
--- The run of a table goes on: by the begins and the step of a seat, or by a load of the owner word. The part of that seat grows by what
--- it notes, and no other. Each seat goes on knowing the actions up to its last step.
+-- The run of a table continues with the starts of calls and a step of one seat, or with a load of the owner word. The part of
+-- that seat grows by what it records; no other part changes. Each seat still knows the actions up to its last step.
 use Rattle.std.proofs.Common.{◌≡◌, ◌≢◌, ◌⊎◌, ℕ, zero, suc, true, false, nat_eq, replicate, ◌+◌, ◌<◌, ◌≤◌, List, [], ◌∷◌, ◌++◌, length, set, sym, refl, ap, ◌∙◌, subst, ⊎_elim, inl, inr, append_assoc, append-nil, length-set, arith}
 use Rattle.std.proofs.lemmas.Bool.{cases_Bool, eq-eqb, ne_eqb}
 use Rattle.std.proofs.lemmas.List.Elements.{filter-append}
@@ -27,7 +27,7 @@ use Rattle.lfm_table.specs.declared.seat_view.View.{View}
 use Rattle.lfm_table.specs.Actions.{seen, told, noted_as, noted, actor, own_of, IsNotedBy, LastIsOwn, EndsWithOwn, events_of, after_action, if_own, noted_of, part_of, begins_of, begins_and_step, KnowsRun, HasRun, next_part, RunGoesOn, RunGoesOnBy}
 use Rattle.lfm_table.specs.Settled.{calls_to}
 
--- Joins
+-- Concatenation
 
 run_join : (c : Core) (xs ys : List Event) → run_of c (xs ++ ys) ≡ run_of (run_of c xs) ys
 run_join c [] ys = refl
@@ -39,7 +39,7 @@ events_join (Begins s call ∷ xs) ys = ap (λ (l : List Event). begins s call �
 events_join (Makes s ∷ xs) ys = ap (λ (l : List Event). makes s ∷ l) (events_join xs ys)
 events_join (LoadsOwner s ∷ xs) ys = events_join xs ys
 
--- the state after these actions and more
+-- the state after the concatenation of two lists of actions
 pub led_join : (c : Core) (xs ys : List Action) → run_of c (events_of (xs ++ ys)) ≡ run_of (run_of c (events_of xs)) (events_of ys)
 led_join c xs ys = ap (run_of c) (events_join xs ys) ∙ run_join c (events_of xs) (events_of ys)
 
@@ -48,7 +48,7 @@ led_first c (Begins s call) later = refl
 led_first c (Makes s) later = refl
 led_first c (LoadsOwner s) later = refl
 
--- a seat's part of these actions and more
+-- a seat's part of the concatenation of two lists of actions
 pub part_join : (c : Core) (t : ℕ) (xs ys : List Action) → part_of c t (xs ++ ys) ≡ part_of c t xs ++ part_of (run_of c (events_of xs)) t ys
 part_join c t [] ys = refl
 part_join c t (d ∷ xs) ys =
@@ -56,9 +56,9 @@ part_join c t (d ∷ xs) ys =
     ∙ (sym (append_assoc (noted_of c t d) (part_of (after_action c d) t xs) (part_of (run_of (after_action c d) (events_of xs)) t ys))
     ∙ ap (λ (b : Core). (noted_of c t d ++ part_of (after_action c d) t xs) ++ part_of b t ys) (sym (led_first c d xs)))
 
--- Begins
+-- Starts of calls
 
--- putting an entry back changes nothing
+-- replacing an entry by itself changes nothing
 with_entry-own : {A : Type 0} (d : A) (xs : List A) (s : ℕ) → with_entry xs s (entry d xs s) ≡ xs
 unfolding entry with_entry
 with_entry-own d xs zero = refl
@@ -92,7 +92,7 @@ module _ (c : Core) (s : ℕ) (x p : SeatState) (is : IsSeat c.seats s) (here : 
   begun_here : run_of c (events_of (begins_of s (calls_to x p))) ≡ put c s p
   begun_here = begun_run c s (calls_to x p) is ∙ ap (put c s) (ap (λ (y : SeatState). begun y (limits c) (calls_to x p)) here ∙ sym leads)
 
-  -- the begins and the step lead where the core's step leads
+  -- The starts of calls and the step lead to the same state as the step of the core.
   pub step_run : run_of c (events_of (begins_and_step s x p)) ≡ (made (put c s p) s).core
   step_run =
       led_join c (begins_of s (calls_to x p)) (Makes s ∷ [])
@@ -101,7 +101,7 @@ module _ (c : Core) (s : ℕ) (x p : SeatState) (is : IsSeat c.seats s) (here : 
   noted_put : noted (put c s p) s ≡ seen p.point (told p s (found_at c s p))
   noted_put = λ i. noted_as c s (seat-with_same c.seats s p is i) (length-with_entry c.seats s p i)
 
-  -- and their part is what the seat notes of the step
+  -- The part of a seat in them is what the seat records of the step.
   pub step_part : (t : ℕ) → part_of c t (begins_and_step s x p) ≡ if_own s t (seen p.point (told p s (found_at c s p)))
   step_part t =
       part_join c t (begins_of s (calls_to x p)) (Makes s ∷ [])
@@ -121,7 +121,7 @@ other_notes c t (Begins s call) other = refl
 other_notes c t (Makes s) other = rw other refl
 other_notes c t (LoadsOwner s) other = rw other refl
 
--- whoever has done none of these actions has no part in them
+-- a seat that has made none of these actions has no part in them
 pub no_part : (c : Core) (t : ℕ) (actions : List Action) → own_of t actions ≡ [] → part_of c t actions ≡ []
 no_part c t [] none = refl
 no_part c t (a ∷ later) none = ⊎_elim
@@ -139,7 +139,7 @@ begun_by : (s t : ℕ) (calls : List Call) → s ≢ t → own_of t (begins_of s
 begun_by s t [] other = refl
 begun_by s t (call ∷ calls) other = own_join t (begins_of s calls) (Begins s call ∷ []) ∙ (λ i. begun_by s t calls other i ++ begin_by s t call other i)
 
--- the begins and the step of a seat are nobody else's
+-- the starts of calls and the step of a seat are actions of no other seat
 pub step_by : (s t : ℕ) (x p : SeatState) → s ≢ t → own_of t (begins_and_step s x p) ≡ []
 step_by s t x p other = own_join t (begins_of s (calls_to x p)) (Makes s ∷ []) ∙ (λ i. begun_by s t (calls_to x p) other i ++ made_by s t other i)
 
@@ -148,14 +148,14 @@ load_by s t other = rw (ne_eqb s t other) refl
 
 -- The last action
 
--- the begins and the step of a seat end with the step
+-- the starts of calls and the step of a seat end with the step
 pub step_last : (s t : ℕ) (x p : SeatState) → s ≡ t → LastIsOwn t (begins_and_step s x p)
 step_last s t x p own = (begins_of s (calls_to x p), Makes s, refl, own)
 
 pub load_last : (s t : ℕ) → s ≡ t → LastIsOwn t (LoadsOwner s ∷ [])
 load_last s t own = ([], LoadsOwner s, refl, own)
 
--- whatever comes before, the last action stays the last
+-- the last action is the same with any actions before it
 last_join : (t : ℕ) (xs ys : List Action) → LastIsOwn t ys → LastIsOwn t (xs ++ ys)
 last_join t xs ys u = (xs ++ u.0, u.1, ap (λ (d : List Action). xs ++ d) u.2 ∙ sym (append_assoc xs u.0 (u.1 ∷ [])), u.3)
 
@@ -184,7 +184,7 @@ noted_by_actor t (LoadsOwner s) own = eq-eqb s t own
 own_last : (t : ℕ) (before : List Action) (last : Action) → IsNotedBy t last → own_of t (before ++ last ∷ []) ≡ own_of t before ++ last ∷ []
 own_last t before last own = own_join t before (last ∷ []) ∙ ap (λ (l : List Action). own_of t before ++ l) (rw (noted_by_actor t last own) refl)
 
--- if the last action is the seat's, or there is none, and the seat has done none of them, there is none
+-- If the last action is the seat's or there is none, and the seat has made none of the actions, there is none.
 none_own : (t : ℕ) (actions : List Action) → EndsWithOwn t actions → own_of t actions ≡ [] → actions ≡ []
 none_own t actions ends none = ⊎_elim
     (λ (empty : actions ≡ []). empty)
@@ -196,7 +196,7 @@ notes_own c t (Begins s call) own = absurd own
 notes_own c t (Makes s) own = (noted c s, rw (eq-eqb s t own) refl)
 notes_own c t (LoadsOwner s) own = (seen TryOwnerLoad c.owner, rw (eq-eqb s t own) refl)
 
--- the same if the seat notes none of them
+-- the same if the seat records none of them
 none_noted : (c : Core) (t : ℕ) (actions : List Action) → EndsWithOwn t actions → part_of c t actions ≡ [] → actions ≡ []
 none_noted c t actions ends none = ⊎_elim
     (λ (empty : actions ≡ []). empty)
@@ -207,11 +207,12 @@ none_noted c t actions ends none = ⊎_elim
     absurd (not_nil (part_of c t u.0) x.0 (sym noted ∙ (ap (part_of c t) (sym u.2) ∙ none))))
     ends
 
--- if the seat has done none of the later actions, nor any of all, it has done none of the early ones
+-- if the seat has made none of all actions, it has made none of the early ones
 none_early : (t : ℕ) (early later : List Action) → own_of t later ≡ [] → own_of t (early ++ later) ≡ [] → own_of t early ≡ []
 none_early t early later none all = sym (append-nil (own_of t early)) ∙ (ap (λ (l : List Action). own_of t early ++ l) (sym none) ∙ (sym (own_join t early later) ∙ all))
 
--- A run has one early part that ends with an action of the seat and that others alone go on with: what the seat knows is determined.
+-- What a seat knows is determined: a run has only one early part that ends with an action of the seat and is followed by
+-- actions of others alone.
 pub known_once : (t : ℕ) (xs ys later others : List Action) → EndsWithOwn t xs → EndsWithOwn t ys → own_of t later ≡ [] → own_of t others ≡ [] → xs ++ later ≡ ys ++ others → xs ≡ ys
 known_once t [] ys later others ends ends' none none' e = sym (none_own t ys ends' (none_early t ys others none' (ap (own_of t) (sym e) ∙ none)))
 known_once t (x ∷ xs) [] later others ends ends' none none' e = none_own t (x ∷ xs) ends (none_early t (x ∷ xs) later none (ap (own_of t) e ∙ none'))
@@ -234,7 +235,7 @@ at_place [] i a e = absurd (some-ne-none a (sym e))
 at_place (x ∷ xs) zero a e = omega arith
 at_place (x ∷ xs) (suc i) a e = let h = at_place xs i a e in omega arith
 
--- a seat that has not stepped stands as at the start
+-- a seat that has made no step is as at the start
 pub starts_absent : (n s : ℕ) → seat (replicate n absent) s ≡ absent
 unfolding entry
 starts_absent n zero = refl
@@ -242,7 +243,7 @@ starts_absent zero (suc s) = refl
 starts_absent (suc n) (suc zero) = refl
 starts_absent (suc n) (suc (suc s)) = starts_absent n (suc s)
 
--- a seat that has done nothing knows nothing of the run
+-- a seat that has made no action knows nothing of the run
 pub knows_none : (l : Limits) (actions : List Action) (t : ℕ) (early : List Action) (trail : List Seen) → own_of t actions ≡ [] → trail ≡ [] → early ≡ [] → KnowsRun l actions t early trail
 knows_none l actions t early trail none no_trail no_actions = record {
   later = actions;
@@ -252,20 +253,20 @@ knows_none l actions t early trail none no_trail no_actions = record {
   trail_is = no_trail ∙ ap (part_of (start l) t) (sym no_actions);
 }
 
--- and stands as at the start
+-- and its data are as at the start
 pub stands_first : (l : Limits) (t : ℕ) (early : List Action) (x : SeatState) → early ≡ [] → x ≡ absent → seat (reached l (events_of early)).seats t ≡ x
 stands_first l t early x no_actions stands = (λ i. seat (reached l (events_of (no_actions i))).seats t) ∙ (starts_absent l.seats t ∙ sym stands)
 
--- the view z says of the run what v does
+-- the view z has the same data of the run as v
 abbrev pub SaysTheSame : {T : Type 0} → View T → View T → Type 0
 SaysTheSame z v = (z.trail ≡ v.trail) × (z.actions ≡ v.actions) × (z.state ≡ v.state)
 
--- it is that of a seat that has done nothing
+-- the view is that of a seat that has made no action
 abbrev pub SaysNothing : {T : Type 0} → View T → Type 0
 SaysNothing z = (z.trail ≡ []) × (z.actions ≡ []) × (z.state ≡ absent)
 
 module _ {T : Type 0} (l : Limits) (actions : List Action) (c : Core) (views : List (View T)) (run : HasRun l actions c views) where
-  -- the seat at place id has acted, and notes this of it
+  -- the seat at place id has acted, and records this
   module _ (more : List Action) (d : Core) (id : ℕ) (v w : View T) (x : Seen) (at : get_elem? views id ≡ some v) (leads : d ≡ run_of c (events_of more)) (notes : w.trail ≡ v.trail ++ x ∷ [])
       (part : (t : ℕ) → part_of c t more ≡ if_own (id + 1) t x) (only : (t : ℕ) → id + 1 ≢ t → own_of t more ≡ []) (last : LastIsOwn (id + 1) more) (knows : w.actions ≡ actions ++ more) (stands : seat d.seats (id + 1) ≡ w.state) where
     parts : (t : ℕ) → part_of (start l) t (actions ++ more) ≡ part_of (start l) t actions ++ if_own (id + 1) t x
@@ -277,7 +278,7 @@ module _ {T : Type 0} (l : Limits) (actions : List Action) (c : Core) (views : L
     other_part : (t : ℕ) → id + 1 ≢ t → part_of (start l) t (actions ++ more) ≡ part_of (start l) t actions
     other_part t other = parts t ∙ (ap (λ (q : List Seen). part_of (start l) t actions ++ q) (not_own (id + 1) t x other) ∙ append-nil (part_of (start l) t actions))
 
-    -- these actions are no other seat's
+    -- these actions are those of no other seat
     still : (t : ℕ) (early : List Action) → id + 1 ≢ t → own_of t early ≡ [] → own_of t (early ++ more) ≡ []
     still t early other none = own_join t early more ∙ (λ i. none i ++ only t other i)
 
@@ -287,7 +288,7 @@ module _ {T : Type 0} (l : Limits) (actions : List Action) (c : Core) (views : L
     own_trail : w.trail ≡ part_of (start l) (id + 1) (actions ++ more)
     own_trail = notes ∙ (ap (λ (q : List Seen). q ++ x ∷ []) (run.trails id v at) ∙ sym own_part)
 
-    -- the seat knows the run up to now, which ends with what it did
+    -- the seat knows the run up to now, which ends with its action
     own_known : KnowsRun l (actions ++ more) (id + 1) w.actions w.trail
     own_known = record {
       later = [];
@@ -333,7 +334,7 @@ module _ {T : Type 0} (l : Limits) (actions : List Action) (c : Core) (views : L
           out;
     }
 
-    -- and has gone on from what the seat knew before
+    -- and the run has continued from what the seat knew before
     pub goes_on_by : v.number ≡ id + 1 → l ≡ v.limits → RunGoesOnBy more v w
     goes_on_by named limits_are =
         let k = run.known id v at in
@@ -349,7 +350,7 @@ module _ {T : Type 0} (l : Limits) (actions : List Action) (c : Core) (views : L
           trail = notes ∙ ap (λ (q : List Seen). v.trail ++ q) (sym noted ∙ (λ i. part_of (reached (limits_are i) (events_of v.actions)) (sym named i) between));
         }
 
-  -- nobody has acted: each view says of the run what one that was there says, or is new
+  -- No seat has acted: each view has the data of the run that an earlier one had, or is new.
   pub run_stays : (after : List (View T)) → length views ≤ length after
       → ((j : ℕ) (z : View T) → get_elem? after j ≡ some z → ((v : View T) × (get_elem? views j ≡ some v) × SaysTheSame z v) ⊎ ((length views ≤ j) × SaysNothing z))
       → HasRun l actions c after

@@ -1,4 +1,4 @@
--- The table's obligation at an access that is the operation of one kind of step.
+-- What the table requires of an access that is the operation of one kind of step.
 use Rattle.std.proofs.Common.{◌≡◌, ℕ, sym, ap, ◌∙◌, subst, Option, Some}
 use Rattle.std.specs.Prelude.{Bool}
 use Rattle.atomic_table.specs.Table.{Me, Allows}

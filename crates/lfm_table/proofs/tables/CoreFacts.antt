@@ -1,4 +1,4 @@
--- What the facts of a steady state say of one seat's step, in the form that a table's rule needs.
+-- What a steady state guarantees for one seat's step, in the form that the rule of the table needs.
 use Rattle.std.proofs.Common.{◌≡◌, ℕ, ◌+◌, ◌<◌, ◌≤◌, Bool, true, false, length, nat_eq, refl, sym, ap, subst, ◌∙◌, arith, inl, inr, if◌then◌else◌}
 use Rattle.std.proofs.lemmas.Bool.{cases_eq, ne_eqb, eq-eqb}
 use Rattle.lfm_model.specs.declared.answers.How.{How}
@@ -52,7 +52,7 @@ entrant_owner s Entrant.Locker (How.Queued stamp) = refl
 entrant_owner s Entrant.Trier how = refl
 entrant_owner s Entrant.Receiver how = refl
 
--- a seat's claim is to own exactly if it has a depth
+-- the seat's claim is to own the mutex exactly if its depth is above 0
 claim_owner : (d s : ℕ) (q : Point) → DepthAt d q → owner_of (claim_at d s q) ≡ (if nat_eq d 0 then 0 else s)
 claim_owner d s Rest deep = depth_owner d s false (nat_eq d 0)
 claim_owner d s LockCountAdd deep = depth_owner d s false (nat_eq d 0)
@@ -96,7 +96,7 @@ owner_held t s again some e =
 held_owner : (t s : ℕ) (again : Bool) → t ≡ s → owner_of (held_by (owned t again) s) ≡ s
 held_owner t s again e = rw (eq-eqb t s e) e
 
--- the owner word is a seat exactly if that seat has the place as its owner
+-- if the owner word is a seat's number, the place that this seat sees has it as its owner
 owner_by : (place : Responsibility) (s : ℕ) → 0 < s → owner_of place ≡ s → owner_of (held_by place s) ≡ s
 owner_by (owned t again) s some e = held_owner t s again e
 owner_by _ s some e = absurd (omega (arith, some, e))
@@ -114,7 +114,7 @@ owner_of_held (serving t) s some e = absurd (let z = owner_if t s (serving t) re
 zero_or : (d s : ℕ) → 0 < s → (if nat_eq d 0 then 0 else s) ≡ s → 0 < d
 zero_or d s some e = elim (cases_eq d 0) [ inl z ↦ absurd (let f = rw (eq-eqb d 0 z) at e in omega (arith, some, f)) | inr n ↦ omega (arith, n) ]
 
--- the owner word is the seat's number exactly if it has a depth
+-- the owner word is the seat's number exactly if its depth is above 0
 pub owner_told : (c : Core) (g : Ghost) (s : ℕ) → IsSeat c.seats s → Fits c g → (c.owner ≡ s → 0 < (seat c.seats s).depth) × (0 < (seat c.seats s).depth → c.owner ≡ s)
 owner_told c g s is fits =
     let x = seat c.seats s in
@@ -126,14 +126,14 @@ owner_told c g s is fits =
 
 -- The pop list
 
--- beside a seat that has no record, the pop list and what is collected come to no more than the other seats
+-- if a seat has no record, the pop list and the record that is collected next are at most as many as the other seats
 walk_room : (c : Core) (g : Ghost) (s : ℕ) → Fits c g → IsSeat c.seats s → g.standing s ≡ apart → 0 < g.walk → length c.popped + 2 ≤ length c.seats
 walk_room c g s fits is stands some =
     let none : queued_unit (g.standing s) + 1 ≤ 1 = rw stands (omega arith) in
     let most = sum_bound_less (length c.seats) 1 s (λ t. queued_unit (g.standing t)) is.above is.within (λ t. queued_unit-le (g.standing t)) none in
     omega (arith, most, fits.sums.queued, fits.words.parts, some)
 
--- A seat that has become p without a step
+-- A seat whose data have become p without a step
 
 module _ (c : Core) (g : Ghost) (s : ℕ) (p : SeatState) (is : IsSeat c.seats s) (fits : Fits c g) (settles : Settles (seat c.seats s) (limits c) p) where
   abbrev d : Core
@@ -148,7 +148,7 @@ module _ (c : Core) (g : Ghost) (s : ℕ) (p : SeatState) (is : IsSeat c.seats s
   pub here : seat d.seats s ≡ p
   here = seat-with_same c.seats s p is
 
-  -- it carries the value exactly if it did
+  -- the seat carries the value exactly if it did before
   pub carried_same : carries_value (seat c.seats s) ≡ carries_value p
   carried_same = carried_as_held c g s fits ∙ sym (carried_as_held d g s settled) ∙ ap carries_value here
 

@@ -1,4 +1,4 @@
--- A step that is made by itself: what it asks of its seat, and what the seat is after it.
+-- A single step of a fast path: what it requires of its seat, and what the seat is after it.
 use Rattle.std.proofs.Common.{◌≡◌, ◌≢◌, ℕ, List, ◌∷◌, sym, refl, ap, ◌∙◌, subst, Option, Some, None}
 use Rattle.std.specs.Prelude.{Bool, true, false}
 use Rattle.std.proofs.lemmas.Bool.{false≢true}
@@ -23,7 +23,7 @@ use Rattle.lfm_table.specs.FastPath.{Fit, MadeStep}
 use Rattle.lfm_table.proofs.tables.SeatKept.{made, can_make, slot_there, own_slot}
 use Rattle.lfm_table.proofs.tables.StepFacts.{keeps_value}
 
--- the kinds of step that add no record to the pop list
+-- the kinds of steps that add no record to the pop list
 abbrev pub adds_no_record : Kind → Bool
 adds_no_record Kind.LinkLoad = false
 adds_no_record _ = true
@@ -32,8 +32,8 @@ pub adds_none : (k : Kind) → k ≢ Kind.LinkLoad → adds_no_record k ≡ true
 adds_none Kind.LinkLoad other = absurd (other refl)
 adds_none _ other = refl
 
--- of these, the kinds that neither give the value away nor take a record out of the pop list, but for the store of the owner and
--- the subtraction from the count
+-- Of these kinds, those that neither give the value away nor take a record out of the pop list. The store of the owner and the
+-- subtraction from the count are included, although they may do so.
 abbrev pub is_plain : Kind → Bool
 is_plain Kind.WakeStore = false
 is_plain Kind.HandoffStore = false
@@ -56,7 +56,7 @@ adds_same p s n None k is straight = refl
 adds_same p s n (Some x) k is straight =
     ap (λ (l : List Record). Some (record x { popped = record x.popped { records = l } })) (adds_by k (target p.point s) n x.popped.records straight ∙ ap (λ (j : Option Kind). add_by j (target p.point s) n x.popped.records) (sym is))
 
--- which of them drop a record, and which give
+-- which of them take out a record, and which give the value away
 pub drops_by : (q : Point) (k : Kind) → kind q ≡ Some k → is_plain k ≡ true → k ≢ Kind.OwnerStore → drops_oldest_at q ≡ false
 drops_by (GrantWakeStore carrier oldest) k is straight other = let e : Kind.WakeStore ≡ k = cc in absurd (false≢true (ap is_plain e ∙ straight))
 drops_by (EnterOwnerStore entrant how) k is straight other = let e : Kind.OwnerStore ≡ k = cc in absurd (other (sym e))
@@ -89,7 +89,7 @@ module _ {T : Type 0} (follows : ℕ → T → T → Type 0) (suits : T → ℕ 
   abbrev Now : Type 0
   Now = Me (Option (Moving T)) (View T)
 
-  -- what is in hand, and in the slot, as the step is made
+  -- what is in hand and in the slot when the step is made
   module _ (gives : Bool) (is_gives : gives_at p.point ≡ gives) (a1 : Option (Moving T)) (m0 : Now) (is_a : a1 ≡ kept_out gives a) (is_m : m0 ≡ (m.0, put_in gives a m.1)) where
     out : a1 ≡ kept_out (gives_at p.point) (dropped p a)
     out = is_a ∙ (λ i. kept_out (sym is_gives i) (drops_same p a keeps i))
@@ -119,31 +119,31 @@ module _ {T : Type 0} (follows : ℕ → T → T → Type 0) (suits : T → ℕ 
               event = t.event;
             }
 
-  -- A step that gives nothing
+  -- A step that does not give the value away
 
   module _ (flat : gives_at p.point ≡ false) where
     pub can_keep : ((r : Releaser) → p.point ≡ ReleaseOwnerStore r → MayBeLeft follows suits a m.0) → CanMake follows suits p (value_in a) number l.seats words m
     can_keep leaves = can_now false flat a m refl refl leaves
 
     module _ (n : ℕ) (m1 : Now) (did : Advanced follows suits p (value_in a) m n m1) (words' id' : ℕ) (same_words : words' ≡ words) (same_id : id' ≡ id) where
-      -- the seat goes on carrying the value or not, as it did
+      -- the seat carries the value after the step exactly if it did before
       pub stayed : carries_value (stepped_by p number n None).seat ≡ carries_value p → MadeStep follows suits number words' id' l p n m a m1 a
       stayed same =
           made_now false flat a m refl refl n m1 did words' id' same_words same_id a m1 (took_none (is_carried a) (carries_value (stepped_by p number n None).seat) a m1 (fit.seated.moved ∙ sym same))
 
-      -- the seat has the value in hand, and keeps it
+      -- the seat has the value in hand and keeps it
       pub kept : carries_value p ≡ true → MadeStep follows suits number words' id' l p n m a m1 a
       kept before =
           made_now false flat a m refl refl n m1 did words' id' same_words same_id a m1
           (took_none (is_carried a) (carries_value (stepped_by p number n None).seat) a m1 ((fit.seated.moved ∙ before) ∙ sym (keeps_value p number n None flat before)))
 
-      -- the seat has no value, and gains none
+      -- the seat has no value and gains none
       pub idled : carries_value p ≡ false → carries_value (stepped_by p number n None).seat ≡ false → MadeStep follows suits number words' id' l p n m a m1 a
       idled before after =
           made_now false flat a m refl refl n m1 did words' id' same_words same_id a m1
           (took_none (is_carried a) (carries_value (stepped_by p number n None).seat) a m1 ((fit.seated.moved ∙ before) ∙ sym after))
 
-      -- the seat gains the value, and takes it out of the slot
+      -- the seat gains the value and takes it out of the slot
       pub gained : carries_value p ≡ false → carries_value (stepped_by p number n None).seat ≡ true → (a3 : Option (Moving T)) (m2 : Now) → (m1.1 ≡ (0, a3) ∷ rest m1.1) × (m2 ≡ (m1.0, (0, None) ∷ rest m1.1))
           → MadeStep follows suits number words' id' l p n m a m2 a3
       gained before after a3 m2 took =
@@ -153,7 +153,7 @@ module _ {T : Type 0} (follows : ℕ → T → T → Type 0) (suits : T → ℕ 
     pub gained_slot : (n : ℕ) (m1 : Now) → Advanced follows suits p (value_in a) m n m1 → carries_value p ≡ false → carries_value (stepped_by p number n None).seat ≡ true → (x : Option (Moving T)) × (m1.1 ≡ (0, x) ∷ rest m1.1)
     gained_slot n m1 did before after = slot_now false flat a m refl refl n m1 did (fit.seated.moved ∙ before) after
 
-  -- A step that may give the value, which lies in the slot
+  -- A step that may give the value away, which is in the slot
 
   module _ (gives : gives_at p.point ≡ true) (m0 : Now) (is_m : m0 ≡ (m.0, (0, a) ∷ rest m.1)) where
     pub own_place : (x : Option (Moving T)) × (m.1 ≡ (0, x) ∷ rest m.1)
@@ -174,18 +174,18 @@ module _ {T : Type 0} (follows : ℕ → T → T → Type 0) (suits : T → ℕ 
           made_now true gives None m0 refl is_m n m1 did words' id' same_words same_id a3 m2
           (took_one false (carries_value (stepped_by p number n None).seat) None a3 m1 m2 refl after took)
 
--- a step is told of a seat by the number, the limits and the hand that the seat has after it
+-- a step depends on a seat's number, limits and hand only, here as they are after it
 pub told_after : {T : Type 0} {follows : ℕ → T → T → Type 0} {suits : T → ℕ → Type 0} {s t w i n : ℕ} {l k : Limits} {p : SeatState} {m m' : Me (Option (Moving T)) (View T)} {a b b' : Option (Moving T)}
     → (t ≡ s) × (k ≡ l) → b' ≡ b → MadeStep follows suits s w i l p n m a m' b → MadeStep follows suits t w i k p n m a m' b'
 told_after {T} {follows} {suits} {s} {t} {w} {i} {n} {l} {k} {p} {m} {m'} {a} same hand did =
     subst (λ (z : ℕ × Limits × Option (Moving T)). MadeStep follows suits z.0 w i z.1 p n m a m' z.2) (λ j. (sym same.0 j, sym same.1 j, sym hand j)) did
 
--- and by those that it had before it
+-- and here as they were before it
 pub told_before : {T : Type 0} {follows : ℕ → T → T → Type 0} {suits : T → ℕ → Type 0} {s t w i n : ℕ} {l k : Limits} {p : SeatState} {m m' : Me (Option (Moving T)) (View T)} {a b : Option (Moving T)}
     → (t ≡ s) × (k ≡ l) → MadeStep follows suits t w i k p n m a m' b → MadeStep follows suits s w i l p n m a m' b
 told_before {T} {follows} {suits} {s} {t} {w} {i} {n} {l} {k} {p} {m} {m'} {a} {b} same did =
     subst (λ (z : ℕ × Limits). MadeStep follows suits z.0 w i z.1 p n m a m' b) (λ j. (same.0 j, same.1 j)) did
 
--- one after another
+-- two such steps in sequence
 pub same_then : {s t u : ℕ} {l k j : Limits} → (t ≡ s) × (k ≡ l) → (u ≡ t) × (j ≡ k) → (u ≡ s) × (j ≡ l)
 same_then first then = (then.0 ∙ first.0, then.1 ∙ first.1)

@@ -7,7 +7,7 @@ use Rattle.lfm_protocol.specs.Points.{kind, target}
 use Rattle.lfm_protocol.specs.Stores.{stored_wake_at}
 use Rattle.lfm_table.specs.Grants.{granted_at, owed}
 
--- the state that is stored tells the seat that is granted
+-- the state that is stored determines the seat that is granted
 pub owed_there : (q : Point) (s : ℕ) → owed (stored_wake_at q) (target q s) ≡ granted_at q
 owed_there (GrantWakeStore carrier oldest) s = refl
 owed_there (SendWakeStore t) s = refl

@@ -1,4 +1,4 @@
--- The numbers of the holds that the seats ended last, as one view becomes another.
+-- The numbers of the holds that the seats ended last, when one view is replaced.
 use Rattle.std.proofs.Common.{◌≡◌, ◌≢◌, ℕ, zero, suc, ◌+◌, ◌<◌, ◌≤◌, List, [], ◌∷◌, length, set, sym, refl, ap, ◌∙◌, subst, ◌⊎◌, ⊎_elim, inl, inr, arith, Some}
 use mathlib.Core.Option.{some, some-injective, some-ne-none}
 use lib.ListN.{get_elem?}
@@ -12,7 +12,7 @@ first_there : {A : Type 0} (l : List A) (i : ℕ) (a : A) → get_elem? l i ≡ 
 first_there [] i a e = absurd (some-ne-none a (sym e))
 first_there (x ∷ xs) i a e = (x, refl)
 
--- a seat that ended the last hold of all, or none if none has ended, left the value last
+-- a seat that ended the last hold of all left the value last; so did each seat if no hold has ended
 pub left_own : {T : Type 0} (views : List (View T)) (n : ℕ) (y : T) → AreNumbered views n → LeftIn views n y → (i : ℕ) (v : View T) → get_elem? views i ≡ some v → v.ended ≡ n → v.last ≡ Some y
 left_own views zero y all left i v at is =
     let k = first_there views i v at in
@@ -23,7 +23,7 @@ left_own {T} views (suc n) y all left i v at is =
     ap (λ (u : View T). u.last) one ∙ left.3
 
 module _ {T : Type 0} (views : List (View T)) (id : ℕ) (v w : View T) (at : get_elem? views id ≡ some v) (here : id < length views) (opening : w.opening ≡ v.opening) where
-  -- the view of the same seat before, if what is noted of its last hold is as before
+  -- the view of the same seat before, if the data of its last hold did not change
   noted_at : w.last ≡ v.last → w.ended ≡ v.ended → (j : ℕ) (z : View T) → get_elem? (set views id w) j ≡ some z → (u : View T) × (get_elem? views j ≡ some u) × (u.ended ≡ z.ended) × (u.last ≡ z.last)
   noted_at same_last same_ended j z e = ⊎_elim
       (λ (t : (j ≡ id) × (w ≡ z)). (v, subst (λ (i : ℕ). get_elem? views i ≡ some v) (sym t.0) at, sym same_ended ∙ ap (λ (u : View T). u.ended) t.1, sym same_last ∙ ap (λ (u : View T). u.last) t.1))

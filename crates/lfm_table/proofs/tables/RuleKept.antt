@@ -64,7 +64,7 @@ module _ {T : Type 0} (follows : ℕ → T → T → Type 0) (seats seat : ℕ) 
   pub stays_reached : (v : T) → Reached follows seats seat v v
   stays_reached v = ([], refl)
 
-  -- what the seat left still leads to what another one leaves
+  -- what the seat left leads to a value, so it leads to what another seat leaves after that value
   pub reached_on : (t : ℕ) (v w x : T) → Reached follows seats seat v w → IsOther seats seat t → follows t w x → Reached follows seats seat v x
   reached_on t v w x h n f = (h.0 ++ (t, x) ∷ [], path_on h.0 t v w x h.1 n f)
 
@@ -103,7 +103,7 @@ module _ {T : Type 0} (follows : ℕ → T → T → Type 0) (suits : T → ℕ 
   abbrev Ruled : State S (View T) → Type 0
   Ruled = Held follows suits
 
-  -- The views once that of one user has become w
+  -- The views after the view of one seat in use was replaced by w
 
   module _ (s : State S (View T)) (h : Ruled s) (id : ℕ) (v : View T) (at : get_elem? s.views id ≡ some v) (user : v.role ≡ User) (w : View T) (same : w.role ≡ v.role) (root : SameRoot v w) where
     abbrev pub vs : List (View T)
@@ -112,11 +112,11 @@ module _ {T : Type 0} (follows : ℕ → T → T → Type 0) (suits : T → ℕ 
     same_total : sum_over retired vs ≡ sum_over retired s.views
     same_total = let t = total_set retired s.views id v w at in let eq : retired w ≡ retired v = ap retired_at same in omega arith
 
-    -- a seat that was joined stays as it was
+    -- a seat that was joined does not change
     stay_gone : (j : ℕ) (z : View T) → get_elem? s.views j ≡ some z → z.role ≡ Retired → get_elem? vs j ≡ some z
     stay_gone j z e is = set_else s.views id j w (λ q. not_both v.role user (ap (λ (y : View T). y.role) (some-injective v z (sym at ∙ subst (λ (i : ℕ). get_elem? s.views i ≡ some z) q e)) ∙ is)) ∙ e
 
-    -- nor is one joined by this
+    -- no seat is joined by this
     was_gone : (j : ℕ) (z : View T) → get_elem? vs j ≡ some z → z.role ≡ Retired → get_elem? s.views j ≡ some z
     was_gone j z e is = ⊎_elim
         (λ (t : (j ≡ id) × (w ≡ z)). absurd (not_both z.role (ap (λ (u : View T). u.role) (sym t.1) ∙ same ∙ user) is))
@@ -145,39 +145,39 @@ module _ {T : Type 0} (follows : ℕ → T → T → Type 0) (suits : T → ℕ 
     pub others_on : (j : ℕ) (z : View T) → get_elem? vs j ≡ some z → z.role ≡ Retired → (z.state.point ≡ Rest) × (z.state.depth ≡ 0)
     others_on j z e n = ⊎_elim (λ (t : (j ≡ id) × (w ≡ z)). absurd (not_both z.role (ap (λ (u : View T). u.role) (sym t.1) ∙ same ∙ user) n)) (λ (t : (j ≢ id) × (get_elem? s.views j ≡ some z)). h.others j z t.1 n) (at_set s.views id j w z e)
 
-    -- each view is of a table with this state's number of seats
+    -- each view has this state's number of seats as its limit
     limits_on : (j : ℕ) (z : View T) → get_elem? vs j ≡ some z → z.limits.seats ≡ length h.core.seats
     limits_on j z e = ⊎_elim
         (λ (t : (j ≡ id) × (w ≡ z)). ap (λ (u : View T). u.limits.seats) (sym t.1) ∙ (ap (λ (l : Limits). l.seats) root.limits_are ∙ ap (λ (l : Limits). l.seats) (h.each id v at).limits_are))
         (λ (t : (j ≢ id) × (get_elem? s.views j ≡ some z)). ap (λ (l : Limits). l.seats) (h.each j z t.1).limits_are) (at_set s.views id j w z e)
 
-    -- this seat's view is of as many as before
+    -- the new view of this seat has the same number of seats
     limited : (z : View T) → w ≡ z → v.limits.seats ≡ z.limits.seats
     limited z e = ap (λ (l : Limits). l.seats) (sym root.limits_are) ∙ ap (λ (u : View T). u.limits.seats) e
 
-    -- this seat is another one for each seat that may come to a path
+    -- this seat is another seat for every seat whose path it may extend
     is_other : (i j : ℕ) (z : View T) → get_elem? vs i ≡ some z → j ≢ id → IsOther z.limits.seats (j + 1) (id + 1)
     is_other i j z e other = let all = limits_on i z e in let here = length_at s.views id v at in ((λ q. other (omega (arith, q))), omega arith, omega (arith, all, here, h.few))
 
-    -- what leads to a value, but for this seat
+    -- what leads to a value, except from this seat
     pub leads_off : (y : T) → LeadsToValue follows (λ j. j ≢ id) s.views y → LeadsToValue follows (λ j. j ≢ id) vs y
     leads_off y old j z l e ok is = ⊎_elim
         (λ (t : (j ≡ id) × (w ≡ z)). absurd (ok t.0))
         (λ (t : (j ≢ id) × (get_elem? s.views j ≡ some z)). old j z l t.1 ok is) (at_set s.views id j w z e)
 
-    -- what leads to a value, if the seat's last value is as before
+    -- what leads to a value, if this seat's last value is unchanged
     pub leads_on : (which : ℕ → Type 0) (y : T) → w.last ≡ v.last → LeadsToValue follows which s.views y → LeadsToValue follows which vs y
     leads_on which y same_last old j z l e ok is = ⊎_elim
         (λ (t : (j ≡ id) × (w ≡ z)). subst (λ (n : ℕ). Reached follows n (j + 1) l y) (limited z t.1) (old j v l (subst (λ (i : ℕ). get_elem? s.views i ≡ some v) (sym t.0) at) ok (sym same_last ∙ ap (λ (u : View T). u.last) t.1 ∙ is)))
         (λ (t : (j ≢ id) × (get_elem? s.views j ≡ some z)). old j z l t.1 ok is) (at_set s.views id j w z e)
 
-    -- the same if this seat's own last value leads there
+    -- the same if this seat's own last value leads there too
     pub leads_all : (y : T) → ((l : T) → w.last ≡ Some l → Reached follows w.limits.seats (id + 1) l y) → LeadsToValue follows (λ j. j ≢ id) s.views y → LeadsToValue follows (λ _. ⊤) vs y
     leads_all y mine old j z l e ok is = ⊎_elim
         (λ (t : (j ≡ id) × (w ≡ z)). subst (λ (u : ℕ × View T). Reached follows u.1.limits.seats (u.0 + 1) l y) (λ i. (sym t.0 i, t.1 i)) (mine l (ap (λ (u : View T). u.last) t.1 ∙ is)))
         (λ (t : (j ≢ id) × (get_elem? s.views j ≡ some z)). old j z l t.1 t.0 is) (at_set s.views id j w z e)
 
-    -- what leads to one value leads to what this seat leaves after it
+    -- what leads to a value also leads to what this seat leaves after it
     pub leads_next : (y z : T) → follows (id + 1) y z → LeadsToValue follows (λ j. j ≢ id) s.views y → LeadsToValue follows (λ j. j ≢ id) vs z
     leads_next y z f old j u l e ok is = reached_on follows u.limits.seats (j + 1) (id + 1) l y z (leads_off y old j u l e ok is) (is_other j j u e ok) f
 
@@ -186,7 +186,7 @@ module _ {T : Type 0} (follows : ℕ → T → T → Type 0) (suits : T → ℕ 
         (λ (t : (j ≡ id) × (w ≡ z)). ap (λ (u : View T). u.last_found) (sym t.1) ∙ (same_found ∙ all id v at))
         (λ (t : (j ≢ id) × (get_elem? s.views j ≡ some z)). all j z t.1) (at_set s.views id j w z e)
 
-    -- that some seat left a value last, if what is noted of this seat's last hold is as before
+    -- some seat left the value last, if the data of this seat's last hold are unchanged
     pub left_on : (n : ℕ) (y : T) → w.last ≡ v.last → w.last_found ≡ v.last_found → w.ended ≡ v.ended → LeftIn s.views n y → LeftIn vs n y
     left_on n y same_last same_found same_ended old = dite (ℕ_discrete old.0 id)
         (λ q. let one : v ≡ old.1 = some-injective v old.1 (sym at ∙ subst (λ (i : ℕ). get_elem? s.views i ≡ some old.1) q old.2) in (
@@ -247,7 +247,7 @@ module _ {T : Type 0} (follows : ℕ → T → T → Type 0) (suits : T → ℕ 
       n_is : found_at c num p ≡ n
       n_is = ap (λ (t : List ℕ × ℕ). get_or t.0 t.1 0) (λ j. (sym h.words_are j, (ap (λ m. index p m num) (sym seats_are) ∙ sym word) j))
 
-      -- a step that stores nothing notes what it found
+      -- a step that stores nothing records what it found
       found_of : stores (kind p.point) ≡ false → k n ≡ n
       found_of no_store = finds n ∙ ap (λ (b : Bool). told_of b (written p num n) n) no_store
 
@@ -296,7 +296,7 @@ module _ {T : Type 0} (follows : ℕ → T → T → Type 0) (suits : T → ℕ 
       carried : carries_value me.0.state ≡ carries_value p
       carried = ap carries_value (sym here) ∙ core.carried_same c g num p is h.fits settles
 
-      -- if the value is out with this seat
+      -- if this seat has the value
       was : carries_value p ≡ true → WithSeat follows suits c g h.holds_ended s.views id me.0
       was carries = h.outside id me.0 at (carried ∙ carries)
 
@@ -315,7 +315,7 @@ module _ {T : Type 0} (follows : ℕ → T → T → Type 0) (suits : T → ℕ 
       abbrev holds_after : ℕ
       holds_after = left_by p.point (h.holds_ended + 1) h.holds_ended
 
-      -- the run goes on by the calls that the seat began since its last step, and by the step
+      -- the run continues with the calls that the seat started since its last step, and with the step
       abbrev pub actions_now : List Action
       actions_now = begins_and_step num me.0.state p
 
@@ -415,7 +415,7 @@ module _ {T : Type 0} (follows : ℕ → T → T → Type 0) (suits : T → ℕ 
         hands = hands;
       }
 
-      -- the rule holds, of the core that the core's step makes, and the run has gone on by exactly this
+      -- the rule holds of the core that the core's step leads to, and the run has continued by exactly this
       abbrev HeldAfter : State S (View T) → Type 0
       HeldAfter t = (after : Ruled t) × (after.core ≡ (made (put c num p) num).core) × (after.opened ≡ h.opened) × (after.actions ≡ h.actions ++ actions_now)
 
@@ -425,11 +425,11 @@ module _ {T : Type 0} (follows : ℕ → T → T → Type 0) (suits : T → ℕ 
       abbrev MovedBy : Bool → Bool → Type 0
       MovedBy b b' = MovesValue c.seats ts.after.seats num (move_of b b')
 
-      -- a view that carries nothing after the step
+      -- the view of a seat that does not carry the value after the step
       not_after : (found : Option T) (j : ℕ) (z : View T) → get_elem? (set s.views id (next_view found)) j ≡ some z → carries_value (seat ts.after.seats (j + 1)) ≡ false → carries_value z.state ≡ true → ⊥
       not_after found j z e none_after one = false≢true (sym none_after ∙ ap carries_value (sits_on found j z e).state ∙ one)
 
-      -- a hold is answered with a depth
+      -- a step at depth 0 after it has not answered a hold
       same_answers : st.seat.depth ≡ 0 → ts.ghost_after.answered ≡ g.answered
       same_answers shallow = let z = no_answer p num (k n) (oldest c.popped) shallow in let l = ap (λ (r : List Record). length r) z in omega (arith, answers, l)
 
@@ -462,7 +462,7 @@ module _ {T : Type 0} (follows : ℕ → T → T → Type 0) (suits : T → ℕ 
             (numbered_same s.views id me.0 (next_view found) at (length_at s.views id me.0 at) refl h.holds_ended (left_same p.point a me.0.last other) (left_same p.point (me.0.holds_ended + 1) me.0.ended other) h.numbered)
       ]
 
-      -- The value leaves its slot
+      -- The seat takes the value out of the slot
 
       gains : carries_value p ≡ false → carries_value st.seat ≡ true → MovedBy false true → Done
       gains before after did =
@@ -526,7 +526,7 @@ module _ {T : Type 0} (follows : ℕ → T → T → Type 0) (suits : T → ℕ 
             refl,
           )
 
-      -- it goes into its slot
+      -- The seat leaves the value in the slot
 
       give : carries_value p ≡ true → carries_value st.seat ≡ false → MovedBy true false → Done
       give before after did =
@@ -586,7 +586,7 @@ module _ {T : Type 0} (follows : ℕ → T → T → Type 0) (suits : T → ℕ 
             refl,
           )
 
-      -- it stays in its slot, or with another seat
+      -- The value stays in the slot or with another seat
 
       leaves_be : carries_value p ≡ false → carries_value st.seat ≡ false → MovedBy false false → Done
       leaves_be before after did =
@@ -651,9 +651,9 @@ module _ {T : Type 0} (follows : ℕ → T → T → Type 0) (suits : T → ℕ 
             refl,
           )
 
-      -- it stays with this seat
+      -- The value stays with this seat
 
-      -- the facts of the value that this seat goes on carrying
+      -- what holds of the value that this seat still carries
       goes_on : carries_value p ≡ true → (w : View T) → w ≡ next_view (left_by p.point a me.0.found) → SameRoot me.0 w → w.role ≡ me.0.role
           → WithSeat follows suits ts.after ts.ghost_after holds_after (set s.views id w) id w
       goes_on before w w_is root role =
@@ -709,7 +709,7 @@ module _ {T : Type 0} (follows : ℕ → T → T → Type 0) (suits : T → ℕ 
                 }
           ]
 
-      -- no second seat carries
+      -- no second seat carries the value
       alone : (j : ℕ) (z : View T) → carries_value p ≡ true → get_elem? s.views j ≡ some z → j ≢ id → carries_value z.state ≡ true → ⊥
       alone j z before e other one =
           let first : carries_value (seat c.seats num) ≡ true = ap carries_value here ∙ carried ∙ before in
@@ -766,12 +766,13 @@ module _ {T : Type 0} (follows : ℕ → T → T → Type 0) (suits : T → ℕ 
       done : Done
       done = by_move (carries_value p) (carries_value st.seat) refl refl moved
 
-    -- a step of any kind leads to the core that the core's step makes, and adds itself to the run
+    -- a step of any kind leads to the core that the core's step leads to, and is added to the run
     pub led_on : (s : State S (View T)) (h : Ruled s) (at : get_elem? s.views id ≡ some me.0) → Done s h at
     led_on s h at = done s h at
 
-    -- A step of any kind keeps the rule, as the table asks of an access. Four cases tell whether the seat carries the value before the
-    -- step and after it: the value stays away (leaves_be), comes (gains), goes (give) or stays (keeps_it). In each the core's step leads
-    -- to a steady state (ts). Left to show is that the value is where that state says, and what its holder knows of it.
+    -- A step of any kind keeps the rule, as the table requires of an access. By cases on whether the seat carries the value
+    -- before and after the step: the value stays elsewhere (leaves_be), is gained (gains), is given away (give) or is kept
+    -- (keeps_it). In each case the core's step leads to a steady state (ts). It remains to show that the value is where that
+    -- state requires, and what its holder knows of it.
     pub allowed : Allows Ruled slots id me i f (λ n m'. Advanced follows suits p a me (k n) m')
     allowed s h sized at small = let d = done s h at in (d.0, d.1, d.2, d.3.0, d.4)

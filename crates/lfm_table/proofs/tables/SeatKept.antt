@@ -1,4 +1,4 @@
--- The seat before its step can make it, and after it keeps what it knows.
+-- A seat can make its next step, and after it what holds of a seat between steps holds again.
 use Rattle.std.proofs.Common.{◌≡◌, ◌≢◌, ℕ, ◌+◌, List, [], ◌∷◌, length, sym, refl, ap, ◌∙◌, subst, inl, inr, Option, Some, None}
 use Rattle.std.specs.Prelude.{Bool, true, false}
 use Rattle.std.proofs.lemmas.Bool.{false≢true}
@@ -56,7 +56,7 @@ value_dropped : {T : Type 0} (p : SeatState) (a : Option (Moving T)) → value_i
 value_dropped p (Some x) = refl
 value_dropped p None = refl
 
--- a step that gives comes from a point that does
+-- a step that gives the value away is at a point where `gives_at` is true
 gives_of : (x : SeatState) (s n : ℕ) (o : Option Record) → carries_value x ≡ true → carries_value (stepped_by x s n o).seat ≡ false → (b : Bool) → gives_at x.point ≡ b → b ≡ true
 gives_of x s n o before after true e = refl
 gives_of x s n o before after false e = absurd (true_or_false (carries_value (stepped_by x s n o).seat) (keeps_value x s n o e before) after)
@@ -69,11 +69,11 @@ module _ {T : Type 0} (follows : ℕ → T → T → Type 0) (suits : T → ℕ 
   abbrev Mine : Type 0
   Mine = Me (Option (Moving T)) (View T)
 
-  -- what the value in hand is once the oldest record is dropped
+  -- the value in hand after the oldest record is taken out
   abbrev shorter : Moving T → Moving T
   shorter x = record x { popped = record x.popped { records = popped_if (drops_oldest p) x.popped.records } }
 
-  -- and once a loaded one is added
+  -- and after a loaded record is added
   abbrev longer : ℕ → Moving T → Moving T
   longer n x = record x { popped = record x.popped { records = add_by (kind p.point) (target p.point number) n x.popped.records } }
 
@@ -139,7 +139,7 @@ module _ {T : Type 0} (follows : ℕ → T → T → Type 0) (suits : T → ℕ 
     hand = can_hand leaves;
   })
 
-  -- the slot is there for a value that is put back
+  -- the seat has the slot if the value is put there
   pub own_slot : gives_at p.point ≡ true → (x : S) × (m.1 ≡ (0, x) ∷ rest m.1)
   own_slot gives = let h = was.hand ∙ ap in_hand (carrying p (gives_carries p.point gives)) in (None, h ∙ ap (λ (r : List (ℕ × S)). (0, None) ∷ rest r) (sym h))
 
@@ -182,7 +182,7 @@ module _ {T : Type 0} (follows : ℕ → T → T → Type 0) (suits : T → ℕ 
     nothing : (x : Moving T) → ◌≡◌ {A = S} None (Some x) → ⊥
     nothing x e = absurd (cc)
 
-    -- nobody here carries
+    -- the seat carries the value neither before nor after the step
     idle_known : carries_value p ≡ false → carries_value st.seat ≡ false → Known a3 m2
     idle_known before after =
         let was_none = none_before before in
@@ -230,7 +230,7 @@ module _ {T : Type 0} (follows : ℕ → T → T → Type 0) (suits : T → ℕ 
           ap (λ (z : Mine). z.0) took1.1,
         )
 
-    -- the value x3 is in hand after the step, which was x before it
+    -- x is in hand before the step and x3 after it
     module _ (before : carries_value p ≡ true) (after : carries_value st.seat ≡ true) (x x3 : Moving T) (is : a ≡ Some x) (got : a3 ≡ Some x3) (value : x3.value ≡ x.value) (room : x3.popped.room ≡ x.popped.room)
         (list : x3.popped.records ≡ add_by (kind p.point) (target p.point number) n (popped_if (drops_oldest p) x.popped.records)) (hand : m2.1 ≡ in_hand true) (view : m2.0 ≡ m1.0)
         (value_kept : (r : Releaser) → p.point ≡ ReleaseOwnerStore r → value_in hand_before ≡ Some x.value) where
@@ -296,7 +296,7 @@ module _ {T : Type 0} (follows : ℕ → T → T → Type 0) (suits : T → ℕ 
     known : Known a3 m2
     known = by_carrying (carries_value p) (carries_value st.seat) refl refl
 
-    -- what was in hand as the hold ended
+    -- what was in hand when the hold ended
     hand_same : (r : Releaser) → p.point ≡ ReleaseOwnerStore r → value_in hand_before ≡ value_in a
     hand_same r at = ap (λ (q : Point). value_in (kept_out (gives_at q) (dropped p a))) at ∙ value_dropped p a
 
@@ -369,7 +369,7 @@ module _ {T : Type 0} (follows : ℕ → T → T → Type 0) (suits : T → ℕ 
       event = subst (λ (v : View T). Event follows suits p a m.0 then_st.turn then_st.seat a3 v) (sym view_is) event_now;
     })
 
-  -- the whole step, from its parts
+  -- the whole step, composed of its parts
   pub made : (n : ℕ) (a1 a2 a3 : S) (m0 m1 m2 : Mine) (q : SeatState) (turn : Turn) → a1 ≡ kept_out (gives_at p.point) (dropped p a) → m0 ≡ (m.0, put_in (gives_at p.point) (dropped p a) m.1)
       → Advanced follows suits p (value_in a1) m0 n m1 → a2 ≡ with_record p number n a1 → Took (is_carried a2) (carries_value (stepped_by p number n None).seat) a2 m1 a3 m2
       → q ≡ (stepped_by p number n (oldest_in a3)).seat → turn ≡ (stepped_by p number n (oldest_in a3)).turn → Made turn q a3 m2
@@ -378,7 +378,7 @@ module _ {T : Type 0} (follows : ℕ → T → T → Type 0) (suits : T → ℕ 
       (subst (λ (z : S). Took (is_carried z) (carries_value (stepped_by p number n None).seat) z m1 a3 m2) (is_a2 ∙ ap (with_record p number n) is_a) took)
       turn q is_q is_turn
 
-  -- the same, with what the parts were told as equations
+  -- the same, with the results of the parts given as equations
   pub made_next : (n : ℕ) (gives : Bool) (a0 a1 a2 a3 : S) (m0 m1 m2 : Mine) (q : SeatState) (turn : Turn) (oldest : Option Record) → gives ≡ gives_at p.point → a0 ≡ dropped p a
       → a1 ≡ kept_out gives a0 → m0 ≡ (m.0, put_in gives a0 m.1) → Advanced follows suits p (value_in a1) m0 n m1 → a2 ≡ with_record p number n a1
       → Took (is_carried a2) (carries_value (stepped_by p number n None).seat) a2 m1 a3 m2 → oldest ≡ oldest_in a3 → q ≡ (stepped_by p number n oldest).seat → turn ≡ (stepped_by p number n oldest).turn → Made turn q a3 m2
@@ -386,7 +386,7 @@ module _ {T : Type 0} (follows : ℕ → T → T → Type 0) (suits : T → ℕ 
       made n a1 a2 a3 m0 m1 m2 q turn (is_a ∙ (λ i. kept_out (is_gives i) (is_a0 i))) (is_m ∙ (λ i. (m.0, put_in (is_gives i) (is_a0 i) m.1))) did is_a2 took
       (is_q ∙ ap (λ (o : Option Record). (stepped_by p number n o).seat) is_o) (is_turn ∙ ap (λ (o : Option Record). (stepped_by p number n o).turn) is_o)
 
-  -- The slot that the value is taken out of
+  -- The slot from which the value is taken out
 
   module _ (n : ℕ) (m1 : Mine) (did : Advanced follows suits p (value_in hand_before) (m.0, slots_before) n m1) where
     abbrev AfterHands : Bool → Type 0

@@ -1,4 +1,4 @@
--- The two steps of a call that serves a queued seat which change the pop list: the load of a link, and the store of a grant.
+-- The two steps of a call that serves a queued seat and that change the pop list: the load of a link, and the store of a grant.
 use Rattle.std.proofs.Common.{◌≡◌, ◌≢◌, ℕ, ◌∷◌, sym, refl, ap, ◌∙◌, subst, Option, Some, None}
 use Rattle.std.specs.Prelude.{true, false}
 use Rattle.atomic_table.specs.Table.{Me, rest}
@@ -28,7 +28,7 @@ module _ {T : Type 0} (follows : ℕ → T → T → Type 0) (suits : T → ℕ 
   abbrev Mine : Type 0
   Mine = Me (Option (Moving T)) (View T)
 
-  -- what is made of a step from what is in hand and in the slot before and after it
+  -- the whole step, from what is in hand and in the slot before and after it
   done : (n : ℕ) (a1 a2 : Option (Moving T)) (m0 m1 : Mine) → a1 ≡ kept_out (gives_at p.point) (dropped p a) → m0 ≡ (m.0, put_in (gives_at p.point) (dropped p a) m.1) → Advanced follows suits p (value_in a1) m0 n m1
       → a2 ≡ with_record p number n a1 → is_carried a2 ≡ carries_value (stepped_by p number n None).seat → (words' id' : ℕ) → words' ≡ words → id' ≡ id → MadeStep follows suits number words' id' l p n m a m1 a2
   done n a1 a2 m0 m1 out put did is_a2 same words' id' same_words same_id =

@@ -1,4 +1,4 @@
--- What a seat may have become without a step stays so if one more call begins.
+-- What a seat's data may have become without a step includes the start of one more call.
 use Rattle.std.proofs.Common.{◌≡◌, ℕ, zero, suc, ◌+◌, ◌-◌, ◌<◌, Bool, true, false, ◌&&◌, List, [], ◌∷◌, nat_eq, refl, sym, ap, subst, ◌∙◌, arith, if◌then◌else◌}
 use Rattle.std.specs.Prelude.{nat_lt}
 use Rattle.lfm_protocol.specs.declared.answers.Call.{Call}
@@ -50,7 +50,7 @@ module _ (x : SeatState) (l : Limits) (p : SeatState) (b : Became x l p) where
   by_if st true u v is first second = first refl is
   by_if st false u v is first second = second refl is
 
-  -- the seat has nothing open
+  -- no call of the seat is open
   abbrev Closed : Type 0
   Closed = (calls : List Call) → opened p.point calls ≡ calls
 

@@ -1,4 +1,4 @@
--- A seat keeps what it knows as a call begins.
+-- What holds of a seat between steps is kept by the start of a call.
 use Rattle.std.proofs.Common.{◌≡◌, ℕ, [], ◌∷◌, sym, refl, ap, ◌∙◌, subst, Option}
 use Rattle.atomic_table.specs.Table.{Me}
 use Rattle.lfm_protocol.specs.declared.answers.Call.{Call}

@@ -1,5 +1,5 @@
--- What a step does to a seat's own data: a seat at depth 0 was there before, unless it has just released; it has answered no
--- hold; and a seat that carries nothing leaves the pop list.
+-- What a step does to a seat's own data. A seat at depth 0 after its step was at depth 0 before, unless it has just released,
+-- and it has answered no hold. A seat that carries nothing does not change the pop list.
 use Rattle.std.proofs.Common.{◌≡◌, ◌≢◌, ◌⊎◌, ℕ, zero, suc, ◌+◌, ◌-◌, Bool, true, false, Option, Some, None, List, [], ◌∷◌, nat_eq, refl, sym, ap, ◌∙◌, arith, inl, inr, if◌then◌else◌}
 use Rattle.std.specs.Prelude.{nat_lt, ◌&&◌}
 use Rattle.std.proofs.lemmas.Bool.{cases_eq, ne_eqb, eq-eqb, false≢true}
@@ -41,7 +41,7 @@ made_of d t ps q = record { depth = d; takes = t; posts = ps; point = q }
 
 -- Depth 0
 
--- if the seat is at depth 0 after its step, it was so before, and has answered no hold
+-- if the seat is at depth 0 after its step, it was so before, and it has answered no hold
 abbrev pub Shallow : ℕ → ℕ → Stepped → Type 0
 Shallow d s st = (st.seat.depth ≡ 0 → d ≡ 0) × (st.seat.depth ≡ 0 → answered_by s st.turn ≡ [])
 
@@ -111,7 +111,7 @@ release_of _ = inr (λ r e. cc)
 pub shallow_step : (x : SeatState) (s n : ℕ) (o : Option Record) → ((r : Releaser) → x.point ≢ ReleaseOwnerStore r) → Shallow x.depth s (stepped_by x s n o)
 shallow_step x s n o other = shallow_at x.depth x.takes x.posts s n o x.point other
 
--- the step that ends a hold
+-- the store that ends a hold
 pub released : (x : SeatState) (s n : ℕ) (o : Option Record) (r : Releaser) → x.point ≡ ReleaseOwnerStore r
     → (carries_value (stepped_by x s n o).seat ≡ true) × (answered_by s (stepped_by x s n o).turn ≡ [])
 released x s n o r at = rw at (refl, refl)
@@ -135,7 +135,7 @@ is_zero d e =
       | inr n ↦ absurd (false≢true (sym (ne_eqb d 0 n) ∙ e))
     ]
 
--- a seat that carries nothing holds nothing
+-- a seat that does not carry the responsibility has depth 0
 pub empty_depth : (x : SeatState) → carries_value x ≡ false → x.depth ≡ 0
 empty_depth x e = is_zero x.depth (carries_if (nat_eq x.depth 0) (carries x.point) e)
 
@@ -175,7 +175,7 @@ list_at d t ps s n l (GrantWakeStore carrier oldest) none = absurd (carries_none
 list_at d t ps s n l (TakeLinkLoad carrier next) none = absurd (carries_none (carries_value (made_of d t ps (TakeLinkLoad carrier next))) (carries_at d (TakeLinkLoad carrier next) refl) none)
 list_at d t ps s n l _ none = refl
 
--- a seat that carries nothing leaves the pop list as it is
+-- a step of a seat that does not carry the responsibility does not change the pop list
 pub list_stays : (x : SeatState) (s n : ℕ) (l : List Record) → carries_value x ≡ false → popped_by_step x s n l ≡ l
 list_stays x s n l none = list_at x.depth x.takes x.posts s n l x.point none
 
@@ -184,7 +184,7 @@ list_stays x s n l none = list_at x.depth x.takes x.posts s n l x.point none
 other_kind : (x : SeatState) (s n m : ℕ) (o : Option Record) (k : Option Kind) → m ≡ n → stepped_of x s n o k ≡ stepped_of x s m o k
 other_kind x s n m o k same = ap (λ i. stepped_of x s i o k) (sym same)
 
--- a store moves the seat on whatever the number is
+-- after a store the seat's data do not depend on this number
 pub told_by : (x : SeatState) (s n m : ℕ) (o : Option Record) (k : Option Kind) → (stores k ≡ false → m ≡ n) → stepped_of x s n o k ≡ stepped_of x s m o k
 told_by x s n m o (Some Kind.OwnerStore) same = refl
 told_by x s n m o (Some Kind.LinkStore) same = refl
@@ -208,7 +208,7 @@ pub told_list : (x : SeatState) (t n m : ℕ) (l : List Record) (k : Option Kind
 told_list x t n m l (Some Kind.LinkLoad) same = ap (λ i. popped_of x t i l (Some Kind.LinkLoad)) (sym (same refl))
 told_list x t n m l _ same = refl
 
--- Begins
+-- Starts of calls
 
 begin_if : (d : ℕ) (t : Bool) (u v : Stepped) → (u.seat.depth ≡ 0 → d ≡ 0) → (t ≡ false → v.seat.depth ≡ 0 → d ≡ 0) → (if t then u else v).seat.depth ≡ 0 → d ≡ 0
 begin_if d true u v first second e = first e
@@ -247,11 +247,11 @@ begun_depth : (x : SeatState) (l : Limits) (calls : List Call) → (begun x l ca
 begun_depth x l [] e = e
 begun_depth x l (call ∷ calls) e = begun_depth x l calls (begin_depth (begun x l calls) l call (begun x l calls).point e)
 
--- what was at a depth has not come to depth 0 without a step
+-- a seat at depth 0 after calls were started was at depth 0 before
 pub became_depth : (x : SeatState) (l : Limits) (p : SeatState) → Became x l p → p.depth ≡ 0 → x.depth ≡ 0
 became_depth x l p b e = begun_depth x l (calls_to x p) (ap (λ y. y.depth) (sym b.leads) ∙ e)
 
--- What carries goes on carrying, unless it gives
+-- A carrier still carries after its step unless the step gives the value away
 
 nonzero_carries : (x : SeatState) → x.depth ≢ 0 → carries_value x ≡ true
 nonzero_carries x some = rw (ne_eqb x.depth 0 some) refl
@@ -360,7 +360,7 @@ unread_after_at d t ps s n o u (ReleaseHandoffExchange r) none =
     unread_then (same_handoff (handoff_of n) (record { seat = s; post = ps })) x (take (Carrier.Reclaimer r) s o) (take (Carrier.Reclaimer r) s u) (releases x r Unlocked.TakenOver) (taking (Carrier.Reclaimer r) s o) none
 unread_after_at d t ps s n o u _ none = refl
 
--- a seat that carries nothing after its step has not read the pop list
+-- a seat that does not carry the responsibility after its step has not read the pop list
 pub unread_after : (x : SeatState) (s n : ℕ) (o u : Option Record) → carries_value (stepped_by x s n o).seat ≡ false → stepped_by x s n o ≡ stepped_by x s n u
 unread_after x s n o u none = unread_after_at x.depth x.takes x.posts s n o u x.point none
 
@@ -387,7 +387,7 @@ list_parts_at d t ps s n l (GrantWakeStore carrier oldest) = refl
 list_parts_at d t ps s n l (TakeLinkLoad carrier next) = refl
 list_parts_at d t ps s n l _ = refl
 
--- what is dropped before the step and added after it is what the step does to the pop list
+-- the record taken out before the step and the record added after it are what the step does to the pop list
 pub list_parts : (x : SeatState) (s n : ℕ) (l : List Record) → add_by (kind x.point) (target x.point s) n (popped_if (drops_oldest x) l) ≡ popped_by_step x s n l
 list_parts x s n l = list_parts_at x.depth x.takes x.posts s n l x.point
 
@@ -406,7 +406,7 @@ reads_list_at (PushedHandoffExchange pusher seen) t n l e = refl
 reads_list_at (ReleaseHandoffExchange r) t n l e = refl
 reads_list_at _ t n l e = absurd (false≢true e)
 
--- a step that reads the oldest record leaves the pop list
+-- a step that reads the oldest record does not change the pop list
 pub reads_list : (q : Point) (t n : ℕ) (l : List Record) → reads (kind q) ≡ true → add_by (kind q) t n (popped_if (drops_oldest_at q) l) ≡ l
 reads_list q t n l e = reads_list_at q t n l e
 
@@ -414,7 +414,7 @@ pub gives_not_release : (q : Point) → gives_at q ≡ true → (r : Releaser) �
 gives_not_release (ReleaseOwnerStore u) e r f = false≢true e
 gives_not_release _ e r f = cc
 
--- A begin neither gains nor gives
+-- The start of a call neither gains the responsibility nor gives it away
 
 abbrev Keeps : SeatState → Stepped → Type 0
 Keeps p st = carries_value st.seat ≡ carries_value p

@@ -1,4 +1,4 @@
-//! How a table ends: its seats are joined into seat 1, and what lies in its slot is taken out.
+//! Closing a table: its seats are joined into seat 1, and the content of its slot is taken out.
 ghost use Rattle.std.specs.Prelude.{◌≡◌, ◌<◌, [], length};
 ghost use mathlib.Core.Option.{some};
 ghost use lib.ListN.{get_elem?};
@@ -14,7 +14,7 @@ use atomic_table::Closed;
 use std::alloc::Global;
 use std::marker::Model;
 
-/// The table once no thread shares it any more. It can't be dropped: what lies in its slot has to be taken out.
+/// The table after no thread shares it any more. It can't be dropped, because the content of its slot must be taken out.
 pub struct ClosedTable<T: Drop> {
     closed: Closed<Option<MovingBox<T>>, Global>,
 }
@@ -31,7 +31,7 @@ impl<T: Drop> Model for ClosedTable<T> {
 }
 
 impl<T: Kept> SharedTable<T> {
-    /// Joins a seat into seat 1. The kit's join loads a word, which is not used.
+    /// Joins a seat into seat 1. The join of `atomic_table` loads a word, and the result is not used.
     pub fn join_seat<B: JoinedView<T>>(&self, root: &mut AtomicSeat<T>, place: AtomicSeat<T>)
         requires table { (root.old.table_id ≡ self.now.table_id) × (place.table_id ≡ self.now.table_id) × (0 < self.now.table_id.words) }
         requires free { place.me.1 ≡ [] }
@@ -45,7 +45,7 @@ impl<T: Kept> SharedTable<T> {
             .join_seat::<SeatJoin<B>>(&mut root.seat, seat);
     }
 
-    /// Ends the table. Its last state keeps the rule, and has what seat 1 knows.
+    /// Closes the table. Its last state keeps the rule and agrees with what seat 1 knows.
     pub fn close_with(self, root: AtomicSeat<T>) -> ClosedTable<T>
         requires table { root.table_id ≡ self.table_id }
         ensures counts { (length result.words ≡ self.table_id.words) × (length result.slots ≡ self.table_id.slots) }
@@ -60,7 +60,7 @@ impl<T: Kept> SharedTable<T> {
 }
 
 impl<T: Drop> ClosedTable<T> {
-    /// What lies in the one slot.
+    /// The content of the one slot.
     pub fn into_slot(self) -> Option<MovingBox<T>>
         requires { length self.slots ≡ 1 }
         ensures { get_elem? self.slots 0 ≡ some result }

@@ -1,5 +1,5 @@
-//! What a thread may see of a word outside the steps of its calls. A look is a load from which no proof learns anything, and
-//! which is in no trail. `read_owner` is in its seat's trail.
+//! Loads of a word outside the steps of a call. A *look* is a load from which no proof learns anything, and it is in no trail.
+//! The load of `read_owner` is in its seat's trail.
 ghost use Rattle.std.specs.Prelude.{◌≡◌, ◌<◌};
 ghost use Rattle.atomic_table.specs.Table.{Allows};
 ghost use Rattle.lfm_table.specs.Rule.{Held, ReadsOwner};
@@ -10,7 +10,7 @@ use crate::rule::OwnerRead;
 use crate::shared_table::{AtomicSeat, SharedTable};
 
 impl<T: Kept> SharedTable<T> {
-    /// What one look finds at the count.
+    /// Looks at the count.
     #[inline(always)]
     pub fn look_at_count(&self) -> u64
         requires { 0 < self.now.table_id.words }
@@ -18,7 +18,7 @@ impl<T: Kept> SharedTable<T> {
         self.peek(COUNT)
     }
 
-    /// What one look finds at the owner word.
+    /// Looks at the owner word.
     #[inline(always)]
     pub fn look_at_owner(&self) -> u64
         requires { 1 < self.now.table_id.words }
@@ -26,7 +26,7 @@ impl<T: Kept> SharedTable<T> {
         self.peek(OWNER)
     }
 
-    /// What one look finds at this wake word.
+    /// Looks at this wake word.
     #[inline(always)]
     pub fn look_at_wake(&self, word: usize) -> u64
         requires { word < self.now.table_id.words }
@@ -34,7 +34,7 @@ impl<T: Kept> SharedTable<T> {
         self.peek(word)
     }
 
-    /// What one load finds at the owner word.
+    /// Loads the owner word.
     #[inline(always)]
     pub fn read_owner(&self, place: &mut AtomicSeat<T>) -> u64
         requires table { (place.old.table_id ≡ self.now.table_id) × (1 < self.now.table_id.words) }

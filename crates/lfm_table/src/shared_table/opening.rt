@@ -1,4 +1,4 @@
-//! How a table begins: its first seat, and the seats that are split off it.
+//! Opening a table: its first seat, and the seats that are split off it.
 ghost use Rattle.std.specs.Prelude.{◌≡◌, ◌<◌, [], length, IfOk};
 ghost use Rattle.atomic_table.specs.Table.{opening, Splits};
 ghost use Rattle.lfm_table.specs.Rule.{Held, first_view, split_view, with_split};
@@ -11,8 +11,8 @@ use atomic_table::Table;
 use std::alloc::{AllocError, Global};
 
 impl<T: Kept> SharedTable<T> {
-    /// A table of these words and slots, which keep the rule, and its first seat. What lies in the slots is dropped if there is
-    /// no memory.
+    /// A table of these words and slots, which keep the rule, and its first seat. If there is no memory, the content of the
+    /// slots is dropped.
     pub fn new(
         alloc: Global,
         words: &[u64],
@@ -29,7 +29,7 @@ impl<T: Kept> SharedTable<T> {
         }
     }
 
-    /// Splits the next seat off seat 1. The kit's split loads a word, which is not used.
+    /// Splits the next seat off seat 1. The split of `atomic_table` loads a word, and the result is not used.
     pub fn split_seat(&self, root: &mut AtomicSeat<T>) -> AtomicSeat<T>
         requires table { (root.old.table_id ≡ self.now.table_id) × (0 < self.now.table_id.words) }
         requires allowed { Splits (Held T.follows T.fits) root.old.id root.old.me.0 (with_split root.old.me.0) (split_view root.old.me.0) }

@@ -1,4 +1,4 @@
--- It owns nothing, so it may go to another thread.
+-- The type owns nothing, so its values may move to another thread.
 use denote.Param.Send.{IsSend, owning_send, sendable}
 use Rattle.lfm_table.specs.contracts.woken.Woken.{the_row, the_type}
 

@@ -1,4 +1,4 @@
--- It owns nothing, so threads may share it.
+-- The type owns nothing, so threads may share its values.
 use denote.Param.Send.{IsSync, cell_keyless}
 use denote.Memory.{part_of, raw_all}
 use Rattle.lfm_table.specs.contracts.woken.Woken.{the_row}

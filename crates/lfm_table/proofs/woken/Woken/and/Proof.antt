@@ -1,4 +1,4 @@
--- `and` makes a value of no bytes, at the list with the seat of the wake-up behind the rest.
+-- `and` makes a value of no bytes for the list with the seat of the wake-up added at the end.
 use mathlib.Core.Path.{refl}
 use mathlib.Core.List.{[], ◌∷◌, ◌++◌}
 use seplogic.Ra.Ura.{Ura}

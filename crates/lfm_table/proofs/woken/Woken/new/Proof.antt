@@ -1,4 +1,4 @@
--- `new` makes a value of no bytes, at the empty list.
+-- `new` makes a value of no bytes that stands for the empty list.
 use mathlib.Core.Path.{refl}
 use Rattle.lfm_table.specs.declared.woken.Woken.{Woken}
 use mathlib.Core.List.{[], ◌∷◌}

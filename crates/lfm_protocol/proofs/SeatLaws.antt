@@ -1,9 +1,9 @@
--- Reads and writes of a seat and its words by the seat's number.
+-- Reads and writes of a seat and its words, by the seat's number.
 use Rattle.std.proofs.Common.{◌≡◌, ℕ, zero, suc, ◌+◌, ◌-◌, ◌<◌, ◌≤◌, ◌&&◌, false, nat_lt, List, length, get_or, set, refl, sym, ap, ◌∙◌, arith, tests}
 use Rattle.std.proofs.lemmas.List.{get_or_read, get_or_past}
 use Rattle.lfm_protocol.specs.Seats.{entry, with_entry}
 
--- what indexing gives is the entry
+-- reading by index gives the entry
 pub entry_read : {A : Type 0} (d : A) (xs : List A) (s : ℕ) (x : A) → 0 < s → s ≤ length xs → x ≡ get_or xs (s - 1) x → x ≡ entry d xs s
 unfolding entry
 entry_read d xs zero x above within read = absurd (omega arith)
@@ -17,7 +17,7 @@ unfolding with_entry
 with_entry_at xs zero x above = absurd (omega arith)
 with_entry_at xs (suc n) x above = let same : suc n - 1 ≡ n = omega arith in ap (λ k. set xs k x) same
 
--- no seat has a number that is 0 or past the last
+-- no seat has the number 0 or a number past the last
 pub entry_absent : {A : Type 0} (d : A) (xs : List A) (s : ℕ) → (nat_lt 0 s && nat_lt s (length xs + 1)) ≡ false → d ≡ entry d xs s
 unfolding entry
 entry_absent d xs zero none = refl

@@ -1,4 +1,4 @@
--- What a seat becomes by one atomic step: one function for each kind, of the seat and of what the step found.
+-- What a seat becomes by one atomic step: one function for each kind, of the seat's data and of what the step found.
 use Rattle.std.specs.Prelude.{ℕ, ◌+◌, ◌-◌, Bool, true, false, ◌&&◌, Option, Some, None, nat_eq, if◌then◌else◌}
 use Rattle.lfm_protocol.specs.declared.answers.Answer.{Answer}
 use Rattle.lfm_protocol.specs.declared.answers.Answer.TheVariants.{Sent, Waiting, Got}
@@ -41,13 +41,13 @@ same_link a b = nat_eq a.stamp b.stamp && nat_eq a.next b.next
 abbrev pub same_handoff : Handoff → Handoff → Bool
 same_handoff a b = nat_eq a.seat b.seat && nat_eq a.post b.post
 
--- What several steps share
+-- What several kinds of steps share
 
 -- the seat with one hold more
 abbrev pub deepens : SeatState → SeatState
 deepens x = record x { point = Rest; depth = x.depth + 1 }
 
--- the seat goes to sleep with its record queued or granted
+-- the seat goes to sleep; its record is queued or was already granted
 abbrev pub sleeps : SeatState → Stepped
 sleeps x =
     record {
@@ -55,7 +55,7 @@ sleeps x =
       turn = Ended (Answer.Asked Asked.Asleep);
     }
 
--- the seat gives its charge back
+-- the call is refused as Busy, and the seat gives its charge back
 abbrev pub busy : SeatState → Stepped
 busy x =
     record {
@@ -68,7 +68,7 @@ abbrev pub releases : SeatState → Releaser → Unlocked → Stepped
 releases x Unlocker answer = ends x (Answer.Unlocked answer)
 releases x Waiter answer = goes_on x (WaitWakeStore answer)
 
--- the seat has pushed a record, and another seat has the responsibility
+-- the seat has pushed a record, and another party has the responsibility
 abbrev pub pushed : SeatState → Pusher → Stepped
 pushed x Pusher.Locker = sleeps x
 pushed x (Pusher.Sender t) = ends x Sent
@@ -80,12 +80,12 @@ granted x (Carrier.Releaser releaser) oldest = releases x releaser (Granted olde
 granted x (Carrier.Reclaimer releaser) oldest = releases x releaser (Granted oldest.seat)
 granted x Carrier.Sender oldest = ends x Sent
 
--- the point of a pusher that has found this handoff posted
+-- the point of a pusher that found this post
 abbrev pub found_posted : Pusher → Handoff → Point
 found_posted Pusher.Locker found = PushedHandoffExchange Pusher.Locker found
 found_posted (Pusher.Sender t) found = SendPushRecheck t found
 
--- what a pusher carries the responsibility as
+-- the carrier that a pusher becomes
 abbrev pub carrier_of : Pusher → Carrier
 carrier_of Pusher.Locker = Carrier.Locker
 carrier_of (Pusher.Sender t) = Carrier.Sender
@@ -101,24 +101,25 @@ abbrev pub take : Carrier → ℕ → Option Record → Point
 take carrier s None = TakeClearHead carrier
 take carrier s (Some oldest) = serves carrier s oldest
 
--- the point of the carrier that has cleared a push list of this head
+-- the point of a carrier after it cleared a push list with this head
 abbrev pub once_cleared : Carrier → ℕ → Point
 once_cleared (Carrier.Releaser releaser) head = if nat_eq head 0 then ReleaseHandoffStore releaser else TakeLinkLoad (Carrier.Releaser releaser) head
 once_cleared carrier head = TakeLinkLoad carrier head
 
--- the answer of a call that has come to hold
+-- the answer of a call whose seat holds now
 abbrev pub held : Entrant → How → Answer
 held Entrant.Locker how = Answer.Asked (Asked.Held how)
 held Trier how = Answer.Locked (Locked.Held how)
 held Receiver how = Got (Some how)
 
--- whether a store at this point takes the oldest record out of the pop list: a locker's own, or the one that it grants
+-- whether a store at this point takes the oldest record out of the pop list: a locker's own record, or the record that is
+-- granted
 abbrev pub drops_oldest_at : Point → Bool
 drops_oldest_at (EnterOwnerStore Entrant.Locker (Queued stamp)) = true
 drops_oldest_at (GrantWakeStore carrier oldest) = true
 drops_oldest_at _ = false
 
--- the same of a seat
+-- the same for a seat
 abbrev pub drops_oldest : SeatState → Bool
 drops_oldest x = drops_oldest_at x.point
 
@@ -126,8 +127,7 @@ drops_oldest x = drops_oldest_at x.point
 abbrev pub how_granted : ℕ → How
 how_granted stamp = if nat_eq stamp 0 then How.Free else Queued stamp
 
--- The kinds: the seat after the step that is named. Each has a form over the point, and at a point of another kind it
--- is idle.
+-- The kinds: the seat after the step that is named. Each has a form over the point, which is idle at a point of another kind.
 
 -- the count word was exchanged from 0 to 1, or another count was found
 abbrev pub after_count_exchange_at : SeatState → ℕ → Point → Stepped
@@ -138,7 +138,7 @@ after_count_exchange_at x found _ = idle x
 abbrev pub after_count_exchange : SeatState → ℕ → Stepped
 after_count_exchange x found = after_count_exchange_at x found x.point
 
--- 1 was added to the count word, which held what was found
+-- 1 was added to the count word, which was `found` before
 abbrev pub after_count_add_at : SeatState → ℕ → Point → Stepped
 after_count_add_at x found LockCountAdd =
     goes_on x (if nat_eq found 0 then EnterOwnerStore Entrant.Locker How.Free else LockOwnerLoad)
@@ -150,7 +150,7 @@ after_count_add_at x found _ = idle x
 abbrev pub after_count_add : SeatState → ℕ → Stepped
 after_count_add x found = after_count_add_at x found x.point
 
--- 1 was subtracted from the count word, which held what was found; oldest is the first record of the pop list
+-- 1 was subtracted from the count word, which was `found` before; oldest is the first record of the pop list
 abbrev pub after_count_subtract_at : SeatState → ℕ → ℕ → Option Record → Point → Stepped
 after_count_subtract_at x s found oldest LockCountSubtract =
     record { seat = deepens x; turn = Ended (Answer.Asked (Asked.Again (x.depth + 1))) }
@@ -177,7 +177,7 @@ after_owner_load_at x s found _ = idle x
 abbrev pub after_owner_load : SeatState → ℕ → ℕ → Stepped
 after_owner_load x s found = after_owner_load_at x s found x.point
 
--- the owner word was stored
+-- a number was stored in the owner word
 abbrev pub after_owner_store_at : SeatState → Point → Stepped
 after_owner_store_at x (EnterOwnerStore entrant how) =
     record { seat = record x { point = Rest; depth = 1 }; turn = Ended (held entrant how) }
@@ -200,7 +200,7 @@ after_push_load_at x found _ = idle x
 abbrev pub after_push_load : SeatState → Link → Stepped
 after_push_load x found = after_push_load_at x found x.point
 
--- the push word was exchanged, or was found to differ
+-- the push word was exchanged, or another push word was found
 abbrev pub after_push_exchange_at : SeatState → Link → Point → Stepped
 after_push_exchange_at x found (PushExchange pusher seen) =
     goes_on x (if same_link found seen then PushedHandoffLoad pusher else LinkStore pusher found)
@@ -217,7 +217,7 @@ after_clear_head_at x found _ = idle x
 abbrev pub after_clear_head : SeatState → Link → Stepped
 after_clear_head x found = after_clear_head_at x found x.point
 
--- the record whose link was loaded, the last one being the oldest
+-- the record of seat t, whose link was loaded
 abbrev pub loaded : ℕ → Link → Record
 loaded t found = record { seat = t; stamp = found.stamp }
 
@@ -230,7 +230,7 @@ after_link_load_at x s found _ = idle x
 abbrev pub after_link_load : SeatState → ℕ → Link → Stepped
 after_link_load x s found = after_link_load_at x s found x.point
 
--- the link word of the target was stored
+-- a link was stored in the link word of the target
 abbrev pub after_link_store_at : SeatState → Point → Stepped
 after_link_store_at x (LinkStore pusher seen) = goes_on x (PushExchange pusher seen)
 after_link_store_at x _ = idle x
@@ -249,7 +249,7 @@ after_handoff_load_at x found _ = idle x
 abbrev pub after_handoff_load : SeatState → Handoff → Stepped
 after_handoff_load x found = after_handoff_load_at x found x.point
 
--- the handoff word was stored
+-- a post was stored in the handoff word
 abbrev pub after_handoff_store_at : SeatState → Point → Stepped
 after_handoff_store_at x (ReleaseHandoffStore releaser) =
     record { seat = record x { point = ReleasePushRecheck releaser; posts = x.posts + 1 }; turn = Open }
@@ -258,7 +258,7 @@ after_handoff_store_at x _ = idle x
 abbrev pub after_handoff_store : SeatState → Stepped
 after_handoff_store x = after_handoff_store_at x x.point
 
--- the handoff word was exchanged to 0, or was found to differ; oldest is the first record of the pop list
+-- the handoff word was exchanged to 0, or another post was found; oldest is the first record of the pop list
 abbrev pub after_handoff_exchange_at : SeatState → ℕ → Bool → Option Record → Point → Stepped
 after_handoff_exchange_at x s succeeded oldest (PushedHandoffExchange pusher seen) =
     if succeeded then goes_on x (take (carrier_of pusher) s oldest) else pushed x pusher
@@ -272,7 +272,7 @@ abbrev pub after_handoff_exchange : SeatState → ℕ → Handoff → Option Rec
 after_handoff_exchange x s found oldest =
     after_handoff_exchange_at x s (same_handoff found (expected_handoff x s)) oldest x.point
 
--- the sleeper of a receive has found this wake word
+-- a receive of this sleeper found this wake word
 abbrev pub receives : SeatState → Sleeper → Wake → Stepped
 receives x sleeper (Grant stamp) = goes_on x (ReceiveWakeStore stamp)
 receives x sleeper _ = record { seat = record x { point = Asleep sleeper }; turn = Ended (Got None) }
@@ -285,7 +285,7 @@ after_wake_load_at x found _ = idle x
 abbrev pub after_wake_load : SeatState → Wake → Stepped
 after_wake_load x found = after_wake_load_at x found x.point
 
--- the wake word of the target was stored
+-- a state was stored in the wake word of the target
 abbrev pub after_wake_store_at : SeatState → Point → Stepped
 after_wake_store_at x (GrantWakeStore carrier oldest) = granted x carrier oldest
 after_wake_store_at x (SendWakeStore t) = ends x Sent
@@ -297,12 +297,12 @@ after_wake_store_at x _ = idle x
 abbrev pub after_wake_store : SeatState → Stepped
 after_wake_store x = after_wake_store_at x x.point
 
--- the sender has found this wake word of its target
+-- the sender found this wake word of its target
 abbrev pub claims : SeatState → ℕ → Wake → Stepped
 claims x t Wake.Waiting = goes_on x (SendCountAdd t)
 claims x t _ = record { seat = record x { point = Rest }; turn = Refused (By NotWaiting) }
 
--- the wake word of the target was exchanged from WAITING to CLAIMED, or was found to differ
+-- the wake word of the target was exchanged from WAITING to CLAIMED, or another state was found
 abbrev pub after_wake_exchange_at : SeatState → Wake → Point → Stepped
 after_wake_exchange_at x found (SendWakeExchange t) = claims x t found
 after_wake_exchange_at x found _ = idle x

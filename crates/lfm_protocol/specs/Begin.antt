@@ -1,4 +1,4 @@
--- What a seat becomes by beginning a call: what is tested, in order, what is charged, and where the call starts.
+-- What a seat becomes when a call starts: what is tested, in order, what is charged, and the first point.
 use Rattle.std.specs.Prelude.{ℕ, ◌+◌, ◌-◌, ◌&&◌, nat_eq, nat_lt, if◌then◌else◌}
 use Rattle.lfm_protocol.specs.declared.answers.Answer.{Answer}
 use Rattle.lfm_protocol.specs.declared.answers.Answer.TheVariants.{Unlocked}
@@ -17,12 +17,12 @@ use Rattle.lfm_protocol.specs.declared.limits.Limits.{Limits}
 use Rattle.lfm_protocol.specs.declared.seats.SeatState.{SeatState}
 
 -- seat: the data of a seat after a turn
--- turn: what the turn answered
+-- turn: the result of the turn
 pub record Stepped : Type 0 where
   pub seat : SeatState
   pub turn : Turn
 
--- the seat goes on from this point
+-- the seat continues at this point
 abbrev pub goes_on : SeatState → Point → Stepped
 goes_on x p = record { seat = record x { point = p }; turn = Open }
 
@@ -30,11 +30,11 @@ goes_on x p = record { seat = record x { point = p }; turn = Open }
 abbrev pub ends : SeatState → Answer → Stepped
 ends x answer = record { seat = record x { point = Rest }; turn = Ended answer }
 
--- the seat stays as it is
+-- the seat does not change
 abbrev pub refuses : SeatState → Refusal → Stepped
 refuses x refusal = record { seat = x; turn = Refused (By refusal) }
 
--- the seat charges a take and goes on from this point
+-- the seat charges a take and continues at this point
 abbrev pub charges : SeatState → ℕ → Point → Stepped
 charges x budget p =
     if nat_lt x.takes budget
@@ -44,14 +44,14 @@ charges x budget p =
     }
     else refuses x Refusal.Spent
 
--- a lock or a try_lock, whose first point this is: refused at the greatest depth, 65,535; charged at depth 0 alone
+-- a lock or a try_lock that starts at this point: refused at the greatest depth, 65,535; charged only at depth 0
 abbrev pub begin_entry : SeatState → ℕ → Point → Stepped
 begin_entry x budget p =
     if nat_lt 65534 x.depth
     then refuses x Refusal.DepthFull
     else (if nat_eq x.depth 0 then charges x budget p else goes_on x p)
 
--- an unlock: at a depth above 1 the depth falls and the call has ended
+-- an unlock: at a depth above 1 the depth is reduced by one and the call has ended
 abbrev pub begin_unlock : SeatState → Stepped
 begin_unlock x =
     if nat_eq x.depth 0
@@ -63,7 +63,7 @@ begin_unlock x =
       turn = Ended (Unlocked (Still (x.depth - 1)));
     })
 
--- a start_wait: at depth 1 alone, and charged
+-- a start_wait: only at depth 1, and charged
 abbrev pub begin_wait : SeatState → ℕ → Stepped
 begin_wait x budget =
     if nat_eq x.depth 0
@@ -72,7 +72,7 @@ begin_wait x budget =
     then refuses x Refusal.Nested
     else charges x budget (ReleaseOwnerStore Waiter))
 
--- a send to seat t, of this number of seats: not charged
+-- a send to seat t, in a mutex with this many seats: not charged
 abbrev pub begin_send : SeatState → ℕ → ℕ → Stepped
 begin_send x seats t =
     if nat_lt 0 t && nat_lt t (seats + 1) then goes_on x (SendWakeExchange t) else refuses x Refusal.NoSuchSeat

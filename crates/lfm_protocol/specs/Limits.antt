@@ -1,7 +1,7 @@
--- How many seats a mutex may have, how many takes each may charge, and how deep it may hold.
+-- How many seats a mutex may have, how many takes each may charge, and how often a seat may hold it at once.
 use Rattle.std.specs.Prelude.{ℕ, Bool, ◌&&◌, nat_le}
 
--- the most seats
+-- the greatest number of seats
 abbrev pub max_seats : ℕ
 max_seats = 4095
 
@@ -9,7 +9,7 @@ max_seats = 4095
 abbrev pub max_budget : ℕ
 max_budget = 68719476736
 
--- the most times that a seat may hold at once
+-- the greatest number of times that a seat may hold at once
 abbrev pub max_depth : ℕ
 max_depth = 65535
 

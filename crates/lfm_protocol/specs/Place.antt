@@ -22,7 +22,7 @@ carries (EnterOwnerStore entrant how) = true
 carries (ReceiveWakeStore stamp) = true
 carries _ = false
 
--- a receive at this point has loaded the grant of its wake word
+-- a receive at this point has loaded the grant from its wake word
 abbrev pub has_loaded : Point → Bool
 has_loaded (ReceiveWakeStore stamp) = true
 has_loaded _ = false
@@ -40,7 +40,7 @@ abbrev pub passed_place : Core → Option ℕ → Place
 passed_place c (Some i) = Passed (i + 1)
 passed_place c None = carried_place (position (λ x. carries x.point) c.seats)
 
--- tested in this order: the owner word, the handoff word, grants that are not loaded, calls that carry
+-- the tests in this order: the owner word, the handoff word, grants that are not loaded, calls that carry the responsibility
 abbrev pub place_of : Core → Place
 place_of c =
     if nat_eq c.owner 0

@@ -1,4 +1,4 @@
--- The table of points: the kind of each step, the seat whose word it touches, and the word of each kind.
+-- The table of points: the kind of each step, the seat whose word it accesses, and the word of each kind.
 use Rattle.std.specs.Prelude.{ℕ, Option, Some, None}
 use Rattle.lfm_protocol.specs.declared.kinds.Kind.{Kind}
 use Rattle.lfm_protocol.specs.declared.kinds.Kind.TheVariants.{CountExchange, CountAdd, CountSubtract, OwnerLoad, OwnerStore, ClearHead, LinkLoad, HandoffLoad, HandoffStore, HandoffExchange, WakeLoad, WakeStore, WakeExchange}
@@ -42,12 +42,12 @@ kind (EnterOwnerStore entrant how) = Some OwnerStore
 kind (ReceiveWakeLoad sleeper) = Some WakeLoad
 kind (ReceiveWakeStore stamp) = Some WakeStore
 
--- the seat whose record is pushed by seat s
+-- the seat whose record is pushed by a call of seat s
 abbrev pub pushed_seat : Pusher → ℕ → ℕ
 pushed_seat Locker s = s
 pushed_seat (Sender t) s = t
 
--- the seat whose link or wake word a step of seat s touches; s itself if it touches neither
+-- the seat whose link or wake word a step of seat s accesses; s itself if it accesses neither
 abbrev pub target : Point → ℕ → ℕ
 target (LinkStore pusher seen) s = pushed_seat pusher s
 target (TakeLinkLoad carrier next) s = next
@@ -56,7 +56,7 @@ target (SendWakeExchange t) s = t
 target (SendWakeStore t) s = t
 target _ s = s
 
--- the word that a step of this kind touches, t being its target
+-- the word that a step of this kind with target t accesses
 abbrev pub word : Kind → ℕ → Word
 word CountExchange t = Word.Count
 word CountAdd t = Word.Count

@@ -1,4 +1,4 @@
--- The seats of a state and their words, by the seats' numbers, which begin at 1.
+-- The seats of a state and their words, by the seats' numbers, which start at 1.
 use Rattle.std.specs.Prelude.{ℕ, zero, suc, Bool, ◌+◌, ◌<◌, ◌≤◌, ◌&&◌, List, length, nat_lt, slice_index_or, slice_set}
 use Rattle.lfm_protocol.specs.declared.points.Point.TheVariants.{Rest}
 use Rattle.lfm_protocol.specs.declared.seats.SeatState.{SeatState}
@@ -12,12 +12,12 @@ unfoldable pub entry : {A : Type 0} → A → List A → ℕ → A
 entry d entries zero = d
 entry d entries (suc n) = slice_index_or entries n d
 
--- the entries, that of the seat with this number being x
+-- the entries after the entry of the seat with this number became x
 unfoldable pub with_entry : {A : Type 0} → List A → ℕ → A → List A
 with_entry entries zero x = entries
 with_entry entries (suc n) x = slice_set entries n x
 
--- a seat at the start, and what is read at a number that no seat has
+-- a seat at the start; also the value for a number that no seat has
 abbrev pub absent : SeatState
 absent = record { depth = 0; takes = 0; posts = 0; point = Rest }
 
@@ -47,6 +47,6 @@ pub record IsSeat (seats : List SeatState) (s : ℕ) : Type 0 where
   pub above : 0 < s
   pub within : s ≤ length seats
 
--- the same as a test
+-- the same as a Boolean
 abbrev pub is_seat : List SeatState → ℕ → Bool
 is_seat seats s = nat_lt 0 s && nat_lt s (length seats + 1)

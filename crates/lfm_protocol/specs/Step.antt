@@ -1,4 +1,4 @@
--- The turns of a whole state: the operation of the kind on its word, then the seat's own step.
+-- The turns of a whole state: the operation of the kind on its word, followed by the seat's own step.
 use Rattle.std.specs.Prelude.{ℕ, ◌+◌, ◌-◌, Option, Some, None, [], replicate, nat_eq, if◌then◌else◌}
 use Rattle.lfm_protocol.specs.declared.answers.Call.{Call}
 use Rattle.lfm_protocol.specs.declared.answers.Why.TheVariants.{NoSuchSeat, Idle}
@@ -14,7 +14,7 @@ use Rattle.lfm_words.specs.Popped.{oldest}
 use Rattle.lfm_protocol.specs.Seats.{seat, link, wake, absent, no_link, unposted, is_seat}
 use Rattle.lfm_protocol.specs.Stores.{stored_owner, stored_link, expected_push, exchanged_push, stored_handoff, expected_handoff, stored_wake}
 
--- The kinds: one step of seat s, t being the seat whose link or wake word is touched
+-- The kinds: one step of seat s, where t is the seat whose link or wake word is accessed
 
 abbrev pub count_exchange : Core → ℕ → Moved
 count_exchange c s =
@@ -74,7 +74,7 @@ wake_store_to c s t =
     moves (drops_if (put_wake c t (stored_wake (seat c.seats s))) (drops_oldest (seat c.seats s))) s
     (after_wake_store (seat c.seats s))
 
--- the wake word of seat t, found to be this, after an exchange of WAITING to CLAIMED
+-- the state after a compare-and-exchange of the wake word of seat t from WAITING to CLAIMED, which found this state
 abbrev pub claims_word : Core → ℕ → Wake → Core
 claims_word c t Waiting = put_wake c t Claimed
 claims_word c t _ = c
@@ -83,7 +83,7 @@ abbrev pub wake_exchange_of : Core → ℕ → ℕ → Moved
 wake_exchange_of c s t =
     moves (claims_word c t (wake c.wakes t)) s (after_wake_exchange (seat c.seats s) (wake c.wakes t))
 
--- a step of this kind, t being its target
+-- a step of this kind with target t
 abbrev pub step_of : Core → ℕ → ℕ → Option Kind → Moved
 step_of c s t None = refused c Idle
 step_of c s t (Some Kind.CountExchange) = count_exchange c s
@@ -103,15 +103,15 @@ step_of c s t (Some Kind.WakeLoad) = wake_load_of c s t
 step_of c s t (Some Kind.WakeStore) = wake_store_to c s t
 step_of c s t (Some Kind.WakeExchange) = wake_exchange_of c s t
 
--- seat s has made the step at its point
+-- the step of seat s at its point
 abbrev pub made : Core → ℕ → Moved
 made c s = step_of c s (target (seat c.seats s).point s) (kind (seat c.seats s).point)
 
--- the turn of seat s
+-- the step of number s, refused if no seat has this number
 abbrev pub step : Core → ℕ → Moved
 step c s = if is_seat c.seats s then made c s else refused c NoSuchSeat
 
--- seat s begins a call
+-- seat s starts a call
 abbrev pub begin : Core → ℕ → Call → Moved
 begin c s call =
     if is_seat c.seats s then moves c s (Begin.begin (seat c.seats s) (limits c) call) else refused c NoSuchSeat

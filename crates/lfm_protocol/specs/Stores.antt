@@ -1,5 +1,5 @@
 -- What a storing step writes and what an exchange expects: functions of the seat's data and number alone.
--- Each has a form over the point. At a point of another kind it is what means none.
+-- Each has a form over the point. At a point of another kind its value is the one that means none.
 use Rattle.std.specs.Prelude.{ℕ, ◌+◌}
 use Rattle.lfm_protocol.specs.declared.points.Point.{Point}
 use Rattle.lfm_protocol.specs.declared.points.Point.TheVariants.{LinkStore, PushExchange, PushedHandoffExchange, TryHandoffExchange, ReleaseHandoffStore, ReleaseHandoffExchange, GrantWakeStore, SendWakeStore, WaitWakeStore, EnterOwnerStore}
@@ -11,7 +11,7 @@ use Rattle.lfm_words.specs.declared.wakes.Wake.TheVariants.{Quiet, Waiting, Gran
 use Rattle.lfm_protocol.specs.Points.{pushed_seat}
 use Rattle.lfm_protocol.specs.Seats.{no_link, unposted}
 
--- what an owner store of seat s writes
+-- the value of an owner store of seat s
 abbrev pub stored_owner_at : ℕ → Point → ℕ
 stored_owner_at s (EnterOwnerStore entrant how) = s
 stored_owner_at s _ = 0
@@ -19,7 +19,7 @@ stored_owner_at s _ = 0
 abbrev pub stored_owner : SeatState → ℕ → ℕ
 stored_owner x s = stored_owner_at s x.point
 
--- what a link store writes: one stamp more than was seen, and the head that was seen
+-- the value of a link store: the stamp that was loaded plus 1, and the head that was loaded
 abbrev pub stored_link_at : Point → Link
 stored_link_at (LinkStore pusher seen) = record { stamp = seen.stamp + 1; next = seen.next }
 stored_link_at _ = no_link
@@ -27,7 +27,7 @@ stored_link_at _ = no_link
 abbrev pub stored_link : SeatState → Link
 stored_link x = stored_link_at x.point
 
--- what a push exchange expects: the push word that was seen
+-- the value that a push exchange expects: the push word that was loaded
 abbrev pub expected_push_at : Point → Link
 expected_push_at (PushExchange pusher seen) = seen
 expected_push_at _ = no_link
@@ -35,7 +35,7 @@ expected_push_at _ = no_link
 abbrev pub expected_push : SeatState → Link
 expected_push x = expected_push_at x.point
 
--- what a push exchange of seat s writes: one stamp more than was seen, and the pushed seat
+-- the value of a push exchange of seat s: the stamp that was loaded plus 1, and the pushed seat
 abbrev pub exchanged_push_at : ℕ → Point → Link
 exchanged_push_at s (PushExchange pusher seen) = record { stamp = seen.stamp + 1; next = pushed_seat pusher s }
 exchanged_push_at s _ = no_link
@@ -43,7 +43,7 @@ exchanged_push_at s _ = no_link
 abbrev pub exchanged_push : SeatState → ℕ → Link
 exchanged_push x s = exchanged_push_at s x.point
 
--- what a handoff store of seat s writes: its number after the last
+-- the value of a handoff store of seat s: its next post
 abbrev pub stored_handoff_at : SeatState → ℕ → Point → Handoff
 stored_handoff_at x s (ReleaseHandoffStore releaser) = record { seat = s; post = x.posts + 1 }
 stored_handoff_at x s _ = unposted
@@ -51,7 +51,7 @@ stored_handoff_at x s _ = unposted
 abbrev pub stored_handoff : SeatState → ℕ → Handoff
 stored_handoff x s = stored_handoff_at x s x.point
 
--- what a handoff exchange of seat s expects: the number that was loaded, or its own last one
+-- the value that a handoff exchange of seat s expects: the post that was loaded, or its own last post
 abbrev pub expected_handoff_at : SeatState → ℕ → Point → Handoff
 expected_handoff_at x s (PushedHandoffExchange pusher seen) = seen
 expected_handoff_at x s (TryHandoffExchange seen) = seen
@@ -61,7 +61,7 @@ expected_handoff_at x s _ = unposted
 abbrev pub expected_handoff : SeatState → ℕ → Handoff
 expected_handoff x s = expected_handoff_at x s x.point
 
--- what a wake store writes: a grant, WAITING or QUIET
+-- the value of a wake store: a grant, WAITING or QUIET
 abbrev pub stored_wake_at : Point → Wake
 stored_wake_at (GrantWakeStore carrier oldest) = Grant oldest.stamp
 stored_wake_at (SendWakeStore t) = Grant 0

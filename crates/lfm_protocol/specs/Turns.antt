@@ -4,7 +4,7 @@ use Rattle.lfm_protocol.specs.declared.answers.Turn.{Turn}
 use Rattle.lfm_protocol.specs.declared.answers.Turn.TheVariants.{Open, Ended, Refused}
 use Rattle.lfm_protocol.specs.Core.{Core}
 
--- the call goes on
+-- the call is still open
 abbrev pub is_open : Turn → Bool
 is_open Open = true
 is_open (Ended answer) = false
@@ -16,6 +16,6 @@ is_refused Open = false
 is_refused (Ended answer) = false
 is_refused (Refused why) = true
 
--- as many steps as a call may need while no other seat makes a step: the longest follows the links of all seats
+-- the most steps that a call may need while no other seat makes a step: the longest call follows the links of all seats
 abbrev pub longest_call : Core → ℕ
 longest_call c = length c.seats + 16

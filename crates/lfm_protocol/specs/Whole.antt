@@ -1,4 +1,4 @@
--- What the type of a stepped mutex keeps of its parts, whatever its calls and steps do: their sizes alone.
+-- What the type of a stepped mutex guarantees of its parts, whatever calls and steps are made: their sizes alone.
 use Rattle.std.specs.Prelude.{ℕ, ◌≡◌, ◌≤◌, List, length}
 use Rattle.lfm_protocol.specs.declared.seats.SeatState.{SeatState}
 use Rattle.lfm_protocol.specs.Limits.{max_seats}

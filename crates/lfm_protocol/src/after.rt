@@ -1,6 +1,6 @@
-//! How each kind of atomic step moves a seat on, by what the step found in its word. There is one method for each kind, for
-//! stepped and running mutexes alike; the word itself is the caller's. At a point of another kind each method refuses as Idle
-//! and leaves the seat as it is.
+//! How each kind of atomic step advances a seat, given what the step found in its word. There is one method for each kind, for
+//! stepped and running mutexes. The caller performs the operation on the word. At a point of another kind each method refuses
+//! as Idle and leaves the seat unchanged.
 ghost use Rattle.std.specs.Prelude.{◌≡◌, ◌+◌, ◌^◌, ◌<◌};
 ghost use Rattle.lfm_protocol.specs.After.{
   after_count_exchange,
@@ -35,9 +35,9 @@ use crate::seats::SeatState;
 use lfm_model::{Asked, How, Locked, Refusal, SeatNo, Unlocked};
 use lfm_words::{Handoff, Link, Record, Wake};
 
-/// The ends that several steps share.
+/// How a call ends, in the cases that several steps share.
 impl SeatState {
-    /// Deepens the hold by one, comes to rest, and returns the depth.
+    /// Adds a hold, ends the call, and returns the new depth.
     fn deepen(&mut self) -> u32
         requires { self.old.depth + 1 < 2 ^ 32 }
         ensures seat { self.new ≡ deepens self.old }
@@ -68,7 +68,7 @@ impl SeatState {
         Turn::refused(Refusal::Busy)
     }
 
-    /// Ends the release with this answer. An `unlock` has ended; a `start_wait` has its last step before it.
+    /// Ends the release with this answer. An `unlock` ends here; a `start_wait` has one more step.
     fn finish_release(&mut self, releaser: Releaser, answer: Unlocked) -> Turn
         ensures seat { self.new ≡ (releases self.old releaser answer).seat }
         ensures turn { result ≡ (releases self.old releaser answer).turn }
@@ -79,7 +79,7 @@ impl SeatState {
         }
     }
 
-    /// Ends a push after which the responsibility lies with somebody else. A locker sleeps; a sender has sent.
+    /// Ends a push after which another party has the responsibility. A locker sleeps; a sender has sent.
     fn finish_push(&mut self, pusher: Pusher) -> Turn
         ensures seat { self.new ≡ (pushed self.old pusher).seat }
         ensures turn { result ≡ (pushed self.old pusher).turn }
@@ -90,7 +90,7 @@ impl SeatState {
         }
     }
 
-    /// Ends the grant of the oldest record, by what the carrier's call has still to do.
+    /// Ends the grant of the oldest record, by cases on what the carrier's call still has to do.
     fn finish_grant(&mut self, carrier: Carrier, oldest: Record) -> Turn
         ensures seat { self.new ≡ (granted self.old carrier oldest).seat }
         ensures turn { result ≡ (granted self.old carrier oldest).turn }
@@ -105,9 +105,9 @@ impl SeatState {
     }
 }
 
-/// How each kind of step moves the seat on.
+/// How each kind of step advances the seat.
 impl SeatState {
-    /// After the compare-and-exchange of the count word from 0 to 1, which found this count.
+    /// After the compare-and-exchange of the count word from 0 to 1. It found this count.
     pub fn after_count_exchange(&mut self, found: u64) -> Turn
         ensures seat { self.new ≡ (after_count_exchange self.old found).seat }
         ensures turn { result ≡ (after_count_exchange self.old found).turn }
@@ -122,7 +122,7 @@ impl SeatState {
         }
     }
 
-    /// After an addition of 1 to the count word, which held this before.
+    /// After an addition of 1 to the count word. The count was this before.
     pub fn after_count_add(&mut self, found: u64) -> Turn
         ensures seat { self.new ≡ (after_count_add self.old found).seat }
         ensures turn { result ≡ (after_count_add self.old found).turn }
@@ -140,7 +140,7 @@ impl SeatState {
         }
     }
 
-    /// After a subtraction of 1 from the count word, which held this before. `oldest` is the pop list's oldest record.
+    /// After a subtraction of 1 from the count word. The count was this before. `oldest` is the oldest record of the pop list.
     pub fn after_count_subtract(&mut self, s: u64, found: u64, oldest: Option<Record>) -> Turn
         requires { HasNumbers self.old self.old.point }
         ensures seat { self.new ≡ (after_count_subtract self.old s found oldest).seat }
@@ -159,7 +159,7 @@ impl SeatState {
         }
     }
 
-    /// After a load of the owner word, which held this.
+    /// After a load of the owner word, with the value that it found.
     pub fn after_owner_load(&mut self, s: u64, found: u64) -> Turn
         requires { HasNumbers self.old self.old.point }
         ensures seat { self.new ≡ (after_owner_load self.old s found).seat }
@@ -194,7 +194,7 @@ impl SeatState {
         }
     }
 
-    /// After a load of the push word, which held this.
+    /// After a load of the push word, with the value that it found.
     pub fn after_push_load(&mut self, found: Link) -> Turn
         ensures seat { self.new ≡ (after_push_load self.old found).seat }
         ensures turn { result ≡ (after_push_load self.old found).turn }
@@ -217,7 +217,7 @@ impl SeatState {
         }
     }
 
-    /// After the compare-and-exchange of the push word from `expected_push` to `exchanged_push`, which found this.
+    /// After the compare-and-exchange of the push word from `expected_push` to `exchanged_push`, with the value that it found.
     pub fn after_push_exchange(&mut self, found: Link) -> Turn
         ensures seat { self.new ≡ (after_push_exchange self.old found).seat }
         ensures turn { result ≡ (after_push_exchange self.old found).turn }
@@ -234,7 +234,7 @@ impl SeatState {
         }
     }
 
-    /// After a clear of the head of the push word, which held this before.
+    /// After the head of the push word was cleared. The word held this before.
     pub fn after_clear_head(&mut self, found: Link) -> Turn
         ensures seat { self.new ≡ (after_clear_head self.old found).seat }
         ensures turn { result ≡ (after_clear_head self.old found).turn }
@@ -245,8 +245,8 @@ impl SeatState {
         }
     }
 
-    /// After a load of the link word of the seat at its point, which held this. The record of that seat joins the pop list as
-    /// the oldest.
+    /// After a load of the link word of the seat at its point, with the value that it found. The record of that seat is added
+    /// to the pop list as the oldest.
     pub fn after_link_load(&mut self, s: u64, found: Link) -> Turn
         requires { HasNumbers self.old self.old.point }
         ensures seat { self.new ≡ (after_link_load self.old s found).seat }
@@ -261,7 +261,7 @@ impl SeatState {
         }
     }
 
-    /// After a store of `stored_link` in the link word of the seat that it pushes.
+    /// After a store of `stored_link` in the link word of the seat that is being pushed.
     pub fn after_link_store(&mut self) -> Turn
         ensures seat { self.new ≡ (after_link_store self.old).seat }
         ensures turn { result ≡ (after_link_store self.old).turn }
@@ -272,7 +272,7 @@ impl SeatState {
         }
     }
 
-    /// After a load of the handoff word, which held this.
+    /// After a load of the handoff word, with the value that it found.
     pub fn after_handoff_load(&mut self, found: Handoff) -> Turn
         requires { HasNumbers self.old self.old.point }
         ensures seat { self.new ≡ (after_handoff_load self.old found).seat }
@@ -302,8 +302,8 @@ impl SeatState {
         }
     }
 
-    /// After the compare-and-exchange of the handoff word from `expected_handoff` to none, which found this. `oldest` is the
-    /// pop list's oldest record, which matters only if the exchange succeeded.
+    /// After the compare-and-exchange of the handoff word from `expected_handoff` to none, with the value that it found.
+    /// `oldest` is the oldest record of the pop list; it matters only if the exchange succeeded.
     pub fn after_handoff_exchange(&mut self, s: u64, found: Handoff, oldest: Option<Record>) -> Turn
         requires { HasNumbers self.old self.old.point }
         ensures seat { self.new ≡ (after_handoff_exchange self.old s found oldest).seat }
@@ -328,7 +328,7 @@ impl SeatState {
         }
     }
 
-    /// After a load of its own wake word, which held this.
+    /// After a load of its own wake word, with the value that it found.
     pub fn after_wake_load(&mut self, found: Wake) -> Turn
         ensures seat { self.new ≡ (after_wake_load self.old found).seat }
         ensures turn { result ≡ (after_wake_load self.old found).turn }
@@ -345,7 +345,7 @@ impl SeatState {
         }
     }
 
-    /// After a store of `stored_wake` in the wake word of the seat that its point names.
+    /// After a store of `stored_wake` in the wake word of the point's target.
     pub fn after_wake_store(&mut self) -> Turn
         ensures seat { self.new ≡ (after_wake_store self.old).seat }
         ensures turn { result ≡ (after_wake_store self.old).turn }
@@ -364,7 +364,7 @@ impl SeatState {
         }
     }
 
-    /// After the compare-and-exchange of its target's wake word from WAITING to CLAIMED, which found this state.
+    /// After the compare-and-exchange of its target's wake word from WAITING to CLAIMED, with the state that it found.
     pub fn after_wake_exchange(&mut self, found: Wake) -> Turn
         ensures seat { self.new ≡ (after_wake_exchange self.old found).seat }
         ensures turn { result ≡ (after_wake_exchange self.old found).turn }

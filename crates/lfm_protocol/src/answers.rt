@@ -1,4 +1,4 @@
-//! The calls that a seat may begin, and what a turn returns: the call is open, has ended with an answer, or was refused.
+//! The calls that a seat may start, and what a turn returns: the call is open, has ended with an answer, or was refused.
 ghost use Rattle.std.specs.Prelude.{◌≡◌};
 ghost use Rattle.lfm_protocol.specs.declared.answers.Turn.TheVariants.{Refused};
 ghost use Rattle.lfm_protocol.specs.declared.answers.Why.TheVariants.{By};
@@ -6,54 +6,55 @@ ghost use Rattle.lfm_protocol.specs.Turns.{is_open, is_refused};
 
 use lfm_model::{Asked, How, Locked, Refusal, Unlocked};
 
-/// A call that a seat may begin. None of them sleeps: a seat that has to wait ends its call asleep.
+/// A call that a seat may start. No call makes its thread sleep: if the seat must wait, the call ends with the seat asleep.
 #[derive(Clone, Copy, Debug, PartialEq, Eq)]
 pub enum Call {
-    /// Gains the mutex or deepens the hold; if it can do neither, queues the seat and puts it to sleep.
+    /// Acquires the mutex or adds a hold; if neither is possible, queues the seat and puts it to sleep.
     Lock,
-    /// Gains the mutex or deepens the hold; if it can do neither, is refused as Busy.
+    /// Acquires the mutex or adds a hold; if neither is possible, is refused as Busy.
     TryLock,
-    /// Gives up one hold. At depth 1 this releases the mutex, and may wake the seat that comes next.
+    /// Gives up one hold. At depth 1 this releases the mutex, and may grant it to the next seat.
     Unlock,
     /// Releases the mutex at depth 1 and puts the seat to sleep until a `SendLock` names it.
     StartWait,
-    /// Queues the seat with this number, which `StartWait` has put to sleep, or grants it the mutex if that is free.
+    /// Queues the seat with this number, which `StartWait` has put to sleep; or grants it the mutex if the mutex is free.
     SendLock(u64),
-    /// Loads once whether the sleeping seat was granted the mutex. With a grant it wakes and holds.
+    /// Loads the sleeping seat's wake word once. If it finds a grant, the seat wakes up and holds the mutex.
     Receive,
 }
 
-/// What a call returns that has ended without a refusal.
+/// What a call that was not refused returns at its end.
 #[derive(Clone, Copy, Debug, PartialEq, Eq)]
 pub enum Answer {
-    /// Of `Lock`.
+    /// For `Lock`.
     Asked(Asked),
-    /// Of `TryLock`.
+    /// For `TryLock`.
     Locked(Locked),
-    /// Of `Unlock`.
+    /// For `Unlock`.
     Unlocked(Unlocked),
-    /// Of `StartWait`: the seat sleeps. The payload is what an `Unlock` in its place would have answered.
+    /// For `StartWait`: the seat sleeps. The payload is the answer that an `Unlock` would have had.
     Waiting(Unlocked),
-    /// Of `Receive`: how the seat gained the mutex, which it holds at depth 1. None if it found no grant and sleeps on.
+    /// For `Receive`: how the seat acquired the mutex, which it holds at depth 1. None if it found no grant; the seat then
+    /// stays asleep.
     Got(Option<How>),
-    /// Of `SendLock`: the target has the mutex granted or its record queued.
+    /// For `SendLock`: the target has been granted the mutex, or its record is queued.
     Sent,
 }
 
-/// Why a turn is refused. Causes are tested from the top to the bottom of this list, so the first that applies is returned.
+/// Why a turn is refused. The causes are tested in the order of this list, and the first that applies is returned.
 #[derive(Clone, Copy, Debug, PartialEq, Eq)]
 pub enum Why {
     /// No seat of the mutex has the number of the turn.
     NoSuchSeat,
-    /// The seat cannot begin a call, since an earlier one is still open.
+    /// The seat cannot start a call, since an earlier one is still open.
     InCall,
-    /// The seat cannot make a step, since none of its calls is open or the step is not the one at its point.
+    /// The seat cannot make a step, since no call of it is open or the step is not the one at its point.
     Idle,
-    /// The call itself refuses, for this cause.
+    /// The call itself is refused, for this cause.
     By(Refusal),
 }
 
-/// What a turn returns: a turn begins a call or makes one atomic step.
+/// What a turn returns: a turn starts a call or makes one atomic step.
 #[derive(Clone, Copy, Debug, PartialEq, Eq)]
 pub enum Turn {
     /// The call is open: the seat has a step to make.
@@ -65,7 +66,7 @@ pub enum Turn {
 }
 
 impl Turn {
-    /// The turn that a call refuses for this cause.
+    /// The turn of a call that is refused for this cause.
     pub fn refused(refusal: Refusal) -> Turn
         ensures { result ≡ Refused (By refusal) }
     {

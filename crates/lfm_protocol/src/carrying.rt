@@ -1,5 +1,5 @@
 //! The points of a call that carries the responsibility or is about to gain it: which record it serves, and what it does if
-//! there is none. Nothing here changes a seat.
+//! there is none. No function here changes a seat.
 ghost use Rattle.std.specs.Prelude.{◌≡◌};
 ghost use Rattle.lfm_protocol.specs.After.{loaded, found_posted, carrier_of, once_cleared, take, serves, held, how_granted};
 
@@ -10,7 +10,7 @@ use lfm_words::{Handoff, Link, Record};
 
 impl Carrier {
     /// The point at which carrier s takes the oldest record: it serves that of the pop list, or clears the push list if the pop
-    /// list has none.
+    /// list is empty.
     pub(crate) fn point_to_take(self, s: u64, oldest: Option<Record>) -> Point
         ensures { result ≡ take self s oldest }
     {
@@ -20,7 +20,8 @@ impl Carrier {
         }
     }
 
-    /// The point at which carrier s serves the oldest record: a locker enters by its own, and any other record is granted.
+    /// The point at which carrier s serves the oldest record: a locker enters by its own record, and any other record is
+    /// granted.
     pub(crate) fn point_to_serve(self, s: u64, oldest: Record) -> Point
         ensures { result ≡ serves self s oldest }
     {
@@ -33,7 +34,7 @@ impl Carrier {
         }
     }
 
-    /// The point after a clear of the push list, which had this head. Only a releaser may find none, and then it posts.
+    /// The point after the push list with this head was cleared. Only a releaser may find an empty list; it then posts.
     pub(crate) fn point_after_clear(self, head: u64) -> Point
         ensures { result ≡ once_cleared self head }
     {
@@ -55,7 +56,7 @@ pub(crate) fn loaded(seat: SeatNo, link: Link) -> Record
 }
 
 impl Pusher {
-    /// The point of a pusher that has found this handoff posted. A sender rechecks the push word before it takes the post over.
+    /// The point of a pusher that found this post. A sender rechecks the push word before it takes the post over.
     pub(crate) fn point_at_post(self, found: Handoff) -> Point
         ensures { result ≡ found_posted self found }
     {
@@ -65,7 +66,7 @@ impl Pusher {
         }
     }
 
-    /// The carrier that a pusher becomes when it takes a posted handoff over.
+    /// The carrier that a pusher becomes when it takes a post over.
     pub(crate) fn carrier(self) -> Carrier
         ensures { result ≡ carrier_of self }
     {
@@ -77,7 +78,7 @@ impl Pusher {
 }
 
 impl Entrant {
-    /// The answer of a call that holds now.
+    /// The answer of a call whose seat holds now.
     pub(crate) fn held(self, how: How) -> Answer
         ensures { result ≡ held self how }
     {

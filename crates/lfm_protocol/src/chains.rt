@@ -10,7 +10,7 @@ use lfm_words::{Link, Record};
 use std::marker::Model;
 
 /// A walk along the links. It ends at a number that no seat has, or after one record for each seat. A contract sees the records
-/// that are left, the next first.
+/// that are left, the next one first.
 #[derive(Drop)]
 pub(crate) struct Chain<'a> {
     links: &'a [Link],
@@ -32,7 +32,7 @@ impl<'a> Model for Chain<'a> {
 }
 
 impl<'a> Chain<'a> {
-    /// The walk from this seat on; 0 is none.
+    /// A walk that starts at this seat; it is empty if the seat is 0.
     pub(crate) fn new(links: &'a [Link], from: u64) -> Chain<'a>
         requires { length links.now ≤ max_seats }
         ensures { result ≡ chain links.now from }
@@ -44,7 +44,7 @@ impl<'a> Chain<'a> {
         }
     }
 
-    /// The next record, one older than the one before.
+    /// Returns the next record, one older than the record before, and moves past it. None at the end.
     pub(crate) fn next(&mut self) -> Option<Record>
         ensures record { result ≡ oldest self.old }
         ensures left { self.new ≡ drop 1 self.old }

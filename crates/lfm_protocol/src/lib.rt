@@ -1,6 +1,6 @@
-//! The protocol: the calls, their points, how each step moves a seat on, and a machine of words and seats that begins
-//! one call or makes one atomic step at a time. Contracts here repeat the definitions of a step. Which states can be
-//! reached, and what holds in them, belongs to the crates above.
+//! The protocol: the calls, their points, how each step advances a seat, and a machine of words and seats that starts one call
+//! or makes one atomic step at a time. The contracts in this crate repeat the definition of a step. The crates above prove
+//! which states can be reached and what holds in them.
 #![tactic(auto)]
 
 mod after;

@@ -1,16 +1,16 @@
-//! The limits of a mutex: how many seats it may have, how many takes each may charge, how deep it may hold, and how many steps
-//! a call may need. Other crates take these numbers from here. Only `lfm_script`, which knows no mutex, and `lfm_stress` repeat
-//! the number of seats.
+//! The limits of a mutex: the number of seats, the budget of each, the depth, and the number of steps that a call may need.
+//! Other crates use these constants. Only `lfm_script`, which does not depend on a mutex, and `lfm_stress` repeat the number of
+//! seats.
 ghost use Rattle.std.specs.Prelude.{◌≡◌, ◌+◌, ◌<◌, ◌^◌};
 ghost use Rattle.lfm_protocol.specs.Limits.{are_in_limits};
 
-/// The most seats of a mutex.
+/// The greatest number of seats of a mutex.
 pub const MAX_SEATS: u64 = 4_095;
 
 /// The largest budget of a seat: 2^36 takes.
 pub const MAX_BUDGET: u64 = 68_719_476_736;
 
-/// How many times a seat may hold the mutex at once.
+/// The greatest number of times that a seat may hold the mutex at once.
 pub const MAX_DEPTH: u32 = 65_535;
 
 /// The size of one mutex.
@@ -31,7 +31,8 @@ impl Limits {
     }
 }
 
-/// No call among this number of seats makes more steps than this while no other seat makes one: 16 more than there are seats.
+/// The most steps that a call makes, with this number of seats, while no other seat makes a step: 16 more than the number of
+/// seats.
 pub fn longest_call(seats: u64) -> u64
     requires { seats + 16 < 2 ^ 64 }
     ensures { result ≡ seats + 16 }

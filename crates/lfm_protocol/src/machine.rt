@@ -1,6 +1,6 @@
-//! The words, the pop list and the seats, and what a turn does to them: it begins a call or makes one atomic step. A step is
-//! the operation of its kind on its word, and then the seat's own method. Nothing here says which words and points go together:
-//! the contracts of turns repeat their definitions, and the invariant belongs to the crates above.
+//! The words, the pop list and the seats, and what a turn does to them: it starts a call or makes one atomic step. A step is
+//! the operation of its kind on its word, followed by the seat's own method. This file does not say which words and points go
+//! together. The contracts of turns repeat their definitions, and the invariant is in the crates above.
 ghost use Rattle.std.specs.Prelude.{◌≡◌, ◌+◌, ◌^◌, ◌<◌, ◌≤◌, true, false, length, IfOk, IfErr};
 ghost use Rattle.lfm_protocol.specs.Core.{put, put_link, put_wake, drops_if};
 ghost use Rattle.lfm_protocol.specs.Limits.{max_seats};
@@ -41,26 +41,26 @@ use lfm_words::{Handoff, Link, PopList, Wake};
 use std::alloc::{AllocError, Global};
 use std::marker::Model;
 
-/// The words of a mutex, its pop list, and the data of its seats, as the turns of seats leave them.
+/// The words of a mutex, its pop list, and the data of its seats.
 #[derive(Drop)]
 pub struct Machine {
     /// How many takes each seat may charge.
     budget: u64,
-    /// The count word: how many hold the mutex or want it.
+    /// The count word: how many seats hold or want the mutex.
     count: u64,
     /// The owner word: the number of the owning seat; 0 for none.
     owner: u64,
-    /// The handoff word: the post that stands, or none.
+    /// The handoff word: the current post, or none.
     handoff: Handoff,
     /// The push word: the newest stamp, and the newest seat of the push list.
     push: Link,
-    /// The pop list, which belongs to whoever carries the responsibility.
+    /// The pop list, which belongs to the party with the responsibility.
     popped: PopList,
-    /// The link word of each seat, that of seat 1 first.
+    /// The link word of each seat, starting with seat 1.
     links: Vec<Link>,
-    /// The wake word of each seat, that of seat 1 first.
+    /// The wake word of each seat, starting with seat 1.
     wakes: Vec<Wake>,
-    /// The data of each seat, that of seat 1 first.
+    /// The data of each seat, starting with seat 1.
     seats: Vec<SeatState>,
 }
 
@@ -145,7 +145,7 @@ impl Machine {
 
 /// The pop list.
 impl Machine {
-    /// Takes the oldest record out of the pop list if it leaves.
+    /// Takes the oldest record out of the pop list if `leaves` is true.
     fn drop_if(&mut self, leaves: bool)
         ensures { self.new ≡ drops_if self.old leaves }
     {
@@ -155,10 +155,10 @@ impl Machine {
     }
 }
 
-/// One atomic step of each kind by seat s: the operation on the word, then the seat's own method. t is the seat whose link
-/// or wake word is touched.
+/// One atomic step of each kind by seat s: the operation on the word, then the seat's own method. t is the seat whose link or
+/// wake word the step accesses.
 impl Machine {
-    /// Seat s exchanges a count of 0 for 1. Any other count stays as it is.
+    /// Seat s compare-and-exchanges the count from 0 to 1.
     fn count_exchange(&mut self, s: u64) -> Turn
         requires seat { IsSeat self.old.seats s }
         ensures core { self.new ≡ (count_exchange self.old s).core }
@@ -218,7 +218,8 @@ impl Machine {
         turn
     }
 
-    /// Seat s stores its number or 0 in the owner word. If it enters by the oldest record, that record leaves the pop list.
+    /// Seat s stores its number or 0 in the owner word. If it enters by the oldest record, that record is taken out of the pop
+    /// list.
     fn owner_store(&mut self, s: u64) -> Turn
         requires seat { IsSeat self.old.seats s }
         ensures core { self.new ≡ (owner_store self.old s).core }
@@ -244,7 +245,7 @@ impl Machine {
         turn
     }
 
-    /// Seat s exchanges the push word that it has seen for one with the pushed seat as the head. Any other push word stays.
+    /// Seat s compare-and-exchanges the push word from the one that it loaded to one with the pushed seat as the head.
     fn push_exchange(&mut self, s: u64) -> Turn
         requires seat { IsSeat self.old.seats s }
         requires numbers { HasNumbers (seat self.old.seats s) (seat self.old.seats s).point }
@@ -261,7 +262,7 @@ impl Machine {
         turn
     }
 
-    /// Seat s clears the head of the push word, and leaves the stamp, so that no stamp is given out twice.
+    /// Seat s clears the head of the push word and keeps the stamp, so that no stamp is used twice.
     fn clear_head(&mut self, s: u64) -> Turn
         requires seat { IsSeat self.old.seats s }
         ensures core { self.new ≡ (clear_head self.old s).core }
@@ -320,7 +321,7 @@ impl Machine {
         turn
     }
 
-    /// Seat s posts its next handoff number.
+    /// Seat s stores its next post in the handoff word.
     fn handoff_store(&mut self, s: u64) -> Turn
         requires seat { IsSeat self.old.seats s }
         requires numbers { HasNumbers (seat self.old.seats s) (seat self.old.seats s).point }
@@ -334,7 +335,7 @@ impl Machine {
         turn
     }
 
-    /// Seat s exchanges the handoff number that it expects for none. Any other number stays.
+    /// Seat s compare-and-exchanges the handoff word from the post that it expects to none.
     fn handoff_exchange(&mut self, s: u64) -> Turn
         requires seat { IsSeat self.old.seats s }
         requires numbers { HasNumbers (seat self.old.seats s) (seat self.old.seats s).point }
@@ -364,7 +365,8 @@ impl Machine {
         turn
     }
 
-    /// Seat s stores in the wake word of seat t. If that grants the oldest record, the record leaves the pop list.
+    /// Seat s stores in the wake word of seat t. If the store grants the oldest record, that record is taken out of the pop
+    /// list.
     fn wake_store_to(&mut self, s: u64, t: u64) -> Turn
         requires seat { IsSeat self.old.seats s }
         requires touches { IsSeat self.old.seats t }
@@ -379,7 +381,7 @@ impl Machine {
         turn
     }
 
-    /// Seat s claims seat t, if t waits. Any other wake state stays.
+    /// Seat s claims seat t if t is waiting. Otherwise the wake word does not change.
     fn wake_exchange_of(&mut self, s: u64, t: u64) -> Turn
         requires seat { IsSeat self.old.seats s }
         requires touches { IsSeat self.old.seats t }
@@ -399,8 +401,8 @@ impl Machine {
 
 /// The turns.
 impl Machine {
-    /// A mutex at its start: nobody holds and nothing is queued. It allocates the pop list and the three lists of entries at
-    /// once, and nothing later; it answers AllocError if one of them is refused.
+    /// A mutex at its start: no seat holds it and no record is queued. It allocates the pop list and the three lists of entries
+    /// here, and nothing later. It returns AllocError if one of these allocations fails.
     pub fn new(alloc: Global, limits: Limits) -> Result<Machine, AllocError>
         requires { limits.seats ≤ max_seats }
         ensures { IfOk result (λ m. m ≡ start limits) }
@@ -419,8 +421,8 @@ impl Machine {
         })
     }
 
-    /// Seat s begins a call. Refused as NoSuchSeat if no seat has this number, and then as `SeatState::begin` refuses it. A
-    /// refused call changes nothing.
+    /// Starts a call of seat s. Refused as NoSuchSeat if no seat has this number, and then for the causes of
+    /// `SeatState::begin`. A refused call changes nothing.
     pub fn begin(&mut self, s: u64, call: Call) -> Turn
         ensures core { self.new ≡ (begin self.old s call).core }
         ensures turn { result ≡ (begin self.old s call).turn }
@@ -438,9 +440,9 @@ impl Machine {
         turn
     }
 
-    /// Seat s makes the one atomic step at its point, for which its numbers have room. Refused as NoSuchSeat if no seat has
-    /// this number, and then as Idle if no call of the seat is open; both change nothing. A step that is refused as Busy or
-    /// NotWaiting has ended its call.
+    /// Seat s makes the one atomic step at its point. The numbers of the step must have room. Refused as NoSuchSeat if no seat
+    /// has this number, and then as Idle if no call of the seat is open; both change nothing. If a step is refused as Busy or
+    /// NotWaiting, it was made and its call has ended.
     pub fn step(&mut self, s: u64) -> Turn
         requires { IsSeat self.old.seats s → HasRoom self.old s }
         ensures core { self.new ≡ (step self.old s).core }
@@ -459,9 +461,9 @@ impl Machine {
         ensures core { self.new ≡ (made self.old s).core }
         ensures turn { result ≡ (made self.old s).turn }
     {
-        // All of these go in one order. What a step writes is read from the point, so before the seat leaves it. Then comes the
-        // operation on the word, and with it what the pop list gains or loses. What the operation found decides where the seat
-        // goes, so the seat's method comes last: it moves a copy of the data, which is put back.
+        // All cases have the same order. What a step writes depends on the point, so it is read before the seat moves to its
+        // next point. Then follows the operation on the word, with the change of the pop list. The next point depends on what
+        // the operation found, so the seat's method comes last: it advances a copy of the data, which is put back.
         let seat = self.seat(s);
         let t = seat.point.target(s);
         match seat.point.kind() {

@@ -1,6 +1,6 @@
-//! Where a call stands between two atomic steps. A point names the step to come and keeps what earlier steps have read. This
-//! file also has what follows from a point alone: its kind, the seat whose word it touches, and whether the call carries the
-//! responsibility. How a step moves the seat on is in `after`.
+//! The state of a call between two atomic steps. A point names the next step and keeps what earlier steps have loaded. This
+//! file also has what follows from a point alone: its kind, the seat whose word it accesses, and whether the call carries the
+//! responsibility. How a step advances the seat is in `after`.
 ghost use Rattle.std.specs.Prelude.{◌≡◌};
 ghost use Rattle.lfm_protocol.specs.Place.{carries};
 ghost use Rattle.lfm_protocol.specs.Points.{kind, target, pushed_seat};
@@ -9,7 +9,7 @@ use crate::kinds::Kind;
 use lfm_model::{How, Unlocked};
 use lfm_words::{Handoff, Link, Record};
 
-/// For whom a record is pushed.
+/// For which seat a record is pushed.
 #[derive(Clone, Copy, Debug, PartialEq, Eq)]
 pub enum Pusher {
     /// A `lock` pushes the record of its own seat.
@@ -32,7 +32,7 @@ pub enum Releaser {
 pub enum Carrier {
     /// A `lock` that has taken a post over.
     Locker,
-    /// A release that found the count above 1.
+    /// A release that loaded a count above 1.
     Releaser(Releaser),
     /// A release that has posted, and has taken its post back.
     Reclaimer(Releaser),
@@ -40,7 +40,7 @@ pub enum Carrier {
     Sender,
 }
 
-/// Which call brings its own seat to hold.
+/// Which call makes its own seat the owner.
 #[derive(Clone, Copy, Debug, PartialEq, Eq)]
 pub enum Entrant {
     /// A `lock` that found a count of 0, or its own record as the oldest.
@@ -54,14 +54,14 @@ pub enum Entrant {
 /// Which call put the seat to sleep.
 #[derive(Clone, Copy, Debug, PartialEq, Eq)]
 pub enum Sleeper {
-    /// A `lock`: the seat's record is queued, or was granted already.
+    /// A `lock`: the seat's record is queued, or was already granted.
     Locker,
-    /// A `start_wait`: no record stands in the queue until a send claims the seat.
+    /// A `start_wait`: the seat has no queued record until a send claims it.
     Waiter,
 }
 
-/// Where a seat stands: the atomic step to come. The payload is what the call has to remember. `lock` 4 below is step 4 of
-/// `lock` in `docs/PROTOCOL.md`.
+/// The point of a seat: its next atomic step. The payload is what the call has to remember. `lock` 4 below is step 4 of `lock`
+/// in `docs/PROTOCOL.md`.
 #[derive(Clone, Copy, Debug, PartialEq, Eq)]
 pub enum Point {
     // Between calls: no step.
@@ -70,32 +70,32 @@ pub enum Point {
     /// No call is open, and the seat sleeps until a receive finds a grant.
     Asleep(Sleeper),
 
-    // A `lock` until it pushes.
+    // A `lock` until its push.
     /// `lock` 1: add 1 to the count word.
     LockCountAdd,
-    /// `lock` 2: load the owner word, to learn whether this seat holds already.
+    /// `lock` 2: load the owner word, to find out whether this seat already holds.
     LockOwnerLoad,
-    /// `lock` 3: subtract 1 from the count word again, since the seat holds already.
+    /// `lock` 3: subtract 1 from the count word again, since the seat already holds.
     LockCountSubtract,
 
     // A `try_lock` until it enters.
     /// `try_lock` 1: compare-and-exchange of the count word from 0 to 1.
     TryCountExchange,
-    /// `try_lock` 2: load the owner word, to learn whether this seat holds already.
+    /// `try_lock` 2: load the owner word, to find out whether this seat already holds.
     TryOwnerLoad,
-    /// `try_lock` 4: load the handoff word, to accept a post in place of Busy.
+    /// `try_lock` 4: load the handoff word, to accept a post instead of answering Busy.
     TryHandoffLoad,
     /// `try_lock` 5: compare-and-exchange of the handoff word from the post that was loaded to 0.
     TryHandoffExchange(Handoff),
-    /// `try_lock` 6: add 1 to the count word, the post being accepted.
+    /// `try_lock` 6: add 1 to the count word, after the post was accepted.
     TryCountAdd,
 
-    // A `send_lock` on its own: the number is its target's.
+    // The steps that only a `send_lock` makes. The number is its target.
     /// `send_lock` 1: compare-and-exchange of the target's wake word from WAITING to CLAIMED.
     SendWakeExchange(u64),
     /// `send_lock` 2: add 1 to the count word, for the target.
     SendCountAdd(u64),
-    /// `send_lock` 7: load the push word again, to see whether a record stands there. The post is that of step 6.
+    /// `send_lock` 7: load the push word again, to check whether it has a record. The post is the one loaded in step 6.
     SendPushRecheck(u64, Handoff),
     /// `send_lock` 9 after a count of 0: store GRANT(0) in the target's wake word.
     SendWakeStore(u64),
@@ -103,46 +103,48 @@ pub enum Point {
     // The push of a record, by `lock` for its own seat or by `send_lock` for its target.
     /// `lock` 4, `send_lock` 3: load the push word.
     PushLoad(Pusher),
-    /// `lock` 5, `send_lock` 4: store in the pushed seat's link word one stamp more than that of the push word that was seen,
-    /// and that word's head.
+    /// `lock` 5, `send_lock` 4: store in the pushed seat's link word the stamp of the push word that was loaded plus 1, and the
+    /// head of that word.
     LinkStore(Pusher, Link),
-    /// `lock` 6, `send_lock` 5: compare-and-exchange of the push word from what was seen to one stamp more and the pushed seat.
+    /// `lock` 6, `send_lock` 5: compare-and-exchange of the push word from the one that was loaded to the next stamp and the
+    /// pushed seat.
     PushExchange(Pusher, Link),
-    /// `lock` 7, `send_lock` 6: load the handoff word, the record being pushed.
+    /// `lock` 7, `send_lock` 6: load the handoff word, after the record was pushed.
     PushedHandoffLoad(Pusher),
-    /// `lock` 8, `send_lock` 8: compare-and-exchange of the handoff word from the post that was loaded to 0, which takes it
-    /// over.
+    /// `lock` 8, `send_lock` 8: compare-and-exchange of the handoff word from the post that was loaded to 0, which takes the
+    /// post over.
     PushedHandoffExchange(Pusher, Handoff),
 
-    // A release, by `unlock`, or by `start_wait` with the same numbers.
+    // A release, by `unlock`, or by `start_wait` with the same step numbers.
     /// `unlock` 1: store 0 in the owner word.
     ReleaseOwnerStore(Releaser),
     /// `unlock` 2: subtract 1 from the count word.
     ReleaseCountSubtract(Releaser),
     /// `unlock` 3: store the seat's next post in the handoff word.
     ReleaseHandoffStore(Releaser),
-    /// `unlock` 4: load the push word again, to see whether somebody has pushed meanwhile.
+    /// `unlock` 4: load the push word again, to check whether a record was pushed meanwhile.
     ReleasePushRecheck(Releaser),
-    /// `unlock` 5: compare-and-exchange of the handoff word from the seat's own post to 0, which takes it back.
+    /// `unlock` 5: compare-and-exchange of the handoff word from the seat's own post to 0, which takes the post back.
     ReleaseHandoffExchange(Releaser),
-    /// `start_wait` 7: store WAITING in the seat's own wake word. The payload says how it released.
+    /// `start_wait` 7: store WAITING in the seat's own wake word. The payload is the answer of the release.
     WaitWakeStore(Unlocked),
 
-    // A carrier collects the oldest record, and serves it.
+    // A carrier collects the oldest record and serves it.
     /// `take` 1, if the pop list is empty: clear the head of the push word.
     TakeClearHead(Carrier),
-    /// `take` 2: load the link word of the seat with this number, and put its record on the pop list as the oldest.
+    /// `take` 2: load the link word of the seat with this number, and add its record to the pop list as the oldest.
     TakeLinkLoad(Carrier, u64),
-    /// `lock` 10, `unlock` 6, `send_lock` 9: store in the wake word of the record's seat a grant of the record's stamp.
+    /// `lock` 10, `unlock` 6, `send_lock` 9: store a grant of the record's stamp in the wake word of the record's seat.
     GrantWakeStore(Carrier, Record),
-    /// `lock` 9, `try_lock` 3, `receive` 3: store the seat's number in the owner word. The payload says how it gained
-    /// the mutex.
+    /// `lock` 9, `try_lock` 3, `receive` 3: store the seat's number in the owner word. The payload states how it acquired the
+    /// mutex.
     EnterOwnerStore(Entrant, How),
 
     // A `receive` of a seat that sleeps.
-    /// `receive` 1: load the seat's own wake word. The payload says by which call it fell asleep.
+    /// `receive` 1: load the seat's own wake word. The payload states which call put it to sleep.
     ReceiveWakeLoad(Sleeper),
-    /// `receive` 2: store QUIET in the seat's own wake word. The number is the stamp of the grant, 0 without a record.
+    /// `receive` 2: store QUIET in the seat's own wake word. The number is the stamp of the grant; it is 0 for a grant without
+    /// a record.
     ReceiveWakeStore(u64),
 }
 
@@ -180,7 +182,7 @@ impl Point {
         }
     }
 
-    /// The seat whose link or wake word a step of seat s touches; s itself if it touches neither.
+    /// The seat whose link or wake word a step of seat s accesses; s itself if it accesses neither.
     #[inline(always)]
     pub fn target(self, s: u64) -> u64
         ensures { result ≡ target self s }
@@ -214,7 +216,7 @@ impl Point {
 }
 
 impl Pusher {
-    /// The seat whose record is pushed, s being the seat whose call it is.
+    /// The seat whose record is pushed by a call of seat s.
     pub fn seat(self, s: u64) -> u64
         ensures { result ≡ pushed_seat self s }
     {

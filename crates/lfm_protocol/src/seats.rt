@@ -1,5 +1,5 @@
-//! The data that a seat keeps beside the words, and how it begins a call: what is checked, what is charged, and where it
-//! starts. Every mutex, stepped or running, begins its calls by `begin` of this file. What a step does is in `after`.
+//! The data that a seat keeps in addition to the words, and how it starts a call: what is checked, what is charged, and the
+//! first point. Every mutex, stepped or running, starts its calls by `begin` of this file. What a step does is in `after`.
 ghost use Rattle.std.specs.Prelude.{◌≡◌};
 ghost use Rattle.lfm_protocol.specs.Begin.{
   goes_on,
@@ -18,21 +18,21 @@ use crate::limits::{Limits, MAX_DEPTH};
 use crate::points::{Point, Releaser};
 use lfm_model::{Refusal, Unlocked};
 
-/// What a seat has of its own beside the words. No other seat reads it.
+/// The data of a seat apart from the words. No other seat reads them.
 #[derive(Clone, Copy, Debug, PartialEq, Eq)]
 pub struct SeatState {
     /// How many times the seat holds the mutex: 0 to 65,535.
     pub depth: u32,
-    /// How many takes the seat has charged and not got back: 0 to the budget.
+    /// How many takes the seat has charged and not given back: 0 to the budget.
     pub takes: u64,
-    /// How many handoffs the seat has posted. The next one is numbered by one more.
+    /// How many posts the seat has made. The next one has the next number.
     pub posts: u64,
-    /// The atomic step that the seat makes next, or that no call of it is open.
+    /// The next atomic step of the seat, or that no call of it is open.
     pub point: Point,
 }
 
 impl SeatState {
-    /// A seat at the start: at rest and awake, without a hold, a take or a post.
+    /// A seat at the start: at rest, with no hold, no charged take and no post.
     pub const REST: SeatState = SeatState {
         depth: 0,
         takes: 0,
@@ -41,9 +41,9 @@ impl SeatState {
     };
 }
 
-/// The ends of a turn that several calls share.
+/// How a turn ends, in the cases that several calls share.
 impl SeatState {
-    /// Sets the point, so that the call is open.
+    /// Sets the point. The call is then open.
     pub(crate) fn go_on(&mut self, point: Point) -> Turn
         ensures seat { self.new ≡ (goes_on self.old point).seat }
         ensures turn { result ≡ (goes_on self.old point).turn }
@@ -52,7 +52,7 @@ impl SeatState {
         Turn::Open
     }
 
-    /// Ends the call with this answer; the seat is at rest.
+    /// Ends the call with this answer. The seat is then at rest.
     pub(crate) fn end(&mut self, answer: Answer) -> Turn
         ensures seat { self.new ≡ (ends self.old answer).seat }
         ensures turn { result ≡ (ends self.old answer).turn }
@@ -75,9 +75,9 @@ impl SeatState {
     }
 }
 
-/// How a call begins.
+/// How a call starts.
 impl SeatState {
-    /// Begins a `lock` or a `try_lock` at its first point. Refused as DepthFull at the greatest depth, and then as Spent at
+    /// Starts a `lock` or a `try_lock` at its first point. Refused as DepthFull at the greatest depth, and then as Spent at
     /// depth 0 with no take left. A take is charged only at depth 0.
     pub(crate) fn begin_entry(&mut self, budget: u64, point: Point) -> Turn
         ensures seat { self.new ≡ (begin_entry self.old budget point).seat }
@@ -93,7 +93,8 @@ impl SeatState {
         }
     }
 
-    /// Begins an `unlock`. Refused as NotOwner at depth 0. At a depth above 1 the depth falls and the call has ended.
+    /// Starts an `unlock`. Refused as NotOwner at depth 0. At a depth above 1 the depth is reduced by one and the call has
+    /// ended.
     pub(crate) fn begin_unlock(&mut self) -> Turn
         ensures seat { self.new ≡ (begin_unlock self.old).seat }
         ensures turn { result ≡ (begin_unlock self.old).turn }
@@ -108,8 +109,8 @@ impl SeatState {
         Turn::Ended(Answer::Unlocked(Unlocked::Still(self.depth)))
     }
 
-    /// Begins a `start_wait`. Refused as NotOwner at depth 0, as Nested above 1, and then as Spent with no take left. The
-    /// take that it charges pays for the receive that ends the wait.
+    /// Starts a `start_wait`. Refused as NotOwner at depth 0, as Nested above 1, and then as Spent with no take left. The take
+    /// that it charges pays for the receive that ends the wait.
     pub(crate) fn begin_wait(&mut self, budget: u64) -> Turn
         ensures seat { self.new ≡ (begin_wait self.old budget).seat }
         ensures turn { result ≡ (begin_wait self.old budget).turn }
@@ -123,7 +124,8 @@ impl SeatState {
         self.charge(budget, Point::ReleaseOwnerStore(Releaser::Waiter))
     }
 
-    /// Begins a `send_lock` for seat t, of this many seats. Refused as NoSuchSeat if t is none of them. It charges nothing.
+    /// Starts a `send_lock` to seat t, where `seats` is the number of seats. Refused as NoSuchSeat if t is not the number of a
+    /// seat. It charges nothing.
     pub(crate) fn begin_send(&mut self, seats: u64, t: u64) -> Turn
         ensures seat { self.new ≡ (begin_send self.old seats t).seat }
         ensures turn { result ≡ (begin_send self.old seats t).turn }
@@ -135,7 +137,7 @@ impl SeatState {
         }
     }
 
-    /// Begins a call of a seat that is awake and at rest. A receive is refused as NotWaiting.
+    /// Starts a call of a seat that is awake and at rest. A receive is refused as NotWaiting.
     pub(crate) fn begin_awake(&mut self, limits: Limits, call: Call) -> Turn
         ensures seat { self.new ≡ (begin_awake self.old limits call).seat }
         ensures turn { result ≡ (begin_awake self.old limits call).turn }
@@ -150,9 +152,9 @@ impl SeatState {
         }
     }
 
-    /// Begins a call, by the seat's data alone: if nothing forbids it, it charges what the call costs and sets its first point.
-    /// Refused as InCall if an earlier call is still open; then as Asleep if the seat sleeps and the call is no receive; then
-    /// by the call's own causes, in the order of `Refusal`. A refused call leaves the seat as it is.
+    /// Starts a call, based on the seat's data alone: charges what the call costs and sets its first point. Refused as InCall
+    /// if an earlier call is still open; then as Asleep if the seat sleeps and the call is not a receive; then for the call's
+    /// own causes, in the order of `Refusal`. A refused call leaves the seat unchanged.
     pub fn begin(&mut self, limits: Limits, call: Call) -> Turn
         ensures seat { self.new ≡ (begin self.old limits call).seat }
         ensures turn { result ≡ (begin self.old limits call).turn }

@@ -1,5 +1,5 @@
 //! What the storing steps of a seat write, and what its exchanges expect: functions of the seat's data and number alone. At a
-//! point of another kind they return the value that means none.
+//! point of another kind each returns the value that means none.
 ghost use Rattle.std.specs.Prelude.{◌≡◌};
 ghost use Rattle.lfm_protocol.specs.After.{drops_oldest};
 ghost use Rattle.lfm_protocol.specs.Room.{HasNumbers};
@@ -20,7 +20,7 @@ use lfm_words::{Handoff, Link, Wake};
 
 /// What a storing step writes, and what an exchange expects.
 impl SeatState {
-    /// What an owner store of seat s writes: s as it enters, 0 as it releases.
+    /// The value of an owner store of seat s: s when it enters, 0 when it releases.
     pub fn stored_owner(&self, s: u64) -> u64
         ensures { result ≡ stored_owner self.now s }
     {
@@ -30,7 +30,7 @@ impl SeatState {
         }
     }
 
-    /// What a link store writes: one stamp more than the push word that was seen, and that word's head.
+    /// The value of a link store: the stamp of the push word that was loaded plus 1, and the head of that word.
     pub fn stored_link(&self) -> Link
         requires { HasNumbers self.now self.now.point }
         ensures { result ≡ stored_link self.now }
@@ -44,7 +44,7 @@ impl SeatState {
         }
     }
 
-    /// What a push exchange expects: the push word that was seen.
+    /// The value that a push exchange expects: the push word that was loaded.
     pub fn expected_push(&self) -> Link
         ensures { result ≡ expected_push self.now }
     {
@@ -54,7 +54,7 @@ impl SeatState {
         }
     }
 
-    /// What a push exchange of seat s writes: one stamp more than was seen, and the pushed seat as head.
+    /// The value that a push exchange of seat s writes: the stamp that was loaded plus 1, and the pushed seat as head.
     pub fn exchanged_push(&self, s: u64) -> Link
         requires { HasNumbers self.now self.now.point }
         ensures { result ≡ exchanged_push self.now s }
@@ -68,7 +68,7 @@ impl SeatState {
         }
     }
 
-    /// What a handoff store of seat s writes: the number after those that it has posted.
+    /// The value of a handoff store of seat s: the seat and the number of its next post.
     pub fn stored_handoff(&self, s: u64) -> Handoff
         requires { HasNumbers self.now self.now.point }
         ensures { result ≡ stored_handoff self.now s }
@@ -82,7 +82,7 @@ impl SeatState {
         }
     }
 
-    /// What a handoff exchange of seat s expects: the number that was loaded, or the seat's own last post.
+    /// The value that a handoff exchange of seat s expects: the post that was loaded, or the seat's own last post.
     pub fn expected_handoff(&self, s: u64) -> Handoff
         ensures { result ≡ expected_handoff self.now s }
     {
@@ -96,8 +96,8 @@ impl SeatState {
         }
     }
 
-    /// What a wake store writes: a grant of the record's stamp, a grant of 0 for a target without a record, WAITING as a
-    /// wait begins, or QUIET as a grant is taken up.
+    /// The value of a wake store: a grant of the record's stamp, a grant of 0 for a target without a record, WAITING when a
+    /// wait starts, or QUIET when a grant is taken up.
     #[inline(always)]
     pub fn stored_wake(&self) -> Wake
         ensures { result ≡ stored_wake self.now }

@@ -1,4 +1,4 @@
-//! The readers of a machine: words, seats, place and queue. No reader changes anything, allocates, sleeps or wakes.
+//! The readers of a machine: words, seats, place and queue. No reader changes anything, allocates, sleeps or wakes a thread.
 ghost use Rattle.std.specs.Prelude.{◌≡◌, ◌+◌, ◌++◌, ◌<◌, ◌≤◌, length, position, reverse, slice_get, vec_capacity, IfSome};
 ghost use Rattle.std.specs.List.{zip};
 ghost use Rattle.std.specs.Option.{option_map};
@@ -27,7 +27,7 @@ impl Machine {
         self.seats.len() as u64
     }
 
-    /// The count word: how many hold the mutex or want it.
+    /// The count word: how many seats hold or want the mutex.
     pub fn count(&self) -> u64
         ensures { result ≡ self.now.count }
     {
@@ -41,14 +41,14 @@ impl Machine {
         self.owner
     }
 
-    /// The handoff word: the posted number, whose seat is 0 if nothing is posted.
+    /// The handoff word: the current post, or seat 0 if nothing is posted.
     pub fn handoff(&self) -> Handoff
         ensures { result ≡ self.now.handoff }
     {
         self.handoff
     }
 
-    /// A call makes at most this many steps while no other seat makes one: 16 more than there are seats.
+    /// The most steps that a call makes while no other seat makes a step: 16 more than the number of seats.
     pub fn longest_call(&self) -> u64
         ensures { result ≡ longest_call self.now }
     {
@@ -56,7 +56,7 @@ impl Machine {
     }
 }
 
-/// The seats. For a number that no seat has, each reader answers as for a seat at rest, with 0 for each number.
+/// The seats. For a number that no seat has, each reader returns what it returns for a seat at rest with all counters at 0.
 impl Machine {
     /// How many times seat s holds the mutex: 0 to 65,535.
     pub fn depth(&self, s: u64) -> u64
@@ -65,7 +65,7 @@ impl Machine {
         u64::from(self.seat_or_absent(s).depth)
     }
 
-    /// How many takes seat s has charged and not got back: 0 to the budget.
+    /// How many takes seat s has charged and not given back: 0 to the budget.
     pub fn takes(&self, s: u64) -> u64
         ensures { result ≡ (seat self.now.seats s).takes }
     {
@@ -79,7 +79,7 @@ impl Machine {
         self.seat_or_absent(s).posts
     }
 
-    /// The data of seat s, or a seat at rest if no seat has this number.
+    /// The data of seat s, or those of a seat at rest if no seat has this number.
     fn seat_or_absent(&self, s: u64) -> SeatState
         ensures { result ≡ seat self.now.seats s }
     {
@@ -91,7 +91,7 @@ impl Machine {
     }
 }
 
-/// Whether a wake word holds a grant that a seat at this point has not yet loaded.
+/// Whether this wake word holds a grant that its seat, at this point, has not loaded yet.
 fn is_passed(wake: Wake, point: Point) -> bool
     ensures { result ≡ is_passed wake point }
 {
@@ -100,9 +100,9 @@ fn is_passed(wake: Wake, point: Point) -> bool
 
 /// Where the responsibility lies.
 impl Machine {
-    /// Where the responsibility lies. Owner if the owner word names a seat, otherwise Posted if a handoff stands. Otherwise
-    /// Passed for the first seat with a grant that it has not loaded. Otherwise Carried for the first seat whose call carries
-    /// it, and Free if there is none. It reads each seat at most twice.
+    /// Where the responsibility is. Owner if the owner word names a seat; otherwise Posted if there is a post; otherwise Passed
+    /// for the first seat with a grant that it has not loaded; otherwise Carried for the first seat whose call carries the
+    /// responsibility; otherwise Free. It reads each seat at most twice.
     pub fn place(&self) -> Place
         ensures { result ≡ place_of self.now }
     {
@@ -121,7 +121,7 @@ impl Machine {
         }
     }
 
-    /// The index, from 0, of the first seat whose wake word holds a grant that the seat has not loaded yet.
+    /// The index, from 0, of the first seat whose wake word holds a grant that it has not loaded yet.
     fn first_passed(&self) -> Option<usize>
         ensures index { result ≡ position (λ w. is_passed w.0 w.1.point) (zip self.now.wakes self.now.seats) }
         ensures few { IfSome result (λ i. i < max_seats) }
@@ -143,15 +143,15 @@ impl Machine {
 
 /// The queue.
 impl Machine {
-    /// How many records are queued. It follows the links of those that the pop list does not hold.
+    /// How many records are queued. It follows the links of the records that are not in the pop list.
     pub fn queue_len(&self) -> u64
         ensures { result ≡ length (queue_of self.now) }
     {
         self.chain_len(self.unwalked()) + self.popped.len() + self.chain_len(self.push.next)
     }
 
-    /// The seat and the stamp of the queued record number i: 0 is the oldest. None past the newest. It follows the links of
-    /// those that the pop list does not hold.
+    /// The seat and the stamp of the queued record with index i, where 0 is the oldest. None if i is past the newest. It
+    /// follows the links of the records that are not in the pop list.
     pub fn queued(&self, i: u64) -> Option<(SeatNo, u64)>
         ensures { result ≡ option_map pair_of (slice_get (queue_of self.now) i) }
     {
@@ -172,7 +172,8 @@ impl Machine {
         }
     }
 
-    /// Replaces what `room` holds by the queued records, newest first. Its capacity is enough for all of them, and stays.
+    /// Replaces the contents of `room` by the queued records, newest first. Its capacity must be enough for all of them, and
+    /// does not change.
     pub fn gather(&self, room: &mut Vec<Record>)
         requires { length (queue_of self.now) ≤ vec_capacity room.old }
         ensures gathered { reverse room.new.items ≡ queue_of self.now }
@@ -198,7 +199,7 @@ impl Machine {
         0
     }
 
-    /// How many records a walk from this seat meets.
+    /// How many records a walk from this seat visits.
     fn chain_len(&self, from: u64) -> u64
         ensures length { result ≡ length (chain self.now.links from) }
         ensures few { result ≤ max_seats }
@@ -211,7 +212,7 @@ impl Machine {
         length
     }
 
-    /// The seat and stamp of the record that a walk from this seat meets after i others.
+    /// The seat and stamp of the record that a walk from this seat visits after i others.
     fn chained(&self, from: u64, i: u64) -> Option<(SeatNo, u64)>
         ensures { result ≡ option_map pair_of (slice_get (chain self.now.links from) i) }
     {
@@ -226,7 +227,7 @@ impl Machine {
     }
 }
 
-/// Appends what is left of a walk. The capacity is enough for it.
+/// Appends the rest of a walk. The capacity must be enough for it.
 fn gather_chain(room: &mut Vec<Record>, chain: Chain<'_>)
     requires { length room.old.items + length chain ≤ vec_capacity room.old }
     ensures gathered { room.new.items ≡ room.old.items ++ chain.entry }
@@ -238,7 +239,7 @@ fn gather_chain(room: &mut Vec<Record>, chain: Chain<'_>)
     }
 }
 
-/// Appends these records. The capacity is enough for them.
+/// Appends these records. The capacity must be enough for them.
 fn gather_popped(room: &mut Vec<Record>, records: &[Record])
     requires { length room.old.items + length records.now ≤ vec_capacity room.old }
     ensures gathered { room.new.items ≡ room.old.items ++ records.now }

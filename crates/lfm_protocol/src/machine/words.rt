@@ -1,4 +1,4 @@
-//! The readers of single words and points. No reader changes anything, allocates, sleeps or wakes.
+//! The readers of single words and points. No reader changes anything, allocates, sleeps or wakes a thread.
 ghost use Rattle.std.specs.Prelude.{◌≡◌};
 ghost use Rattle.lfm_protocol.specs.Seats.{seat, link, wake};
 
@@ -6,8 +6,8 @@ use crate::machine::Machine;
 use crate::points::Point;
 use lfm_words::{Link, Wake};
 
-/// The push word, and the words and points of the seats. For a number that no seat has, each reader answers as for a seat at
-/// rest whose words are 0.
+/// The push word, and the words and points of the seats. For a number that no seat has, each reader returns what it returns for
+/// a seat at rest whose words are 0.
 impl Machine {
     /// The push word: the newest stamp, and the head of the push list.
     pub fn push_word(&self) -> Link
@@ -40,7 +40,7 @@ impl Machine {
         }
     }
 
-    /// Where seat s stands: at the atomic step to come, or at none, since no call of it is open.
+    /// The point of seat s: its next atomic step, or none if no call of it is open.
     pub fn point(&self, s: u64) -> Point
         ensures { result ≡ (seat self.now.seats s).point }
     {

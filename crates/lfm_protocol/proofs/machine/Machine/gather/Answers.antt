@@ -4,7 +4,7 @@ use Rattle.lfm_protocol.specs.Core.{Core}
 use Rattle.lfm_protocol.specs.Queue.{chain, unwalked, queue_of}
 use Rattle.lfm_protocol.proofs.machine.Machine.gather.Goals as goal
 
--- how many records each part of the queue has
+-- the length of the queue is the sum of the lengths of its parts
 length-queue_of : (m : Core) → length (queue_of m) ≡ length (chain m.links (unwalked m.seats)) + (length m.popped + length (chain m.links m.push.next))
 length-queue_of m =
     let walked = chain m.links (unwalked m.seats) in

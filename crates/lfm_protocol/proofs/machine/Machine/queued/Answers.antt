@@ -9,7 +9,7 @@ use Rattle.lfm_protocol.specs.Core.{Core}
 use Rattle.lfm_protocol.specs.Queue.{chain, unwalked}
 use Rattle.lfm_protocol.proofs.machine.Machine.queued.Goals as goal
 
--- past the walked and the popped records the pushed ones follow, the oldest first
+-- after the walked and the popped records come the pushed ones, the oldest first
 slice_get-pushed : (walked popped pushed : List Record) (i n : ℕ) → n < length pushed → i ≡ length walked + length popped + n
     → slice_get (reverse walked ++ (popped ++ reverse pushed)) i ≡ slice_get pushed (length pushed - 1 - n)
 slice_get-pushed walked popped pushed i n within at =

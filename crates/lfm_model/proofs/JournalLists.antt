@@ -1,4 +1,4 @@
--- A journal of two parts: what it says is what its parts say, one after the other.
+-- What a journal of two parts determines follows from its parts in sequence.
 use Rattle.std.proofs.Common.{◌≡◌, ℕ, ◌+◌, ◌==◌, Bool, true, false, if◌then◌else◌, List, [], ◌∷◌, ◌++◌, Option, refl, sym, ◌∙◌, ap, append_assoc}
 use Rattle.std.proofs.Common.{add-one, append-nil}
 use Rattle.std.specs.List.{cons_option}
@@ -49,7 +49,7 @@ module _ {A : Type 0} where
   stamps_step t k s (Took (Queued x)) rest n m q = ap (λ y. one_to k ++ (y ∷ rest)) m ∙ sym (append_assoc (one_to k) ((k + 1) ∷ []) rest) ∙ (let f : one_to (k + 1) ++ rest ≡ one_to n = q in rw add-one at f)
   stamps_step t k s (Did op) rest n m q = q
 
-  -- the stamps of a lawful journal, with the k before them, are 1, 2, 3 and so on
+  -- k numbers followed by the stamps of a lawful journal are 1, 2, 3 and so on
   pub lawful_stamps : (t : Option ℕ) (k : ℕ) (xs : List (Entry A)) → LawfulFrom t k xs → one_to k ++ stamps xs ≡ one_to (queued_from k xs)
   lawful_stamps t k [] h = append-nil (one_to k)
   lawful_stamps t k (e ∷ xs) h = stamps_step t k e.seat e.what (stamps xs) (queued_from k (e ∷ xs)) h.0 (lawful_stamps (taker_at t e.seat e.what) (queued_at k e.what) xs h.1)

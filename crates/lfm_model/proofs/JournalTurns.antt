@@ -1,4 +1,4 @@
--- One turn of a loop over the entries of a journal.
+-- One iteration of a loop over the entries of a journal.
 use Rattle.std.proofs.Common.{◌≡◌, ℕ, ◌+◌, ◌<◌, List, [], ◌∷◌, ◌++◌, length, get_or, drop, Option, Some, sym, ◌∙◌, ap, subst, append_assoc}
 use Rattle.std.proofs.lemmas.List.{at_drop_more}
 use Rattle.lfm_model.specs.declared.answers.How.{How}
@@ -8,7 +8,7 @@ use Rattle.lfm_model.specs.declared.journals.Entry.{Entry}
 use Rattle.lfm_model.specs.Journals.{after_all, replies_of, taker_at, queued_at, May, LawfulFrom, LawfulJournal, entry}
 
 module _ {A : Type 0} where
-  -- what is left before a turn is its entry, and what is left after it
+  -- the entries left before an iteration are its entry and those left after it
   left : (es : List (Entry A)) (i : ℕ) (e : Entry A) (w : What A) → i < length es → e ≡ get_or es i e → e.what ≡ w
       → drop i es ≡ entry e.seat w ∷ drop (i + 1) es
   left es i e w h is what =
@@ -16,7 +16,7 @@ module _ {A : Type 0} where
       ∙ ap (λ (v : What A). entry e.seat v ∷ drop (i + 1) es) what
 
 module _ {O A R : Type 0} (after : O → A → O) (reply : O → A → R) where
-  -- the entry is an op, which was made, and its reply was kept
+  -- the entry is an op, which was performed and whose reply was kept
   pub object_turn : (o next end : O) (es : List (Entry A)) (i : ℕ) (e : Entry A) (op : A) → i < length es → e ≡ get_or es i e
       → e.what ≡ Did op → next ≡ after o op → after_all after o (drop i es) ≡ end → after_all after next (drop (i + 1) es) ≡ end
   object_turn o next end es i e op h is what made before =
@@ -43,7 +43,7 @@ module _ {O A R : Type 0} (after : O → A → O) (reply : O → A → R) where
       sym (ap (λ (l : List (Entry A)). kept ++ replies_of after reply o l) (left es i e (Took how) h is what)) ∙ before
 
 module _ {A : Type 0} where
-  -- a journal is lawful exactly if what is left may come after this take and this many queued takes
+  -- the journal is lawful exactly if the rest may follow after a take by t and k queued takes
   abbrev pub SameFrom : List (Entry A) → Option ℕ → ℕ → List (Entry A) → Type 0
   SameFrom es t k rest = (LawfulJournal es → LawfulFrom t k rest) × (LawfulFrom t k rest → LawfulJournal es)
 

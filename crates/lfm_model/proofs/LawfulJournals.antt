@@ -1,4 +1,4 @@
--- What it means that a journal is lawful, in both directions, and by which entries it grows.
+-- Equivalent forms of lawfulness, and which entries a lawful journal may get next.
 use Rattle.std.proofs.Common.{◌≡◌, ◌⊎◌, inl, inr, ⊎_elim, ℕ, zero, suc, ◌+◌, ◌<◌, List, [], ◌∷◌, ◌++◌, length, Option, Some, None, refl, sym, ◌∙◌, ap, subst, append_assoc, arith, length-append}
 use mathlib.Core.Logic.{dite}
 use native.Mathlib.Decide.{ℕ_discrete}
@@ -34,7 +34,7 @@ one_to_at (suc n) k h = dite (ℕ_discrete k n)
     (λ is. get_next (one_to n) [] (n + 1) k (one_to_length n ∙ sym is) ∙ ap (λ x. Some (x + 1)) (sym is))
     (λ ne. let l = one_to_length n in get_left (one_to n) ((n + 1) ∷ []) k (omega arith) ∙ one_to_at n k (omega arith))
 
--- after the numbers 1 to k comes k + 1
+-- the item after the numbers 1 to k is k + 1
 next_number : (k x n : ℕ) (rest : List ℕ) → one_to k ++ x ∷ rest ≡ one_to n → x ≡ k + 1
 next_number k x n rest e =
     let l = one_to_length k in let m = one_to_length n in let both = length-append (one_to k) (x ∷ rest) in
@@ -64,7 +64,7 @@ module _ {A : Type 0} where
   lawful_grows es e =
       (λ h. (lawful_start None 0 es (e ∷ []) h, (lawful_rest None 0 es (e ∷ []) h).0), λ both. lawful_more es e both.0 both.1)
 
-  -- seat s took last among the entries; or none of them is a take, and t did before them
+  -- seat s took last among these entries; or none of them is a take, and s took last before them
   abbrev TakenFrom : Option ℕ → ℕ → List (Entry A) → Type 0
   TakenFrom t s es = TookLast s es ⊎ ((t ≡ Some s) × (takes es ≡ []))
 

@@ -25,7 +25,7 @@ module _ {O A R : Type 0} (after : O → A → O) (reply : O → A → R) where
   replies_counted o [] = refl
   replies_counted o (e ∷ es) = counted_step o e.what (replies_of after reply (after_what after o e.what) es) (ops es) (replies_counted (after_what after o e.what) es)
 
-  -- each of the replies to these ops, made on o, is that of the object before it
+  -- each of the replies to these ops, starting with the object o, is that of the object before the op
   abbrev Replied : O → List R → List A → Type 0
   Replied o rs made = (i : ℕ) (op : A) → slice_get made i ≡ Some op → slice_get rs i ≡ Some (reply (fold after o (take i made)) op)
 

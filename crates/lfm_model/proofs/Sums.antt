@@ -1,4 +1,4 @@
--- Sums over the numbers 1 to n, and what the seats' shares of a journal add up to.
+-- Sums over the numbers 1 to n, and the sum of the seats' entries in a journal.
 use Rattle.std.proofs.Common.{◌≡◌, ◌≢◌, ℕ, zero, suc, ◌+◌, ◌*◌, ◌<◌, ◌≤◌, ◌==◌, Bool, true, false, if◌then◌else◌, List, [], ◌∷◌, ◌++◌, length, refl, sym, ap, subst, arith, eq-eqb, ne_eqb, suc-mul}
 use mathlib.Core.Logic.{dite}
 use native.Mathlib.Decide.{ℕ_discrete}
@@ -58,7 +58,7 @@ module _ {A : Type 0} where
   own_more true e xs = omega arith
   own_more false e xs = omega arith
 
-  -- the shares of the seats make up the whole journal
+  -- the seats' numbers of entries add up to the length of the journal
   pub own_total : (n : ℕ) (es : List (Entry A)) → Within n es → length es ≡ sum_to (λ s. length (own s es)) n
   own_total n [] w = sym (sum_none n)
   own_total n (e ∷ es) w = let rest = own_total n es w.1.1 in let one = one_within e.seat n w.0 w.1.0 in

@@ -1,4 +1,4 @@
--- What the laws of journals say: of the seats that made ops, and of the ops.
+-- What the laws of journals state about ops and the seats that made them.
 use Rattle.std.specs.Prelude.{◌≡◌, ℕ, Bool, true, false, List, [], ◌∷◌, ◌++◌, Option, Some, None}
 use Rattle.std.specs.List.{filter, filter_map}
 use Rattle.lfm_model.specs.declared.answers.How.{How}
@@ -24,7 +24,7 @@ module _ {A : Type 0} where
   abbrev pub takes : List (Entry A) → List (Entry A)
   takes es = filter (λ e. is_take e.what) es
 
-  -- the last of the takes among these entries is by seat s
+  -- the last take among these entries is by seat s
   abbrev pub TookLast : ℕ → List (Entry A) → Type 0
   TookLast s es =
       (before : List (Entry A)) × (how : How) × (since : List (Entry A))

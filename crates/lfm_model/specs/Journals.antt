@@ -1,5 +1,5 @@
--- What a journal says: the object after its ops and the replies to them, which seat took last, the stamps, the entries of each
--- seat, and when it is lawful.
+-- What a journal determines: the object after its ops and the replies to them, the seat that took last, the stamps, the entries
+-- of each seat, and whether the journal is lawful.
 use Rattle.std.specs.Prelude.{◌≡◌, ℕ, ◌+◌, ◌<◌, ◌≤◌, ◌==◌, List, [], ◌∷◌, ◌++◌, Option, Some, None, suc, zero}
 use Rattle.std.specs.List.{filter, filter_map}
 use Rattle.std.specs.Coded.{×_prop, Unit-prop, le_prop, Coded-set, coded_ℕ, coded_option}
@@ -14,7 +14,7 @@ module _ {O A : Type 0} (after : O → A → O) where
   after_what o (Took h) = o
   after_what o (Did op) = after o op
 
-  -- the object after the ops of the entries
+  -- the object after the ops of these entries
   abbrev pub after_all : O → List (Entry A) → O
   after_all o [] = o
   after_all o (e ∷ es) = after_all (after_what o e.what) es
@@ -24,12 +24,12 @@ module _ {O A R : Type 0} (after : O → A → O) (reply : O → A → R) where
   reply_of o (Took h) = []
   reply_of o (Did op) = reply o op ∷ []
 
-  -- what the object replied to the ops of the entries
+  -- the replies of the object to the ops of these entries
   abbrev pub replies_of : O → List (Entry A) → List R
   replies_of o [] = []
   replies_of o (e ∷ es) = reply_of o e.what ++ replies_of (after_what after o e.what) es
 
--- after k queued takes, a seat may take next in this way
+-- after k queued takes, the next take may be of this form
 abbrev pub MayTake : ℕ → How → Type 0
 MayTake k Free = Unit {0}
 MayTake k (Queued x) = x ≡ k + 1
@@ -76,7 +76,7 @@ module _ {A : Type 0} where
   queued_from k [] = k
   queued_from k (e ∷ es) = queued_from (queued_at k e.what) es
 
-  -- after a take by seat t and k queued takes, these entries may come in this order
+  -- after a take by seat t and k queued takes, these entries may follow in this order
   abbrev pub LawfulFrom : Option ℕ → ℕ → List (Entry A) → Type 0
   LawfulFrom t k [] = Unit {0}
   LawfulFrom t k (e ∷ es) = May t k e.seat e.what × LawfulFrom (taker_at t e.seat e.what) (queued_at k e.what) es

@@ -5,6 +5,6 @@ use Rattle.std.specs.Prelude.{ℕ, ◌<◌, ◌≤◌}
 abbrev pub max_seat_no : ℕ
 max_seat_no = 65535
 
--- 1 to the greatest
+-- from 1 to the greatest number
 abbrev pub IsSeatNo : ℕ → Type 0
 IsSeatNo n = (0 < n) × (n ≤ max_seat_no)

@@ -1,4 +1,4 @@
-//! The journal of a monitor: what it writes down entry by entry, and what can be read of it.
+//! The journal of a monitor: its entries, and what can be computed from them.
 ghost use Rattle.lfm_model.specs.Journals.{LawfulJournal, after_all, replies_of};
 ghost use Rattle.std.specs.Prelude.{◌≡◌, ◌↔◌, IfOk, IsTrue};
 
@@ -7,26 +7,26 @@ use crate::objects::Object;
 use crate::seat_numbers::SeatNo;
 use std::alloc::{AllocError, Global};
 
-/// What an entry of a journal says of its seat.
+/// What an entry of a journal records about its seat.
 #[derive(Clone, Copy, Debug, PartialEq, Eq)]
 pub enum What<Op> {
-    /// The seat gained the monitor in this way, and held it at depth 1.
+    /// The seat took the monitor in this way, and held it at depth 1.
     Took(How),
-    /// The seat made this op while it held the monitor.
+    /// The seat performed this op while it held the monitor.
     Did(Op),
 }
 
 /// One entry of a journal.
 #[derive(Clone, Copy, Debug, PartialEq, Eq)]
 pub struct Entry<Op> {
-    /// Whose entry it is.
+    /// The seat that made the entry.
     pub seat: SeatNo,
     /// What this seat did.
     pub what: What<Op>,
 }
 
-/// The object after the ops of the journal's entries, made in order on the opening object, and its reply to each. Takes memory
-/// for the replies; if that is refused, the object is dropped.
+/// Returns the object after the ops of the journal's entries, performed in order on the opening object, and its reply to each.
+/// It allocates memory for the replies; if that fails, the object is dropped.
 pub fn replay<O: Object>(
     alloc: Global,
     opening: O,

@@ -1,6 +1,6 @@
-//! What all other crates share: seat numbers, answers, places, refusals and faults, and the abstract mutex, which says
-//! what a mutex does and not how. Also the object that a monitor guards, and the journal that it keeps. This crate holds
-//! data and names. It holds no word and no atomic step of the protocol.
+//! What all other crates share: seat numbers, answers, places, refusals and faults, and the abstract mutex, which specifies
+//! what a mutex does but not how. Also the object that a monitor guards, and the journal that it keeps. This crate defines data
+//! and names. It has no word and no atomic step of the protocol.
 #![tactic(auto)]
 
 pub mod abstract_laws;

@@ -1,27 +1,27 @@
-//! The object that a monitor guards, and one over a number.
+//! The object that a monitor guards, and a sum as an example of one.
 ghost use Rattle.lfm_model.specs.Totals.{total_after, total_reply};
 ghost use Rattle.std.specs.Prelude.{◌≡◌};
 
-/// An object that changes by one op at a time. An op is never refused and takes no memory.
+/// An object that changes by one op at a time. An op is never refused and allocates nothing.
 pub trait Object: Send + Drop {
-    /// What can be done to the object.
+    /// An operation on the object.
     type Op: Send + Drop;
-    /// What the object replies to an op.
+    /// The reply of the object to an op.
     type Reply: Send + Drop;
 
     // The object after an op.
     ghost after: { Self → Self.Op → Self };
 
-    // What the object replies to an op, by what it was before.
+    // The reply to an op, given the object before it.
     ghost reply: { Self → Self.Op → Self.Reply };
 
-    /// Makes the op and returns the object's reply to it.
+    /// Performs the op and returns the object's reply to it.
     fn apply(&mut self, op: &Self::Op) -> Self::Reply
         ensures changes { self.new ≡ after self.old op.now }
         ensures replies { result ≡ reply self.old op.now };
 }
 
-/// What can be done to a total.
+/// An operation on a total.
 #[derive(Clone, Copy, Debug, PartialEq, Eq)]
 pub enum TotalOp {
     /// Adds this number. A sum above 2^64 - 1 becomes 2^64 - 1.
@@ -43,7 +43,7 @@ impl Object for Total {
 
     ghost reply = { total_reply };
 
-    /// Adds the number, if the op has one, and replies with the total.
+    /// Adds the number, if the op has one, and returns the total.
     fn apply(&mut self, op: &TotalOp) -> u64 {
         match op {
             TotalOp::Add(number) => self.0 = self.0.saturating_add(*number),

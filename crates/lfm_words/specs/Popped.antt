@@ -3,7 +3,7 @@ use Rattle.std.specs.Prelude.{ℕ, List, [], ◌∷◌, Option, Some, None}
 use Rattle.lfm_words.specs.declared.pop_lists.Record.{Record}
 
 -- records: the popped records, oldest first
--- room: how many records fit
+-- room: how many records fit into the list
 pub record Popped : Type 0 where
   pub records : List Record
   pub room : ℕ

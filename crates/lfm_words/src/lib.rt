@@ -1,5 +1,5 @@
-//! The values that the words of a mutex hold, their packing into 64 bits, and the list of popped wait records. No step
-//! and no rule of the protocol is here.
+//! The values that the words of a mutex hold, their packing into 64 bits, and the list of popped records. This crate has no
+//! step and no rule of the protocol.
 #![tactic(auto)]
 
 pub mod handoffs;

@@ -7,7 +7,7 @@ use lfm_model::SeatNo;
 use std::alloc::{AllocError, Global};
 use std::marker::Model;
 
-/// The wait record of a queued seat.
+/// The record of a queued seat.
 #[derive(Clone, Copy, Debug, PartialEq, Eq)]
 pub struct Record {
     /// The seat that waits.
@@ -16,11 +16,11 @@ pub struct Record {
     pub stamp: u64,
 }
 
-/// The popped records in their order, with memory for one record of each seat. A contract sees the records, oldest first,
-/// and `room`, how many of them fit.
+/// The popped records in their order, with memory for one record of each seat. A contract sees the records, oldest first, and
+/// `room`, the number of records that fit.
 #[derive(Drop)]
 pub struct PopList {
-    /// The oldest comes last, so that records are added and taken at the end.
+    /// The oldest is the last, so that records are added and removed at the end.
     records: Vec<Record>,
     room: usize,
 }
@@ -38,8 +38,8 @@ impl Model for PopList {
 }
 
 impl PopList {
-    /// An empty list with memory for this many records, which it allocates here and nowhere later. Answers AllocError if the
-    /// allocator refuses it.
+    /// An empty list with memory for this many records. It allocates here and nowhere later. Returns AllocError if there is no
+    /// memory.
     pub fn new(alloc: Global, seats: u64) -> Result<PopList, AllocError>
         ensures { IfOk result (λ p. p ≡ record { records = []; room = seats }) }
     {
@@ -63,7 +63,7 @@ impl PopList {
         self.records.is_empty()
     }
 
-    /// The seat and the stamp of record number i, 0 being the oldest. None past the newest.
+    /// The seat and the stamp of the record with index i, where 0 is the oldest. None if i is past the newest.
     pub fn get(&self, i: u64) -> Option<(SeatNo, u64)>
         ensures { result ≡ option_map pair_of (slice_get self.now.records i) }
     {
@@ -89,8 +89,8 @@ impl PopList {
         &self.records
     }
 
-    /// Adds the record of this seat and stamp as the oldest. The list holds fewer records than it has room for, so
-    /// nothing is allocated.
+    /// Adds the record of this seat and stamp as the oldest. The list must have fewer records than it has room for, so nothing
+    /// is allocated.
     pub fn add_older(&mut self, seat: SeatNo, stamp: u64)
         requires { length self.old.records < self.old.room }
         ensures records { self.new.records ≡ record { seat = seat; stamp = stamp } ∷ self.old.records }

@@ -1,4 +1,4 @@
--- What each export does to the handles that it is given, and what its answer tells. A handle is x before and y after.
+-- What each export does to its handles, and what its answer means. A handle is x before the call and y after it.
 use lib.ListN.{get_elem?}
 use mathlib.Core.Option.{some}
 use Rattle.std.specs.Prelude.{◌≡◌, ◌⊎◌, ℕ, ◌+◌, ◌-◌, ◌<◌, ◌≤◌, All, List, [], ◌∷◌, ◌++◌, map, reverse, true, false, Option, Some, None, Result, vec_len}
@@ -30,21 +30,22 @@ use Rattle.lfm_c.specs.declared.handles.Whole.{Whole}
 use Rattle.lfm_c.specs.declared.status.Status.{Status}
 use Rattle.lfm_c.specs.Status.{asked, code, code_of_refusal, faulted, hindered, locked, received, told, unlocked, Names}
 
--- the number that a mutex of this library guards may change in any way
+-- any change of the number that a mutex of this library guards is allowed
 abbrev pub Follows : ℕ → ℕ → ℕ → Type 0
 Follows s v w = Unit {0}
 
 abbrev pub Fits : ℕ → ℕ → Type 0
 Fits v k = Unit {0}
 
--- A call of a seat, P, which answers n: of a blank handle it tells only that it is blank. The seat's mutex stays.
+-- A call of a seat that returns n, with the relation P. With a blank handle it only returns that the handle is blank. The mutex
+-- of the seat does not change.
 abbrev pub OfSeated : (Limits → Sight ℕ → Sight ℕ → ℕ → Type 0) → Option Seated → Option Seated → ℕ → Type 0
 OfSeated P None y n = (y ≡ None) × (n ≡ code Status.Blank)
 OfSeated P (Some a) None n = ⊥
 OfSeated P (Some a) (Some b) n = (b.mutex ≡ a.mutex) × Beside a.seat b.seat × P (limits_of (arc_value a.mutex)) (sight a.seat) (sight b.seat) n
 
--- A call of this sort that may grant another seat the mutex. Its answer names the seat of the wake-up that it leaves: the one that
--- its steps granted, exactly if they granted one.
+-- A call of a seat that may grant another seat the mutex. Its answer names the seat of the wake-up that it leaves: the seat
+-- that its steps granted, and none if they granted none.
 abbrev pub WakesOf : (Limits → Sight ℕ → Sight ℕ → Status → Type 0) → Limits → Sight ℕ → Sight ℕ → ℕ → Type 0
 WakesOf P l s t n = (status : Status) × (w : Option ℕ) × P l s t status × Wakes l.seats w s.trail t.trail × (n ≡ told status w) × Names w n
 
@@ -64,7 +65,7 @@ abbrev pub TellsUnlock : SeatHandle → SeatHandle → ℕ → Type 0
 TellsUnlock x y n =
     OfSeated (WakesOf (λ l s t status. (r : Result Unlocked Refusal) × Sight.Unlocks s t r × MakesCall l (λ a. Answer.Unlocked a) Call.Unlock s t r × MakesAtMost (l.seats + 7) s t × (status ≡ unlocked r))) x.seated y.seated n
 
--- a reader of a seat, which leaves the handle as it is, and answers 0 of a blank one
+-- a reader of a seat, which does not change the handle and returns 0 if the handle is blank
 abbrev pub ReadsSeated : (Seated → ℕ) → Option Seated → ℕ → Type 0
 ReadsSeated f None n = n ≡ 0
 ReadsSeated f (Some a) n = n ≡ f a
@@ -78,7 +79,7 @@ TellsDepth x y n = (y ≡ x) × ReadsSeated (λ a. (sight a.seat).depth) x.seate
 abbrev pub TellsLeft : SeatHandle → SeatHandle → ℕ → Type 0
 TellsLeft x y n = (y ≡ x) × ReadsSeated (λ a. (limits_of (arc_value a.mutex)).budget - (sight a.seat).takes) x.seated n
 
--- a look at the count, of which nothing is promised but that it leaves the handle as it is, and finds 0 of a blank one
+-- a look at the count: it returns 0 if the handle is blank, and nothing else is guaranteed of the result
 abbrev pub Looks : Option Seated → ℕ → Type 0
 Looks None n = n ≡ 0
 Looks (Some a) n = Unit {0}
@@ -86,17 +87,18 @@ Looks (Some a) n = Unit {0}
 abbrev pub TellsCount : SeatHandle → SeatHandle → ℕ → Type 0
 TellsCount x y n = (y ≡ x) × Looks x.seated n
 
--- the seats of a new mutex, in order from seat 1 on
+-- the seats of a new mutex, in order, starting with seat 1
 abbrev pub AreNew : ℕ → Mutex ℕ → List (Seat ℕ) → Type 0
 AreNew seats m all = (j : ℕ) (s : Seat ℕ) → get_elem? all j ≡ some s → OfMutex s m × (sight s ≡ new_sight 0 seats (j + 1))
 
--- a new mutex with all its seats, each of which has this very mutex; the first is taken next, and so stands last
+-- A new mutex with all its seats, each of which refers to this mutex. The first seat is taken next, so it is the last of the
+-- list.
 abbrev pub Opened : ℕ → ℕ → Whole → Type 0
 Opened seats budget w =
     (limits_of (arc_value w.mutex) ≡ record { seats = seats; budget = budget }) × (w.count ≡ seats) × (vec_len w.seats ≡ seats)
     × All (λ a. arc_value a.mutex ≡ arc_value w.mutex) w.seats.items × AreNew seats (arc_value w.mutex) (reverse (map (λ a. a.seat) w.seats.items))
 
--- why no mutex is opened
+-- why a mutex could not be opened
 abbrev pub Faults : ℕ → ℕ → NewFault → Type 0
 Faults seats budget NewFault.Limit = are_in_limits seats budget ≡ false
 Faults seats budget NewFault.Memory = are_in_limits seats budget ≡ true
@@ -112,11 +114,11 @@ OpensInto (Some w) seats budget y n = (y ≡ Some w) × (n ≡ code Status.Taken
 abbrev pub TellsOpen : MutexHandle → ℕ → ℕ → MutexHandle → ℕ → Type 0
 TellsOpen x seats budget y n = OpensInto x.whole seats budget y.whole n
 
--- the mutex with these of its seats left to take
+-- the mutex with these seats not taken
 abbrev pub Leaving : List Seated → Whole → Whole → Type 0
 Leaving rest w v = (v.mutex ≡ w.mutex) × (v.count ≡ w.count) × (v.seats.items ≡ rest)
 
--- the seats that are left to take are kept with the next one last
+-- the last of the seats that are not taken is the next to be taken
 abbrev pub TakesOf : Whole → Option Whole → Option Seated → ℕ → Type 0
 TakesOf w None t n = ⊥
 TakesOf w (Some v) None n = (v ≡ w) × (vec_len w.seats ≡ 0) × (n ≡ code Status.NoSeat)
@@ -130,7 +132,7 @@ TakesInto (Some w) None v t n = TakesOf w v t n
 abbrev pub TellsTake : MutexHandle → SeatHandle → MutexHandle → SeatHandle → ℕ → Type 0
 TellsTake m s m' s' n = TakesInto m.whole s.seated m'.whole s'.seated n
 
--- why a seat doesn't go back: of a mutex whose seats are all back it can't be one
+-- why a seat is not given back; if all seats of a mutex are back, the seat belongs to another mutex
 abbrev pub StaysOut : Whole → Seated → ℕ → Type 0
 StaysOut w a n =
     ((n ≡ code Status.Foreign) × (w.count ≤ vec_len w.seats))
@@ -150,8 +152,8 @@ GivesBack (Some w) (Some a) v t n = GivesOf w a v t n
 abbrev pub TellsGive : MutexHandle → SeatHandle → MutexHandle → SeatHandle → ℕ → Type 0
 TellsGive m s m' s' n = GivesBack m.whole s.seated m'.whole s'.seated n
 
--- A mutex is ended if each of its seats is back, and none of them holds or sleeps. Otherwise the first that hinders it is named, as
--- a close of the mutex names it.
+-- A mutex is closed if each of its seats is back and none of them holds or sleeps. Otherwise the answer names the first seat
+-- that prevents it, as a close of the mutex does.
 abbrev pub ClosesWhole : Option Whole → Option Whole → ℕ → Type 0
 ClosesWhole None v n = (v ≡ None) × (n ≡ code Status.Blank)
 ClosesWhole (Some w) (Some v) n = (v ≡ w) × (m : Missing) × FirstMissing (λ a. sight a.seat) w.seats.items (limits_of (arc_value w.mutex)).seats m × (n ≡ hindered m)

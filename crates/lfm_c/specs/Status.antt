@@ -1,4 +1,4 @@
--- The numbers by which exports tell C what a call answered.
+-- The numbers by which exports return the answer of a call to C.
 use Rattle.std.specs.Prelude.{ℕ, ◌+◌, ◌*◌, ◌<◌, ◌≤◌, Result, Ok, Err, Option, Some, None}
 use Rattle.lfm_model.specs.declared.answers.Asked.{Asked}
 use Rattle.lfm_model.specs.declared.answers.How.{How}
@@ -42,31 +42,31 @@ abbrev pub told : Status → Option ℕ → ℕ
 told status None = code status
 told status (Some seat) = code status + 256 * seat
 
--- an answer is above its low 8 bits exactly if there is a wake-up, so no wake-up is told as one of no seat
+-- an answer is 256 or more exactly if there is a wake-up, so a wake-up is never returned as none
 abbrev pub Names : Option ℕ → ℕ → Type 0
 Names None n = n < 256
 Names (Some seat) n = 256 ≤ n
 
--- what `ask` answered
+-- the status of an answer of `ask`
 abbrev pub asked : Result Asked Refusal → Status
 asked (Ok (Asked.Held how)) = Status.Done
 asked (Ok (Asked.Again depth)) = Status.Again
 asked (Ok Asked.Asleep) = Status.Asleep
 asked (Err r) = Status.Refused r
 
--- what `try_receive` answered
+-- the status of an answer of `try_receive`
 abbrev pub received : Result (Option How) Refusal → Status
 received (Ok (Some how)) = Status.Done
 received (Ok None) = Status.Asleep
 received (Err r) = Status.Refused r
 
--- what `try_lock` answered
+-- the status of an answer of `try_lock`
 abbrev pub locked : Result Locked Refusal → Status
 locked (Ok (Locked.Held how)) = Status.Done
 locked (Ok (Locked.Again depth)) = Status.Again
 locked (Err r) = Status.Refused r
 
--- how `unlock` gave the mutex up
+-- the status of an unlock that was not refused
 abbrev pub released : Unlocked → Status
 released (Unlocked.Still depth) = Status.Still
 released Unlocked.Free = Status.Done
@@ -74,18 +74,18 @@ released (Unlocked.Granted seat) = Status.Granted
 released Unlocked.Posted = Status.Posted
 released Unlocked.TakenOver = Status.Posted
 
--- what `unlock` answered
+-- the status of an answer of `unlock`
 abbrev pub unlocked : Result Unlocked Refusal → Status
 unlocked (Ok u) = released u
 unlocked (Err r) = Status.Refused r
 
--- what keeps a mutex from being ended, and above the low 8 bits the seat that does
+-- the answer of a close that a seat prevents: why, and above the low 8 bits the number of that seat
 abbrev pub hindered : Missing → ℕ
 hindered (Missing.NotBack seat) = code Status.NotBack + 256 * seat
 hindered (Missing.Holding seat) = code Status.Holding + 256 * seat
 hindered (Missing.Asleep seat) = code_of_refusal Refusal.Asleep + 256 * seat
 
--- why no mutex was opened
+-- the status if a mutex could not be opened
 abbrev pub faulted : NewFault → Status
 faulted NewFault.Limit = Status.Limit
 faulted NewFault.Memory = Status.Memory

@@ -1,5 +1,5 @@
-//! The calls of a seat. Each is the mutex's own call without waking. It answers a number: the status, and the seat that is left
-//! to be woken.
+//! The calls of a seat. Each makes the corresponding call of the mutex, without its wake-up. It returns a number: the status,
+//! and the seat that is still to be woken.
 ghost use Rattle.std.specs.Prelude.{◌≡◌, ◌+◌, Option};
 ghost use Rattle.std.specs.Arc.{arc_value};
 ghost use Rattle.lfm_protocol.specs.declared.answers.Answer.TheVariants as Answered;
@@ -17,7 +17,7 @@ use crate::status::Status;
 use lfm_model::{Asked, How, Locked, Refusal, Unlocked};
 use lfm_mutex::WakeUp;
 
-/// The status, and above it the seat of the wake-up, which the caller has to make from here on.
+/// The status, and above it the number of the seat that is to be woken. From here on the caller is responsible for the wake-up.
 fn told(status: Status, wake_up: Option<WakeUp>) -> u64
     ensures is { result ≡ told_of status wake_up }
     ensures names { Names wake_up result }
@@ -28,7 +28,7 @@ fn told(status: Status, wake_up: Option<WakeUp>) -> u64
     }
 }
 
-/// The status of an answer of `ask`. How the seat came to hold is not told to C.
+/// The status of an answer of `ask`. How the seat acquired the mutex is not passed on to C.
 fn asked(answer: Result<Asked, Refusal>) -> Status
     ensures { result ≡ asked_of answer }
 {
@@ -40,7 +40,7 @@ fn asked(answer: Result<Asked, Refusal>) -> Status
     }
 }
 
-/// The status of an answer of `try_receive`. None tells that the seat sleeps on.
+/// The status of an answer of `try_receive`. Its answer None means that the seat still sleeps.
 fn received(answer: Result<Option<How>, Refusal>) -> Status
     ensures { result ≡ received_of answer }
 {
@@ -62,8 +62,8 @@ fn locked(answer: Result<Locked, Refusal>) -> Status
     }
 }
 
-/// The status of an unlock that was not refused. C has one status for a mutex that was given up beside a call that takes it
-/// over, whether that call has taken it already or not.
+/// The status of an unlock that was not refused. If the mutex was posted, C has one status, whether another call has already
+/// taken the post over or not.
 fn released(unlocked: Unlocked) -> Status
     ensures { result ≡ released_of unlocked }
 {
@@ -86,7 +86,7 @@ fn unlocked(answer: Result<Unlocked, Refusal>) -> Status
     }
 }
 
-/// The calls of the mutex, with its clauses about the seat and the mutex that lie together in a handle.
+/// The calls of the mutex, whose contracts are stated here for the seat and the mutex together in one handle.
 impl Seated {
     /// `ask_without_waking` of the mutex.
     fn ask(&mut self) -> (Result<Asked, Refusal>, Option<WakeUp>)

@@ -1,5 +1,5 @@
-//! How a mutex is ended. Its seats are known by their numbers: each of 1 to N has to be back, and none may hold or sleep. The
-//! mutex's own `missing` says which one is not.
+//! How a mutex is closed. Its seats are known by their numbers: each of 1 to N must be back, and none may hold or sleep. The
+//! mutex's own `missing` returns the first that is not back, holds or sleeps.
 ghost use Rattle.std.specs.Prelude.{◌≡◌, ⊤, MatchBool, MatchOption};
 ghost use Rattle.std.specs.Arc.{arc_value};
 ghost use Rattle.lfm_mutex.specs.Belongs.{limits_of};
@@ -12,7 +12,7 @@ use crate::handles::{MutexHandle, Whole};
 use crate::status::Status;
 use lfm_model::{Missing, Refusal};
 
-/// The status, and above it the seat that is named.
+/// The status, and above it the seat that prevents the close.
 fn hindered(missing: Missing) -> u64
     ensures { result ≡ hindered_of missing }
 {
@@ -23,8 +23,8 @@ fn hindered(missing: Missing) -> u64
     }
 }
 
-/// Whether all seats lie as in a new mutex, the first one last, and none holds or sleeps. One walk sees it, while `missing` of
-/// the mutex looks through all seats for each number.
+/// Whether all seats are in the order of a new mutex, with seat 1 last, and none holds or sleeps. This takes one pass, while
+/// `missing` of the mutex searches all seats for each number.
 fn are_as_new(whole: &Whole) -> bool
     ensures { MatchBool result (AllStand (λ a. sight a.seat) whole.now.seats.items whole.now.count) ⊤ }
 {
@@ -42,7 +42,7 @@ fn are_as_new(whole: &Whole) -> bool
     true
 }
 
-/// The first seat, from seat 1 on, that keeps the mutex from being ended, and why.
+/// The first seat, starting with seat 1, that prevents closing the mutex, and why.
 fn missing(whole: &Whole) -> Option<Missing>
     ensures { MatchOption result (AllStand (λ a. sight a.seat) whole.now.seats.items (limits_of (arc_value whole.now.mutex)).seats) (FirstMissing (λ a. sight a.seat) whole.now.seats.items (limits_of (arc_value whole.now.mutex)).seats) }
 {
@@ -52,7 +52,7 @@ fn missing(whole: &Whole) -> Option<Missing>
     whole.mutex.missing(&whole.seats)
 }
 
-/// Ends the mutex if each of its seats is back.
+/// Closes the mutex if each of its seats is back and none holds or sleeps.
 pub fn close(handle: &mut MutexHandle) -> u64
     ensures told { TellsClose handle.old handle.new result }
 {

@@ -1,7 +1,7 @@
-//! What lies in the caller's memory: a handle of a mutex, and a handle of each seat. A blank handle has no mutex, or no seat.
+//! The handles in the caller's memory: one of a mutex, and one of each seat. A blank handle has no mutex, or no seat.
 //!
-//! A mutex has to guard a value. Here it is a number that nothing reads, since what a program in C guards lies in its own
-//! memory.
+//! A mutex must guard a value. Here the value is a number that nothing reads, since the data that a C program guards is in the
+//! program's own memory.
 ghost use Rattle.std.specs.Prelude.{◌≡◌, ◌≤◌, None};
 ghost use Rattle.std.specs.Vec.{vec_capacity};
 ghost use Rattle.std.specs.Arc.{arc_value};
@@ -28,7 +28,7 @@ impl Holder<u64> for Seated {
         &self.seat
     }
 
-    /// The seat, without its share of the mutex.
+    /// The seat, without its reference to the mutex.
     fn into_seat(self) -> Seat<u64> {
         let Seated { mutex: _, seat } = self;
         seat
@@ -41,7 +41,7 @@ pub struct SeatHandle {
     pub seated: Option<Seated>,
 }
 
-/// A mutex, with those of its seats that are not taken. It has room for all of them.
+/// A mutex with those of its seats that are not taken. It has room for all seats.
 #[derive(Drop)]
 pub struct Whole {
     pub mutex: Arc<Mutex<u64>, Global>,
@@ -59,7 +59,7 @@ pub struct MutexHandle {
     pub whole: Option<Whole>,
 }
 
-/// A mutex's blank handle, which takes its memory from this allocator once it is opened.
+/// The blank handle of a mutex. When it is opened, it allocates from this allocator.
 pub fn blank_mutex(alloc: Global) -> MutexHandle
     ensures { result ≡ record { alloc = alloc; whole = None } }
 {

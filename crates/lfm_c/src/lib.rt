@@ -1,11 +1,11 @@
-//! A recursive mutex for programs in C. The handle of a mutex, and one for each seat, lie in memory of the caller, who gives
-//! each to one call at a time. A static library may neither sleep nor wake, so no call here does: c/ligdrosa.c sleeps if a call
-//! answers that the seat does, and wakes the seat that a call names.
+//! A recursive mutex for programs in C. The handle of a mutex and the handle of each seat are in memory of the caller, who
+//! passes each to one call at a time. A static library may neither sleep nor wake, so no call here does. Instead, c/ligdrosa.c
+//! sleeps if a call returns that the seat sleeps, and wakes the seat that a call names.
 //!
-//! An export tells what the call of the mutex answered by a status in the low 8 bits. Its clause says what the status means:
-//! the mutex's own clauses of that call's answers, steps and bound hold of it. An `ask` or `unlock` may grant the mutex to at
-//! most one other seat. The number of that seat stands above the status, 0 if there is none, and the clause says that it is the
-//! seat of the wake-up which the call leaves. So on this side no wake-up is lost: the caller has to wake the seat that an answer
+//! An export returns the answer of the mutex's call as a status in the low 8 bits. Its contract states what the status means:
+//! the contract of the mutex's call about answers, steps and their bound holds for it. An `ask` or `unlock` may grant the mutex
+//! to at most one other seat. The number of that seat is above the status, or 0 if there is none, and the contract states that
+//! it is the seat of the call's wake-up. So the library loses no wake-up, and the caller must wake the seat that an answer
 //! names.
 #![tactic(auto)]
 
@@ -35,7 +35,7 @@ use crate::handles::{MutexHandle, SeatHandle};
 use std::alloc::Global;
 use std::mem::{align_of, size_of};
 
-/// How many bytes the handle of a mutex has.
+/// The size of a mutex's handle, in bytes.
 #[unsafe(no_mangle)]
 pub extern "C" fn lfm_c_mutex_size() -> usize
     ensures { result ≡ capped (type_size mutex_row) }
@@ -43,7 +43,7 @@ pub extern "C" fn lfm_c_mutex_size() -> usize
     size_of::<MutexHandle>()
 }
 
-/// To how many bytes the handle of a mutex is aligned.
+/// The alignment of a mutex's handle, in bytes.
 #[unsafe(no_mangle)]
 pub extern "C" fn lfm_c_mutex_align() -> usize
     ensures { result ≡ capped (align (layout mutex_row)) }
@@ -51,7 +51,7 @@ pub extern "C" fn lfm_c_mutex_align() -> usize
     align_of::<MutexHandle>()
 }
 
-/// How many bytes the handle of a seat has.
+/// The size of a seat's handle, in bytes.
 #[unsafe(no_mangle)]
 pub extern "C" fn lfm_c_seat_size() -> usize
     ensures { result ≡ capped (type_size seat_row) }
@@ -59,7 +59,7 @@ pub extern "C" fn lfm_c_seat_size() -> usize
     size_of::<SeatHandle>()
 }
 
-/// To how many bytes the handle of a seat is aligned.
+/// The alignment of a seat's handle, in bytes.
 #[unsafe(no_mangle)]
 pub extern "C" fn lfm_c_seat_align() -> usize
     ensures { result ≡ capped (align (layout seat_row)) }
@@ -67,7 +67,7 @@ pub extern "C" fn lfm_c_seat_align() -> usize
     align_of::<SeatHandle>()
 }
 
-/// Writes the blank handle of a mutex. C passes the pointer alone: an allocator has no bytes.
+/// Writes the blank handle of a mutex. C passes only the pointer, since an allocator has no bytes.
 #[unsafe(no_mangle)]
 pub unsafe extern "C" fn lfm_c_blank_mutex(alloc: Global, mutex: *mut u8)
     requires* { sem 𝓛 (room_at mutex_row mutex) }
@@ -85,9 +85,9 @@ pub unsafe extern "C" fn lfm_c_blank_seat(seat: *mut u8)
     (seat as *mut SeatHandle).write(handles::blank_seat());
 }
 
-/// Opens a mutex with this many seats, 1 to 4,095, each of which may take it as often as the budget says, 1 to 2^36.
+/// Opens a mutex with this many seats, 1 to 4,095, and this many takes for each seat, 1 to 2^36.
 ///
-/// Done, or Taken (the handle is not blank), Limit, Memory, which change nothing. No other export takes memory.
+/// Returns Done, or Taken (the handle is not blank), Limit, Memory, which change nothing. No other export allocates.
 #[unsafe(no_mangle)]
 pub unsafe extern "C" fn lfm_c_open(mutex: *mut u8, seats: u64, budget: u64) -> u64
     ghost x: { MutexNow }
@@ -97,9 +97,9 @@ pub unsafe extern "C" fn lfm_c_open(mutex: *mut u8, seats: u64, budget: u64) -> 
     open::open(&mut *(mutex as *mut MutexHandle), seats, budget)
 }
 
-/// Takes the next seat of the mutex: the first is seat 1, and a seat that was given back comes before those not yet taken.
+/// Takes the next seat of the mutex: the first is seat 1, and a seat that was given back is taken before those never taken.
 ///
-/// Done, or Taken (the seat's handle is not blank), Blank (the mutex's is), NoSeat, which change nothing.
+/// Returns Done, or Taken (the seat's handle is not blank), Blank (the mutex's handle is blank), NoSeat, which change nothing.
 #[unsafe(no_mangle)]
 pub unsafe extern "C" fn lfm_c_take_seat(mutex: *mut u8, seat: *mut u8) -> u64
     ghost x: { MutexNow × SeatNow }
@@ -112,10 +112,10 @@ pub unsafe extern "C" fn lfm_c_take_seat(mutex: *mut u8, seat: *mut u8) -> u64
     )
 }
 
-/// Gives the seat back to its mutex, and leaves its handle blank. The seat keeps its number and its takes.
+/// Gives the seat back to its mutex, and makes its handle blank. The seat keeps its number and its takes.
 ///
-/// Done, or Blank, Foreign (all seats of this mutex are back, so the seat is another's), Holding, Asleep, which change nothing.
-/// Otherwise the caller has to know that the seat is of this mutex.
+/// Returns Done, or Blank, Foreign (all seats of this mutex are back, so this seat belongs to another), Holding, Asleep, which
+/// change nothing. In all other cases the caller must ensure that the seat belongs to this mutex.
 #[unsafe(no_mangle)]
 pub unsafe extern "C" fn lfm_c_give_seat(mutex: *mut u8, seat: *mut u8) -> u64
     ghost x: { MutexNow × SeatNow }
@@ -128,12 +128,13 @@ pub unsafe extern "C" fn lfm_c_give_seat(mutex: *mut u8, seat: *mut u8) -> u64
     )
 }
 
-/// Ends the mutex if each of its seats is back, and gives its memory back.
+/// Closes the mutex if each of its seats is back and none holds or sleeps, and frees its memory.
 ///
-/// Done, or Blank, NotBack, Holding, Asleep, which change nothing. Above one of the last three stands the number of the first
-/// seat, from 1 on, that is not back, holds or sleeps, as `missing` of the mutex names it, which goes by the numbers of the
-/// seats alone. `close` of the mutex is not called here, since it requires that each seat is one of this mutex, and nothing
-/// that runs tells whose seat comes back from C. What the mutex guards, a number that nothing reads, is dropped with it.
+/// Returns Done, or Blank, NotBack, Holding, Asleep, which change nothing. With each of the last three, the bits above the
+/// status have the number of the first seat, starting with seat 1, that is not back, holds or sleeps. This is the seat that
+/// `missing` of the mutex returns, which compares only the numbers of the seats. `close` of the mutex is not used here, since
+/// it requires that each seat belongs to this mutex, and the running code cannot know to which mutex a seat from C belongs. The
+/// guarded number, which nothing reads, is dropped with the mutex.
 #[unsafe(no_mangle)]
 pub unsafe extern "C" fn lfm_c_close(mutex: *mut u8) -> u64
     ghost x: { MutexNow }
@@ -143,7 +144,7 @@ pub unsafe extern "C" fn lfm_c_close(mutex: *mut u8) -> u64
     close::close(&mut *(mutex as *mut MutexHandle))
 }
 
-/// The seat's number, 1 to 4,095, or 0 if the handle is blank.
+/// Returns the seat's number, 1 to 4,095, or 0 if the handle is blank.
 #[unsafe(no_mangle)]
 pub unsafe extern "C" fn lfm_c_number(seat: *mut u8) -> u64
     ghost x: { SeatNow }
@@ -153,7 +154,7 @@ pub unsafe extern "C" fn lfm_c_number(seat: *mut u8) -> u64
     reading::number(&mut *(seat as *mut SeatHandle))
 }
 
-/// How often the seat holds, 0 to 65,535, and 0 if the handle is blank.
+/// Returns how many times the seat holds the mutex, 0 to 65,535, or 0 if the handle is blank.
 #[unsafe(no_mangle)]
 pub unsafe extern "C" fn lfm_c_depth(seat: *mut u8) -> u64
     ghost x: { SeatNow }
@@ -163,7 +164,7 @@ pub unsafe extern "C" fn lfm_c_depth(seat: *mut u8) -> u64
     reading::depth(&mut *(seat as *mut SeatHandle))
 }
 
-/// How many takes the seat has left, 0 to 2^36, and 0 if the handle is blank.
+/// Returns how many takes the seat has left, 0 to 2^36, or 0 if the handle is blank.
 #[unsafe(no_mangle)]
 pub unsafe extern "C" fn lfm_c_left(seat: *mut u8) -> u64
     ghost x: { SeatNow }
@@ -173,7 +174,8 @@ pub unsafe extern "C" fn lfm_c_left(seat: *mut u8) -> u64
     reading::left(&mut *(seat as *mut SeatHandle))
 }
 
-/// How many seats hold the mutex or want it, by one look, and 0 if the handle is blank. A seat looks before it tries.
+/// Returns how many seats hold or want the mutex, by one load, or 0 if the handle is blank. A thread that spins or naps loads
+/// it before each try.
 #[unsafe(no_mangle)]
 pub unsafe extern "C" fn lfm_c_count(seat: *mut u8) -> u64
     ghost x: { SeatNow }
@@ -183,8 +185,8 @@ pub unsafe extern "C" fn lfm_c_count(seat: *mut u8) -> u64
     reading::count(&mut *(seat as *mut SeatHandle))
 }
 
-/// `ask` of the seat: Done (it holds), Again (it holds once more), Asleep, or Blank, or why it is refused. Above it is the
-/// number of the seat to be woken, or 0.
+/// `ask` of the seat. Returns Done (it holds), Again (it holds once more), Asleep, Blank, or why it is refused. The number of
+/// the seat to be woken, or 0, is above the status.
 #[unsafe(no_mangle)]
 pub unsafe extern "C" fn lfm_c_ask(seat: *mut u8) -> u64
     ghost x: { SeatNow }
@@ -194,7 +196,7 @@ pub unsafe extern "C" fn lfm_c_ask(seat: *mut u8) -> u64
     calls::ask(&mut *(seat as *mut SeatHandle))
 }
 
-/// `try_receive` of the seat: Done (it holds), Asleep (it has no grant), or Blank, or why it is refused.
+/// `try_receive` of the seat. Returns Done (it holds), Asleep (it has no grant), Blank, or why it is refused.
 #[unsafe(no_mangle)]
 pub unsafe extern "C" fn lfm_c_receive(seat: *mut u8) -> u64
     ghost x: { SeatNow }
@@ -204,7 +206,7 @@ pub unsafe extern "C" fn lfm_c_receive(seat: *mut u8) -> u64
     calls::receive(&mut *(seat as *mut SeatHandle))
 }
 
-/// `try_lock` of the seat: Done (it holds), Again (it holds once more), or Blank, or why it is refused.
+/// `try_lock` of the seat. Returns Done (it holds), Again (it holds once more), Blank, or why it is refused.
 #[unsafe(no_mangle)]
 pub unsafe extern "C" fn lfm_c_try_lock(seat: *mut u8) -> u64
     ghost x: { SeatNow }
@@ -214,8 +216,8 @@ pub unsafe extern "C" fn lfm_c_try_lock(seat: *mut u8) -> u64
     calls::try_lock(&mut *(seat as *mut SeatHandle))
 }
 
-/// `unlock` of the seat: Still (it holds once less), Done, Posted, Granted, or Blank, or why it is refused. Above it is the
-/// number of the seat to be woken, or 0.
+/// `unlock` of the seat. Returns Still (it has one hold less and still holds), Done, Posted, Granted, Blank, or why it is
+/// refused. The number of the seat to be woken, or 0, is above the status.
 #[unsafe(no_mangle)]
 pub unsafe extern "C" fn lfm_c_unlock(seat: *mut u8) -> u64
     ghost x: { SeatNow }

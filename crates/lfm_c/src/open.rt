@@ -1,4 +1,4 @@
-//! How a mutex is opened, and its seats are taken and given back.
+//! How a mutex is opened, and how its seats are taken and given back.
 ghost use Rattle.std.specs.Prelude.{◌≡◌, ◌≤◌, ◌<◌, All, ◌++◌, ◌∷◌, [], map, reverse, IfOk, IfErr, MatchBool, MatchOption, Some, false, true, vec_len};
 ghost use Rattle.std.specs.Arc.{arc_value};
 ghost use Rattle.std.specs.Vec.{vec_capacity};
@@ -15,7 +15,7 @@ use lfm_mutex::{Mutex, Seat};
 use std::alloc::{AllocError, Global};
 use std::sync::Arc;
 
-/// Gives each seat the mutex. The first seat comes last.
+/// Pairs each seat with a reference to the mutex. The first seat is the last of the list.
 fn seated(
     alloc: Global,
     mutex: &Arc<Mutex<u64>, Global>,
@@ -37,7 +37,7 @@ fn seated(
     Ok(all)
 }
 
-/// A mutex, with each of its seats.
+/// A new mutex with all its seats.
 fn opened(alloc: Global, seats: u64, budget: u64) -> Result<Whole, NewFault>
     ensures ok { IfOk result (λ w. Opened seats budget w × (are_in_limits seats budget ≡ true)) }
     ensures fault { IfErr result (λ e. Faults seats budget e) }
@@ -75,11 +75,11 @@ pub fn open(handle: &mut MutexHandle, seats: u64, budget: u64) -> u64
 }
 
 impl Whole {
-    /// The next seat that is left to take.
+    /// Removes and returns the next seat to be taken.
     fn next(&mut self) -> Option<Seated>
         ensures { MatchOption result ((self.new ≡ self.old) × (vec_len self.old.seats ≡ 0)) (λ a. (self.old.seats.items ≡ self.new.seats.items ++ a ∷ []) × (self.new.mutex ≡ self.old.mutex) × (self.new.count ≡ self.old.count)) }
     {
-        // Tested first, so that the proof of the pop knows that the list is not empty.
+        // This test comes first, so that the proof of the pop knows that the list is not empty.
         if self.seats.is_empty() {
             return None;
         }
@@ -89,7 +89,7 @@ impl Whole {
         Some(seated)
     }
 
-    /// Puts a seat back.
+    /// Adds a seat that was given back.
     fn put(&mut self, seated: Seated)
         requires { vec_len self.old.seats < self.old.count }
         ensures { Leaving (self.old.seats.items ++ seated ∷ []) self.old self.new }
@@ -97,7 +97,7 @@ impl Whole {
         self.seats.push_reserved(seated);
     }
 
-    /// Whether all seats of the mutex are back, or not yet taken.
+    /// Whether no seat of the mutex is taken at present.
     pub(crate) fn is_whole(&self) -> bool
         ensures { MatchBool result (self.now.count ≤ vec_len self.now.seats) (vec_len self.now.seats < self.now.count) }
     {
@@ -105,7 +105,7 @@ impl Whole {
     }
 }
 
-/// Takes the next seat of the mutex.
+/// Moves the next seat of the mutex into the seat's handle.
 pub fn take_seat(mutex: &mut MutexHandle, seat: &mut SeatHandle) -> u64
     ensures told { TellsTake mutex.old seat.old mutex.new seat.new result }
 {
@@ -124,7 +124,7 @@ pub fn take_seat(mutex: &mut MutexHandle, seat: &mut SeatHandle) -> u64
     }
 }
 
-/// Why the seat can't go back to the mutex.
+/// Why the seat can't be given back to this mutex.
 fn stays(whole: &Whole, seated: &Seated) -> Option<Status>
     ensures { MatchOption result ((vec_len whole.now.seats < whole.now.count) × ((sight seated.now.seat).asleep ≡ false) × ((sight seated.now.seat).depth ≡ 0)) (λ k. StaysOut whole.now seated.now (code k)) }
 {

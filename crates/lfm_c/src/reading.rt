@@ -1,4 +1,4 @@
-//! What is read of a seat. Each call leaves the handle as it is.
+//! Readers of a seat. None changes the handle.
 ghost use Rattle.lfm_c.specs.Handles.{TellsCount, TellsNumber, TellsDepth, TellsLeft};
 
 use crate::handles::SeatHandle;
@@ -13,7 +13,7 @@ pub fn number(handle: &mut SeatHandle) -> u64
     }
 }
 
-/// How often the seat holds, 0 to 65,535, and 0 if the handle is blank.
+/// How many times the seat holds the mutex, 0 to 65,535, or 0 if the handle is blank.
 pub fn depth(handle: &mut SeatHandle) -> u64
     ensures told { TellsDepth handle.old handle.new result }
 {
@@ -23,7 +23,7 @@ pub fn depth(handle: &mut SeatHandle) -> u64
     }
 }
 
-/// How many takes the seat has left, and 0 if the handle is blank.
+/// How many takes the seat has left, or 0 if the handle is blank.
 pub fn left(handle: &mut SeatHandle) -> u64
     ensures told { TellsLeft handle.old handle.new result }
 {
@@ -33,8 +33,8 @@ pub fn left(handle: &mut SeatHandle) -> u64
     }
 }
 
-/// How many seats hold the mutex or want it, by one look, and 0 if the handle is blank. The look promises nothing: the number may
-/// have changed when it is answered.
+/// How many seats hold or want the mutex, by one load, or 0 if the handle is blank. Nothing is guaranteed about the result: the
+/// count may have changed by the time it is returned.
 pub fn count(handle: &mut SeatHandle) -> u64
     ensures told { TellsCount handle.old handle.new result }
 {

@@ -1,45 +1,45 @@
-//! What a call tells, and the number that tells it to C.
+//! The result of a call, and its number for C.
 ghost use Rattle.std.specs.Prelude.{◌≡◌, ◌<◌};
 ghost use Rattle.lfm_c.specs.Status.{code, code_of_refusal};
 
 use lfm_model::Refusal;
 
-/// What a call tells. The header has the same names and numbers.
+/// The result of a call. The C header has the same names and numbers.
 #[derive(Clone, Copy, Debug, PartialEq, Eq)]
 pub enum Status {
-    /// The call did what it is for.
+    /// The call succeeded.
     Done,
-    /// The seat held before, and holds once more.
+    /// The seat already held, and now holds once more.
     Again,
-    /// The seat holds once less, and still holds.
+    /// The seat has one hold less, and still holds.
     Still,
     /// The seat sleeps.
     Asleep,
-    /// The mutex was given up beside a call that takes it over.
+    /// The mutex was released and posted, for another call to take over.
     Posted,
-    /// The mutex was given to the oldest queued seat.
+    /// The mutex was granted to the oldest queued seat.
     Granted,
     /// The handle is blank.
     Blank,
     /// The handle is not blank.
     Taken,
-    /// A number of seats or of takes is outside its limits.
+    /// The number of seats or the budget is outside its limits.
     Limit,
-    /// Memory was refused.
+    /// The allocator had no memory.
     Memory,
     /// All seats are taken.
     NoSeat,
-    /// A seat is not back.
+    /// A seat has not been given back.
     NotBack,
     /// The seat holds the mutex.
     Holding,
-    /// The seat is of another mutex.
+    /// The seat belongs to another mutex.
     Foreign,
     /// The mutex refused the call.
     Refused(Refusal),
 }
 
-/// The number of a refusal: 32 to 39, so that no other status has it.
+/// The number of a refusal: 32 to 39, which no other status has.
 fn code_of_refusal(refusal: Refusal) -> u64
     ensures is { result ≡ code_of_refusal refusal }
     ensures low { result < 256 }
@@ -57,7 +57,7 @@ fn code_of_refusal(refusal: Refusal) -> u64
 }
 
 impl Status {
-    /// The status as C sees it: 0 to 39.
+    /// The number of the status in C: 0 to 39.
     pub fn code(self) -> u64
         ensures is { result ≡ code self }
         ensures low { result < 256 }

@@ -1,4 +1,4 @@
--- What a job comes to, by what was decided at the start latch.
+-- The outcome of a job, by cases on the decision at the start latch.
 use Rattle.std.proofs.Common.{◌≡◌, subst}
 use Rattle.lfm_threads.specs.declared.start_latch.StartSignal.{StartSignal}
 use Rattle.lfm_threads.specs.declared.arrivals.Outcome.{Outcome}

@@ -8,7 +8,7 @@ use Rattle.lfm_threads.specs.declared.workers.Worker.TheVariants.{Started, Refus
 use Rattle.lfm_threads.specs.Together.{Arrives}
 
 module _ {P X K : Type 0} (g : Task.Ghosts K P X) (task : K) where
-  -- the job was given to a thread; or to nobody, and this is what it came to
+  -- the job was given to a thread; or to no thread, and this is its outcome
   abbrev pub HasJob : ℕ → P → Worker P X K → Type 0
   HasJob latch p (Started h) = (h.promise.latch.value.start.id ≡ latch) × (h.promise.job.value ≡ p) × (h.promise.task.value ≡ task)
   HasJob latch p (Refused a) = Arrives (g.gives task) latch p a

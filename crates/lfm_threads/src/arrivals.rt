@@ -1,27 +1,27 @@
-//! What comes of a job at a start latch.
+//! The result of a job at a start latch.
 ghost use Rattle.lfm_threads.specs.Together.{Arrives};
 
 use crate::start_latch::{Decision, StartLatch, StartSignal};
 use crate::task::Task;
 use std::sync::Wait;
 
-/// What a job came to.
+/// The outcome of a job.
 #[derive(Drop)]
 pub enum Outcome<P, X> {
-    /// It was made, and gave this.
+    /// The job was done, with this result.
     Made(X),
-    /// It was not begun.
+    /// The job was not started.
     Kept(P),
 }
 
-/// What came of a job, with the decision at its start latch.
+/// The outcome of a job, with the decision at its start latch.
 #[derive(Drop)]
 pub struct Arrival<'a, P, X> {
     pub decision: Decision<'a>,
     pub outcome: Outcome<P, X>,
 }
 
-/// The body of a thread: it waits at the latch, and makes its job if it may go.
+/// The body of a thread: it waits at the latch, and does its job if the decision is to go.
 pub fn arrive<'a, P, X, R: Wait, K: Task<P, X>>(
     rt: &R,
     latch: &'a StartLatch,

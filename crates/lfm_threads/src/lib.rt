@@ -1,5 +1,5 @@
-//! Threads that are started together: each begins with its job once all have been started, and none does if one of them can't
-//! be started. No word of a mutex stands here.
+//! Threads that are started together: each does its job only after all have been started, and none does if one of them can't be
+//! started. This crate has no word of a mutex.
 #![tactic(auto)]
 
 mod arrivals;

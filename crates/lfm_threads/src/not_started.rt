@@ -1,13 +1,13 @@
-//! What is handed back if no thread was given its job.
+//! What the caller gets back if no job was started.
 
 use std::error::Error;
 use std::fmt;
 use std::fmt::{Debug, Display, Formatter, Write};
 
-/// Why no job was begun.
+/// Why no job was started.
 #[derive(Clone, Copy, Debug, PartialEq, Eq, thiserror::Error)]
 pub enum StartFault {
-    /// A request for memory was refused before a thread was started.
+    /// There was no memory. This is found before any thread is started.
     #[error("out of memory")]
     Memory,
     /// A thread could not be started.
@@ -15,17 +15,17 @@ pub enum StartFault {
     Thread,
 }
 
-/// All jobs, in their order and unchanged: none of them was begun.
+/// All jobs, unchanged and in their order: none of them was started.
 #[derive(Drop)]
 pub struct NotStarted<P> {
     /// The jobs.
     pub jobs: Vec<P>,
-    /// Why none was begun.
+    /// Why none was started.
     pub fault: StartFault,
 }
 
 impl<P: Drop> Debug for NotStarted<P> {
-    /// Shows how many jobs there are, since a job may be of any type.
+    /// Shows the number of jobs, since a job may be of any type.
     fn fmt<W: Write>(&self, f: &mut Formatter<W>) -> fmt::Result {
         f.debug_struct("NotStarted")
             .field("jobs", &self.jobs.len())
@@ -35,7 +35,7 @@ impl<P: Drop> Debug for NotStarted<P> {
 }
 
 impl<P: Drop> Display for NotStarted<P> {
-    /// Shows the fault alone.
+    /// Shows only the fault.
     fn fmt<W: Write>(&self, f: &mut Formatter<W>) -> fmt::Result {
         Display::fmt(&self.fault, f)
     }

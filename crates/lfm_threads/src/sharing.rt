@@ -1,4 +1,4 @@
-//! Threads that share a value, each with a job of its own.
+//! Threads that share a value, each with its own job.
 ghost use Rattle.std.specs.Prelude.{◌≡◌, IfErr, IfOk, vec_len};
 ghost use Rattle.lfm_threads.specs.Sharing.{GivesResult, TakesJob};
 ghost use Rattle.lfm_threads.specs.Together.{AllGiven, AllTaken};
@@ -9,7 +9,7 @@ use crate::together::make_together;
 use std::sync::Wait;
 use std::thread::Threads;
 
-/// A call with the shared value.
+/// A closure with the shared value for its calls.
 #[derive(Drop)]
 struct SharedCall<'s, S, F> {
     shared: &'s S,
@@ -27,12 +27,11 @@ impl<'s, S, P, X, F: Fn(&S, P) -> X> Task<P, X> for SharedCall<'s, S, F> {
     }
 }
 
-/// Calls the closure with the shared value and each job, each in a thread of its own, and returns what the calls gave, in the
-/// order of the jobs. No call is made before all threads have been started, so calls may wait for one another. It sleeps until
-/// all threads have ended.
+/// Calls the closure with the shared value and each job, each call in its own thread, and returns the results in the order of
+/// the jobs. No call is made before all threads have been started, so calls may wait for one another. It sleeps until all
+/// threads have ended.
 ///
-/// If a request for memory is refused (Memory), or a thread can't be started (Thread), no call is made, and all jobs are handed
-/// back.
+/// If there is no memory (Memory) or a thread can't be started (Thread), no call is made, and all jobs are returned.
 ///
 /// ```
 /// let counts = share(&rt, &text, words, &|text: &Text, word: Word| text.count(&word))?;

@@ -1,22 +1,23 @@
-//! The start latch of `share`: threads wait at it until it is decided, once, whether they go.
+//! The start latch of `share`: threads wait at it until it is decided, once, whether they go on.
 //!
-//! `lfm_program` has a `StartingLine` of its own, since `lfm work` has to start its workers with std's `Mutex` and `Condvar`.
-//! These prove nothing of what was decided. `share` promises that either all jobs are made or none, so its latch is a
+//! `lfm_program` has its own `StartingLine`, since `lfm work` must start its workers with the `Mutex` and `Condvar` of std.
+//! These prove nothing about the decision. `share` promises that either all jobs are done or none, so its latch is a
 //! `OnceLock`, whose tokens prove that all threads found the same decision.
 ghost use Rattle.std.specs.Prelude.{◌≡◌};
 
 use std::sync::{OnceLock, OnceToken, Wait};
 
-/// The signal that a start latch gives.
+/// The decision at a start latch.
 #[derive(Clone, Copy, Debug, PartialEq, Eq)]
 pub enum StartSignal {
-    /// All have been started, and go.
+    /// All threads have been started, and do their jobs.
     Go,
-    /// One could not be started: the others have nothing to do.
+    /// A thread could not be started, so no thread does its job.
     CalledOff,
 }
 
-/// A start latch. It is closed until it is decided, once, whether all go or the start is called off. It takes no memory.
+/// A start latch. It is closed until it is decided, once, whether all threads go or the start is called off. It allocates
+/// nothing.
 ///
 /// ```
 /// let latch = StartLatch::new();
@@ -28,7 +29,7 @@ pub struct StartLatch {
     start: OnceLock<StartSignal>,
 }
 
-/// What was decided at a start latch. It is the same for all that ask at one latch.
+/// What was decided at a start latch. All decisions of one latch are equal.
 #[derive(Drop)]
 pub struct Decision<'a> {
     token: OnceToken<'a, StartSignal>,
@@ -37,14 +38,14 @@ pub struct Decision<'a> {
 }
 
 impl StartLatch {
-    /// A latch that is closed.
+    /// A closed latch.
     pub fn new() -> StartLatch {
         StartLatch {
             start: OnceLock::new(),
         }
     }
 
-    /// Decides, and wakes the threads that sleep here. If it was decided before, that decision stays and is returned.
+    /// Decides, and wakes the threads that sleep at the latch. If there was already a decision, that one stays and is returned.
     pub fn decide<R: Wait>(&self, rt: &R, start: StartSignal) -> Decision<'_>
         ensures { result.token.of ≡ self.now.start.id }
     {
@@ -55,25 +56,25 @@ impl StartLatch {
         }
     }
 
-    /// Sleeps while the latch is closed. Returns what was decided.
+    /// Sleeps while the latch is closed. Returns the decision.
     pub fn wait<R: Wait>(&self, rt: &R) -> Decision<'_>
         ensures { result.token.of ≡ self.now.start.id }
     {
         let _start = self.start.wait(rt);
-        // It has been decided by now, so this only reads what was decided.
+        // There is a decision already, so this only reads it.
         self.decide(rt, StartSignal::CalledOff)
     }
 }
 
 impl<'a> Decision<'a> {
-    /// What was decided.
+    /// The decision itself.
     pub fn start(&self) -> StartSignal
         ensures { result ≡ self.now.start }
     {
         self.start
     }
 
-    /// Two decisions of one latch are the same. It does nothing, and its contract says so.
+    /// Two decisions of one latch are equal. The function does nothing: its contract states the law.
     pub fn agrees(&self, other: &Decision<'a>)
         requires { self.now.token.of ≡ other.now.token.of }
         ensures { self.now.start ≡ other.now.start }

@@ -1,4 +1,4 @@
-//! Jobs that are given to threads together.
+//! Gives jobs to threads and starts them together.
 ghost use Rattle.std.specs.Prelude.{◌≡◌, IfErr, IfOk, vec_len};
 ghost use Rattle.lfm_threads.specs.Together.{AllGiven, AllTaken, Arrives};
 
@@ -12,7 +12,8 @@ use std::sync::Wait;
 use std::thread;
 use std::thread::Threads;
 
-/// Makes each job in a thread of its own, or none.
+/// Does all jobs, each in its own thread, or none. If there is no memory or a thread can't be started, the jobs are returned.
+/// It sleeps until all threads have ended.
 pub fn make_together<
     P: Send + Drop,
     X: Send + Drop,
@@ -26,7 +27,7 @@ pub fn make_together<
 {
     let latch = StartLatch::new();
     let at_latch = &latch;
-    // The closure repeats the contract, since a scope answers only what its closure ensures. So the function is long.
+    // The closure repeats the contract, since a scope ensures only what its closure ensures. Therefore the function is long.
     thread::scope(
         thread::scope_env(),
         rt,
@@ -37,7 +38,7 @@ pub fn make_together<
             ensures back { IfErr result (λ e. e.jobs.items ≡ jobs.items) }
         {
             let (alloc, count) = (*jobs.allocator(), jobs.len());
-            // All the memory that is needed is asked for before a thread is started.
+            // All memory is allocated before a thread is started.
             let (Ok(mut workers), Ok(results), Ok(back)) = (
                 Vec::with_capacity(alloc, count),
                 Vec::with_capacity(alloc, count),
@@ -65,7 +66,7 @@ pub fn make_together<
                 let worker = match started {
                     Ok(handle) => Worker::Started(handle),
                     Err(refused) => {
-                        // The jobs come back: each thread finds the start called off, and hands its job back.
+                        // The jobs are returned: each thread finds that the start was called off, and returns its job.
                         at_latch.decide(rt, StartSignal::CalledOff);
                         Worker::Refused((refused.value)())
                     }

@@ -1,4 +1,4 @@
-//! The threads that were given a job, and what comes of all jobs.
+//! The threads that were given a job, and the results of all jobs.
 ghost use Rattle.std.specs.Prelude.{◌≡◌, ◌≤◌, ℕ, List, [], vec_capacity, vec_len};
 ghost use Rattle.lfm_threads.specs.declared.start_latch.StartSignal.{StartSignal as StartNow};
 ghost use Rattle.lfm_threads.specs.Together.{AllGiven, Arrives};
@@ -10,7 +10,7 @@ use crate::task::Task;
 use std::snapshot::Snapshot;
 use std::thread::{Promise, PromisedHandle, Threads};
 
-/// What a thread was given. It promises that the outcome of the job follows the decision at the start latch.
+/// What a thread was given. It promises that the outcome of the job agrees with the decision at the start latch.
 #[derive(Drop)]
 pub struct Given<P, K> {
     pub latch: Snapshot<StartLatch>,
@@ -22,17 +22,17 @@ impl<'a, P, X, K: Task<P, X>> Promise<Arrival<'a, P, X>> for Given<P, K> {
     ghost kept_by = { λ g a. Arrives (K.gives g.task.value) g.latch.value.start.id g.job.value a };
 }
 
-/// Who was given a job.
+/// Which thread was given a job.
 #[derive(Drop)]
 pub enum Worker<'a, P, X, K: Task<P, X>> {
     /// A thread.
     Started(PromisedHandle<Arrival<'a, P, X>, Given<P, K>>),
-    /// Nobody: no thread could be started for the job. This came of it.
+    /// No thread: none could be started for the job. This is the outcome.
     Refused(Arrival<'a, P, X>),
 }
 
 impl<'a, P: Drop, X: Drop, K: Task<P, X>> Worker<'a, P, X, K> {
-    /// What came of the job. It sleeps until its thread, if it has one, has ended.
+    /// The outcome of the job. It sleeps until the thread of the job, if there is one, has ended.
     pub fn arrival<R: Threads>(self, rt: &R) -> Arrival<'a, P, X>
         ensures { (task : K) (latch : ℕ) (p : P) → HasJob K.Task task latch p self.entry → Arrives (K.gives task) latch p result }
     {
@@ -43,18 +43,18 @@ impl<'a, P: Drop, X: Drop, K: Task<P, X>> Worker<'a, P, X, K> {
     }
 }
 
-/// The workers of one start latch, and what was decided there.
+/// The workers of one start latch, and the decision there.
 #[derive(Drop)]
 pub struct Team<'a, P, X, K: Task<P, X>> {
     pub decision: Decision<'a>,
     pub workers: Vec<Worker<'a, P, X, K>>,
-    /// The job that each was given.
+    /// The job that each worker was given.
     pub jobs: Snapshot<Vec<P>>,
     pub task: Snapshot<K>,
 }
 
 impl<'a, P: Drop, X: Drop, K: Task<P, X>> Team<'a, P, X, K> {
-    /// What the jobs gave, in order, if the decision was to go. It sleeps until all threads have ended.
+    /// The results of the jobs, in order. The decision must be to go. It sleeps until all threads have ended.
     pub fn results<R: Threads>(self, rt: &R, mut results: Vec<X>) -> Vec<X>
         requires go { self.decision.start ≡ StartNow.Go }
         requires given { AllHaveJobs K.Task self.task.value self.decision.token.of self.jobs.value.items self.workers.items }
@@ -83,7 +83,7 @@ impl<'a, P: Drop, X: Drop, K: Task<P, X>> Team<'a, P, X, K> {
         results
     }
 
-    /// The jobs, in order, if the start was called off. It sleeps until all threads have ended.
+    /// The jobs, in order. The start must have been called off. It sleeps until all threads have ended.
     pub fn jobs<R: Threads>(self, rt: &R, mut jobs: Vec<P>) -> Vec<P>
         requires off { self.decision.start ≡ StartNow.CalledOff }
         requires given { AllHaveJobs K.Task self.task.value self.decision.token.of self.jobs.value.items self.workers.items }

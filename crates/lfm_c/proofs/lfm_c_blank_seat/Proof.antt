@@ -1,4 +1,4 @@
--- There is room where C's pointer says. `handles::blank_seat` makes the blank handle, which is written there.
+-- There is room at the address in C's pointer. `handles::blank_seat` makes the blank handle, which is then written there.
 -- scripts/write_c_sides writes this file.
 use Rattle.std.specs.Prelude.{None}
 use Rattle.std.proofs.Common.{◌≡◌, [], ◌∷◌, ◌++◌, refl}

@@ -1,4 +1,5 @@
--- Each handle lies where C's pointer says. It is lent to `close::close` for a new lifetime, and comes back as the call left it.
+-- Each handle is at the address in C's pointer. It is lent to `close::close` for a new lifetime,
+-- and returned as the call left it.
 -- scripts/write_c_sides writes this file.
 use Rattle.std.proofs.Common.{ℕ, [], ◌∷◌, ◌++◌, refl, w64}
 use Rattle.std.proofs.raw_atomic.Walks.{proved}
@@ -71,13 +72,13 @@ lfm_c_close_spec 𝓤 𝓛 𝓜 𝓡 wired =
     use1 𝓛 (later (some (λ (u : ℕ). ((‵ (flft κ0 full_share) ⊛ ‵ ftrue) ⊛ ‵ (u64.own_val u (v ∷ []))) ⊛
     some (λ (ws : (MutexHandle × Unit {0})). ‵ (lasts g.ended z.0.0 z.0.3 ws) ⊛ raw (fact 𝓤 (TellsClose x ws.0 u)))))) (id⊢ 𝓤 _) $
     await ! tt $ pick ! (λ u. split ! $ split ! $ split ! $ lft_end ! tt $
-    -- [the lifetime is over; nothing; the result; what the call left; the right to the handle]
+    -- [the end of the lifetime; nothing; the result; what the call left; the right to the handle]
     move ! (2 ∷ []) $ peeks ! u64 (Is u64) (shows 𝓛 u64) u (v ∷ []) (λ is. lands_as ! refl refl ((uint_Lawful 𝓛 w64).typed u _ is).0 $
     move ! (3 ∷ []) $ pick ! (λ ws. split ! $ move ! (1 ∷ []) $ heard ! _ (λ told. fsplit ! $ fsplit ! $
-    -- [the loan's last value; its borrow; nothing; the result; the lifetime is over; nothing; the right to the handle]
+    -- [the loan's last value; its borrow; nothing; the result; the end of the lifetime; nothing; the right to the handle]
     move ! (4 ∷ 6 ∷ 0 ∷ []) $ use3 𝓛 (later (‵ (part_at first_row full_share ws.0 b0 o0))) (ref_back 𝓛 first_row κ0 γ0 ws.0 b0 o0) $ await ! tt $
     returns ! (look_at ! 0 refl) $ free_all ! refl $ keep ! (0 ∷ 3 ∷ []) $
-    -- what the clause says is put beside the handles
+    -- the fact that the clause states is joined with the handles
     nothing ! $ fpack ! (TellsClose x ws.0 u) (λ _. ftrue) told $ move ! (1 ∷ []) $ fjoin ! $
     fpack ! MutexHandle (λ w. fsep (lies_at first_row full_share (block_ptr b0 o0) w) (fex (TellsClose x w u) (λ _. ftrue))) ws.0 $
     suffices ! _ (ends_at 𝓛 f.ended stayed c (y (block_ptr b0 o0)) v u (tt, tt) (tt, tt)) $ move ! (1 ∷ []) $

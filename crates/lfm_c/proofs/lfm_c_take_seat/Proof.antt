@@ -1,4 +1,5 @@
--- Each handle lies where C's pointer says. It is lent to `open::take_seat` for a new lifetime, and comes back as the call left it.
+-- Each handle is at the address in C's pointer. It is lent to `open::take_seat` for a new lifetime,
+-- and returned as the call left it.
 -- scripts/write_c_sides writes this file.
 use Rattle.std.proofs.Common.{ℕ, [], ◌∷◌, ◌++◌, refl, w64}
 use Rattle.std.proofs.raw_atomic.Walks.{proved}
@@ -81,13 +82,13 @@ lfm_c_take_seat_spec 𝓤 𝓛 𝓜 𝓡 wired =
     use1 𝓛 (later (some (λ (u : ℕ). ((‵ (flft κ0 full_share) ⊛ (‵ (flft κ1 full_share) ⊛ ‵ ftrue)) ⊛ ‵ (u64.own_val u (v ∷ []))) ⊛
     some (λ (ws : (MutexHandle × (SeatHandle × Unit {0}))). ‵ (lasts g.ended z.0.0 z.0.3 ws) ⊛ raw (fact 𝓤 (TellsTake x.0 x.1 ws.0 ws.1.0 u)))))) (id⊢ 𝓤 _) $
     await ! tt $ pick ! (λ u. split ! $ split ! $ split ! $ lft_end ! tt $ move ! (1 ∷ []) $ split ! $ lft_end ! tt $
-    -- [the second lifetime is over; nothing; the first too; the result; what the call left; the rights to the handles]
+    -- [the end of the second lifetime; nothing; the end of the first; the result; what the call left; the rights to the handles]
     move ! (3 ∷ []) $ peeks ! u64 (Is u64) (shows 𝓛 u64) u (v ∷ []) (λ is. lands_as ! refl refl ((uint_Lawful 𝓛 w64).typed u _ is).0 $
     move ! (4 ∷ []) $ pick ! (λ ws. split ! $ move ! (1 ∷ []) $ heard ! _ (λ told. fsplit ! $ fsplit ! $ move ! (2 ∷ []) $ fsplit ! $ fsplit ! $
     move ! (6 ∷ 9 ∷ 0 ∷ []) $ use3 𝓛 (later (‵ (part_at second_row full_share ws.1.0 b1 o1))) (ref_back 𝓛 second_row κ1 γ1 ws.1.0 b1 o1) $ await ! tt $
     move ! (7 ∷ 8 ∷ 3 ∷ []) $ use3 𝓛 (later (‵ (part_at first_row full_share ws.0 b0 o0))) (ref_back 𝓛 first_row κ0 γ0 ws.0 b0 o0) $ await ! tt $
     returns ! (look_at ! 0 refl) $ free_all ! refl $ keep ! (0 ∷ 1 ∷ 5 ∷ []) $
-    -- what the clause says is put beside the handles
+    -- the fact that the clause states is joined with the handles
     nothing ! $ fpack ! (TellsTake x.0 x.1 ws.0 ws.1.0 u) (λ _. ftrue) told $ move ! (1 ∷ 2 ∷ []) $ fjoin ! $ fjoin ! $
     fpack ! (MutexHandle × SeatHandle) (λ w. fsep (fsep (lies_at first_row full_share (block_ptr b0 o0) w.0) (lies_at second_row full_share (block_ptr b1 o1) w.1)) (fex (TellsTake x.0 x.1 w.0 w.1 u) (λ _. ftrue))) (ws.0, ws.1.0) $
     suffices ! _ (ends_at 𝓛 f.ended stayed c (y (block_ptr b0 o0) (block_ptr b1 o1)) v u (tt, (tt, tt)) (tt, (tt, tt))) $ move ! (1 ∷ []) $

@@ -10,7 +10,7 @@ use Rattle.lfm_c.proofs.close.missing.Goals as goal
 pub returns-then-are_as_new : goal.returns-then-are_as_new
 returns-then-are_as_new c = subst (λ (n : ℕ). AllStand (λ (a : Seated). sight a.seat) c.args.whole.now.seats.items n) c.args.whole.now.all c.if-are_as_new.ensures
 
--- the reference to the mutex shows that it is the handle's
+-- the mutex whose `missing` was called is that of the handle, as the reference in the handle shows
 pub returns : goal.returns
 returns c =
     let look : Seated → _ = λ a. sight a.seat in let all = c.args.whole.now.seats.items in let mutex : c.deref.result.now ≡ arc_value c.args.whole.now.mutex = cc in

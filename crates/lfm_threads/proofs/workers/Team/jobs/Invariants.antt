@@ -4,7 +4,7 @@ use mathlib.Core.Option.{some}
 use lib.ListN.{get_elem?}
 use Rattle.lfm_threads.proofs.workers.Team.jobs.Given as goal
 
--- so far each job has come back; the other workers are to come
+-- each job so far has been returned; the other workers are still to be joined
 abbrev pub invariant-joining : goal.invariant-joining
 invariant-joining g l = record {
   long : into_iter_len l.worker-iterator ≡ length (into_iter_items l.worker-iterator);

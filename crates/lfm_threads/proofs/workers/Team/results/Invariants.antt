@@ -5,7 +5,7 @@ use lib.ListN.{get_elem?}
 use Rattle.lfm_threads.specs.Together.{AllGiven}
 use Rattle.lfm_threads.proofs.workers.Team.results.Given as goal
 
--- so far each job has given its result; the other workers are to come
+-- the result of each job so far has been stored; the other workers are still to be joined
 abbrev pub invariant-joining : goal.invariant-joining
 invariant-joining g l = record {
   long : into_iter_len l.worker-iterator ≡ length (into_iter_items l.worker-iterator);

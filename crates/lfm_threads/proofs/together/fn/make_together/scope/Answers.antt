@@ -8,11 +8,11 @@ use Rattle.lfm_threads.proofs.Places.{each_more, first_comes, others_come}
 use Rattle.lfm_threads.proofs.together.fn.make_together.scope.Goals.{In-None, In-Some, in-Err, in-Ok}
 use Rattle.lfm_threads.proofs.together.fn.make_together.scope.Goals as goal
 
--- the job that is given stands at the place of its worker
+-- the job that is given is at the place of its worker
 stands : (g : _) (c : goal.In-Some g) → get_elem? c.captures.jobs.items (length c.starting.workers.items) ≡ some c.in-Some.job
 stands g c = ap (λ v. get_elem? v.items (length c.starting.workers.items)) (sym c.of-all_jobs.ensures) ∙ first_comes _ _ _ _ _ c.in-Some.ensures.steps.0 c.starting.invariant.rest
 
--- and may be begun
+-- and it may be started
 taken : (g : _) (c : goal.In-Some g) → g.K.Task.takes c.captures.task.now c.in-Some.job
 taken g c = c.requires _ _ (stands g c)
 
@@ -51,13 +51,13 @@ starting-preserved g c = let i = c.starting.invariant in let steps = c.in-Some.e
       given = each_more _ _ _ _ c.push_reserved.ensures.items i.given (c.in-Some.job, first_comes _ _ _ _ _ steps.0 i.rest, has);
     }
 
--- every job has been given, at the start latch of this decision
+-- every job has been given, with the start latch of this decision
 given : (g : _) (c : goal.In-None g) (latch : ℕ) (task : _) → latch ≡ c.captures.at_latch.now.start.id → task ≡ c.captures.task.now
     → AllHaveJobs g.K.Task task latch c.of-all_jobs.result.value.items c.starting.workers.items
 given g c latch task at is = subst (λ t. AllHaveJobs g.K.Task t latch c.of-all_jobs.result.value.items c.starting.workers.items) (sym is)
     (subst (λ l. AllHaveJobs g.K.Task c.captures.task.now l c.of-all_jobs.result.value.items c.starting.workers.items) (sym at) c.starting.invariant.given)
 
--- as many as there are jobs
+-- there are as many workers as jobs
 as_many : (g : _) (c : goal.In-None g) → length c.starting.workers.items ≡ length c.captures.jobs.items
 as_many g c = let i = c.starting.invariant in let a = i.size in let b = i.long in let d = c.in-None.ensures.steps in
     let e : length c.of-all_jobs.result.value.items ≡ length c.captures.jobs.items = ap (λ v. length v.items) c.of-all_jobs.ensures in omega arith

@@ -5,7 +5,7 @@ use lib.ListN.{get_elem?}
 use Rattle.lfm_threads.specs.Workers.{AllHaveJobs}
 use Rattle.lfm_threads.proofs.together.fn.make_together.scope.Given as goal
 
--- so far each job has been given to a worker; the other jobs are to come
+-- each job so far has been given to a worker; the other jobs are still to be given
 abbrev pub invariant-starting : goal.invariant-starting
 invariant-starting g l = record {
   long : into_iter_len l.job-iterator ≡ length (into_iter_items l.job-iterator);

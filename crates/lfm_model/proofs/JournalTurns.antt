@@ -31,7 +31,7 @@ module _ {O A R : Type 0} (after : O → A → O) (reply : O → A → R) where
       ∙ ap (λ (x : R). kept ++ (x ∷ rest next)) said ∙ ap (λ (x : O). kept ++ (reply o op ∷ rest x)) made
       ∙ sym (ap (λ (l : List (Entry A)). kept ++ replies_of after reply o l) (left es i e (Did op) h is what)) ∙ before
 
-  -- the entry is a take
+  -- the entry is a take, which does not change the object
   pub object_stays : (o end : O) (es : List (Entry A)) (i : ℕ) (e : Entry A) (how : How) → i < length es → e ≡ get_or es i e
       → e.what ≡ Took how → after_all after o (drop i es) ≡ end → after_all after o (drop (i + 1) es) ≡ end
   object_stays o end es i e how h is what before = sym (ap (after_all after o) (left es i e (Took how) h is what)) ∙ before

@@ -29,7 +29,7 @@ use Rattle.lfm_words.specs.declared.wakes.Wake.TheVariants.{Grant}
 use Rattle.lfm_protocol.specs.Begin.{Stepped, goes_on, ends}
 use Rattle.lfm_protocol.specs.Stores.{expected_handoff}
 
--- the seat is at no step of the kind
+-- the seat is not at a step of this kind
 abbrev pub idle : SeatState → Stepped
 idle x = record { seat = x; turn = Refused Idle }
 
@@ -63,7 +63,7 @@ busy x =
       turn = Refused (By Busy);
     }
 
--- the seat has released
+-- the release ends with this answer; a start_wait has one more step
 abbrev pub releases : SeatState → Releaser → Unlocked → Stepped
 releases x Unlocker answer = ends x (Answer.Unlocked answer)
 releases x Waiter answer = goes_on x (WaitWakeStore answer)
@@ -123,7 +123,7 @@ drops_oldest_at _ = false
 abbrev pub drops_oldest : SeatState → Bool
 drops_oldest x = drops_oldest_at x.point
 
--- how the mutex was gained by a grant with this stamp
+-- how the mutex was acquired by a grant with this stamp
 abbrev pub how_granted : ℕ → How
 how_granted stamp = if nat_eq stamp 0 then How.Free else Queued stamp
 

@@ -1,4 +1,4 @@
--- How many seats a mutex may have, how many takes each may charge, and how often a seat may hold it at once.
+-- How many seats a mutex may have, how many takes each may charge, and how many times a seat may hold it.
 use Rattle.std.specs.Prelude.{ℕ, Bool, ◌&&◌, nat_le}
 
 -- the greatest number of seats

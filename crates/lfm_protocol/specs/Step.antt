@@ -14,7 +14,7 @@ use Rattle.lfm_words.specs.Popped.{oldest}
 use Rattle.lfm_protocol.specs.Seats.{seat, link, wake, absent, no_link, unposted, is_seat}
 use Rattle.lfm_protocol.specs.Stores.{stored_owner, stored_link, expected_push, exchanged_push, stored_handoff, expected_handoff, stored_wake}
 
--- The kinds: one step of seat s, where t is the seat whose link or wake word is accessed
+-- The kinds: one step of seat s; t is the seat whose link or wake word is accessed
 
 abbrev pub count_exchange : Core → ℕ → Moved
 count_exchange c s =

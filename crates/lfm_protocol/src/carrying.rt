@@ -90,7 +90,7 @@ impl Entrant {
     }
 }
 
-/// How the mutex was gained by a grant with this stamp, which is 0 if the seat had no record in the queue.
+/// How the mutex was acquired by a grant with this stamp, which is 0 if the seat had no queued record.
 pub fn how_granted(stamp: u64) -> How
     ensures { result ≡ how_granted stamp }
 {

@@ -158,7 +158,7 @@ impl Machine {
 /// One atomic step of each kind by seat s: the operation on the word, then the seat's own method. t is the seat whose link or
 /// wake word the step accesses.
 impl Machine {
-    /// Seat s compare-and-exchanges the count from 0 to 1.
+    /// Seat s makes a compare-and-exchange of the count from 0 to 1.
     fn count_exchange(&mut self, s: u64) -> Turn
         requires seat { IsSeat self.old.seats s }
         ensures core { self.new ≡ (count_exchange self.old s).core }
@@ -245,7 +245,8 @@ impl Machine {
         turn
     }
 
-    /// Seat s compare-and-exchanges the push word from the one that it loaded to one with the pushed seat as the head.
+    /// Seat s makes a compare-and-exchange of the push word from the one that it loaded to one with the pushed seat as the
+    /// head.
     fn push_exchange(&mut self, s: u64) -> Turn
         requires seat { IsSeat self.old.seats s }
         requires numbers { HasNumbers (seat self.old.seats s) (seat self.old.seats s).point }
@@ -335,7 +336,7 @@ impl Machine {
         turn
     }
 
-    /// Seat s compare-and-exchanges the handoff word from the post that it expects to none.
+    /// Seat s makes a compare-and-exchange of the handoff word from the post that it expects to none.
     fn handoff_exchange(&mut self, s: u64) -> Turn
         requires seat { IsSeat self.old.seats s }
         requires numbers { HasNumbers (seat self.old.seats s) (seat self.old.seats s).point }

@@ -124,8 +124,8 @@ impl SeatState {
         self.charge(budget, Point::ReleaseOwnerStore(Releaser::Waiter))
     }
 
-    /// Starts a `send_lock` to seat t, where `seats` is the number of seats. Refused as NoSuchSeat if t is not the number of a
-    /// seat. It charges nothing.
+    /// Starts a `send_lock` to seat t; `seats` is the number of seats. Refused as NoSuchSeat if t is not the number of a seat.
+    /// It charges nothing.
     pub(crate) fn begin_send(&mut self, seats: u64, t: u64) -> Turn
         ensures seat { self.new ≡ (begin_send self.old seats t).seat }
         ensures turn { result ≡ (begin_send self.old seats t).turn }

@@ -19,7 +19,7 @@ impl Model for Woken {
     ghost also_owns = { λ _. ftrue };
 }
 
-// A struct with `also_owns` has neither by itself. This one owns nothing.
+// A struct with `also_owns` does not become `Send` or `Sync` automatically. This one owns nothing, so it may be both.
 unsafe impl Send for Woken {}
 
 unsafe impl Sync for Woken {}

@@ -22,6 +22,6 @@ module _ {P X : Type 0} (gives : P → X → Type 0) where
   Comes p StartSignal.CalledOff (Kept q) = q ≡ p
   Comes p start outcome = ⊥
 
-  -- the same, where the latch is the one of this number
+  -- the same, at the latch with this number
   abbrev pub Arrives : ℕ → P → Arrival P X → Type 0
   Arrives latch p a = (a.decision.token.of ≡ latch) × Comes p a.decision.start a.outcome

@@ -1,4 +1,4 @@
-//! Wait records, and the pop list: the records that were collected from a cleared push list and are not served yet.
+//! Records of queued seats, and the pop list: the records that were collected from a cleared push list and are not served yet.
 ghost use Rattle.std.specs.Prelude.{◌≡◌, [], ◌∷◌, ◌<◌, drop, length, reverse, slice_get, IfOk, IsTrue, ◌↔◌};
 ghost use Rattle.std.specs.Option.{option_map};
 ghost use Rattle.lfm_words.specs.Popped.{oldest, pair_of};
@@ -63,7 +63,7 @@ impl PopList {
         self.records.is_empty()
     }
 
-    /// The seat and the stamp of the record with index i, where 0 is the oldest. None if i is past the newest.
+    /// The seat and the stamp of the record with index i; index 0 is the oldest. None if i is past the newest.
     pub fn get(&self, i: u64) -> Option<(SeatNo, u64)>
         ensures { result ≡ option_map pair_of (slice_get self.now.records i) }
     {

@@ -54,7 +54,7 @@ lfm_c_blank_mutex_spec 𝓤 𝓛 𝓜 𝓡 wired =
     in_a_block ! a.1.0 (λ p. room_at R p) (id⊢ 𝓤 _) (λ b o e.
     regoal ! (λ p. prop (WpFn 𝓤 𝓛.H 𝓣.C 𝓣.Λ code.function (us ++ (rawptr_vals p ++ [])) (W.post (y p)))) e refl $
     enter ! _ _ _ _ _ $ alloc_all ! (λ l. pass_all ! refl (((allocs.the_row_laws.lawful 𝓛).typed d _ are.0).0, ((tt, tt), tt)) $
-    -- [the room; what the allocator owns; the locals]
+    -- hypotheses: the room; what the allocator owns; the locals
     sets ! (of_opd ! (get ! refl)) refl (tt, tt) $
     let G = triple_of 𝓛 g.signature (g.spec 𝓛 𝓜.mem 𝓡.returns) in
     let z : G.Ghost = ((tt, tt, tt, (d, tt), (us, tt)), tt) in
@@ -63,10 +63,10 @@ lfm_c_blank_mutex_spec 𝓤 𝓛 𝓜 𝓡 wired =
     use1 𝓛 (later (some (λ (h : MutexHandle). (‵ ftrue ⊛ ‵ (R.own_val h (v ∷ []))) ⊛
     some (λ (ws : (Unit {0} × Unit {0})). ‵ (lasts g.ended z.0.0 z.0.3 ws) ⊛ raw (fact 𝓤 (h ≡ record { alloc = d; whole = None })))))) (id⊢ 𝓤 _) $
     await ! tt $ pick ! (λ h. split ! $ split ! $ drop ! $
-    -- [what the handle owns; what the call left; the room]
+    -- hypotheses: what the handle owns; what the call left; the room
     peeks ! R (Is R) (shows 𝓛 R) h (v ∷ []) (λ is. let good = ((laws.the_row_laws.lawful 𝓛).typed h _ is).0 in lands_as ! refl refl good $
     move ! (1 ∷ []) $ pick ! (λ ws. split ! $ drop ! $ heard ! _ (λ told.
-    -- [what the handle owns; the room]
+    -- hypotheses: what the handle owns; the room
     assigns ! (of_opd ! (get ! refl)) (through ! refl (stop !)) (init ! 1 refl good) $
     sets ! (of_opd ! (unit_lit !)) refl (tt, tt) $
     returns ! (look_at ! 0 refl) $ free_all ! refl $ move ! (1 ∷ 0 ∷ []) $

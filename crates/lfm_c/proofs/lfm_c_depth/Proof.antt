@@ -55,7 +55,7 @@ lfm_c_depth_spec 𝓤 𝓛 𝓜 𝓡 wired =
     in_a_block ! a.0 (λ p. lies_at first_row full_share p x) (id⊢ 𝓤 _) (λ b0 o0 e0.
     regoal ! (λ p0. prop (WpFn 𝓤 𝓛.H 𝓣.C 𝓣.Λ code.function (rawptr_vals p0 ++ []) (W.post (y p0)))) e0 refl $
     enter ! _ _ _ _ _ $ alloc_all ! (λ l. pass_all ! refl ((tt, tt), tt) $
-    -- [the handles; the locals]
+    -- hypotheses: the handles; the locals
     sets ! (of_opd ! (get ! refl)) refl (tt, tt) $
     sets ! (addr ! (through ! refl (stop !))) refl (tt, tt) $
     lft_new ! tt (λ α0. let κ0 = α0 ∷ [] in move ! (1 ∷ []) $
@@ -72,10 +72,10 @@ lfm_c_depth_spec 𝓤 𝓛 𝓜 𝓡 wired =
     use1 𝓛 (later (some (λ (u : ℕ). ((‵ (flft κ0 full_share) ⊛ ‵ ftrue) ⊛ ‵ (u64.own_val u (v ∷ []))) ⊛
     some (λ (ws : (SeatHandle × Unit {0})). ‵ (lasts g.ended z.0.0 z.0.3 ws) ⊛ raw (fact 𝓤 (TellsDepth x ws.0 u)))))) (id⊢ 𝓤 _) $
     await ! tt $ pick ! (λ u. split ! $ split ! $ split ! $ lft_end ! tt $
-    -- [the end of the lifetime; nothing; the result; what the call left; the right to the handle]
+    -- hypotheses: the end of the lifetime; nothing; the result; what the call left; the right to the handle
     move ! (2 ∷ []) $ peeks ! u64 (Is u64) (shows 𝓛 u64) u (v ∷ []) (λ is. lands_as ! refl refl ((uint_Lawful 𝓛 w64).typed u _ is).0 $
     move ! (3 ∷ []) $ pick ! (λ ws. split ! $ move ! (1 ∷ []) $ heard ! _ (λ told. fsplit ! $ fsplit ! $
-    -- [the loan's last value; its borrow; nothing; the result; the end of the lifetime; nothing; the right to the handle]
+    -- hypotheses: the loan's last value; its borrow; nothing; the result; the end of the lifetime; nothing; the right to the handle
     move ! (4 ∷ 6 ∷ 0 ∷ []) $ use3 𝓛 (later (‵ (part_at first_row full_share ws.0 b0 o0))) (ref_back 𝓛 first_row κ0 γ0 ws.0 b0 o0) $ await ! tt $
     returns ! (look_at ! 0 refl) $ free_all ! refl $ keep ! (0 ∷ 3 ∷ []) $
     -- the fact that the clause states is joined with the handles

@@ -59,7 +59,7 @@ lfm_c_give_seat_spec 𝓤 𝓛 𝓜 𝓡 wired =
     in_a_block ! a.1.0 (λ p. lies_at second_row full_share p x.1) (id⊢ 𝓤 _) (λ b1 o1 e1.
     regoal ! (λ p1. prop (WpFn 𝓤 𝓛.H 𝓣.C 𝓣.Λ code.function (rawptr_vals (block_ptr b0 o0) ++ (rawptr_vals p1 ++ [])) (W.post (y (block_ptr b0 o0) p1)))) e1 refl $ move ! (1 ∷ 0 ∷ []) $
     enter ! _ _ _ _ _ $ alloc_all ! (λ l. pass_all ! refl ((tt, tt), ((tt, tt), tt)) $
-    -- [the handles; the locals]
+    -- hypotheses: the handles; the locals
     sets ! (of_opd ! (get ! refl)) refl (tt, tt) $
     sets ! (addr ! (through ! refl (stop !))) refl (tt, tt) $
     sets ! (of_opd ! (get ! refl)) refl (tt, tt) $
@@ -82,7 +82,8 @@ lfm_c_give_seat_spec 𝓤 𝓛 𝓜 𝓡 wired =
     use1 𝓛 (later (some (λ (u : ℕ). ((‵ (flft κ0 full_share) ⊛ (‵ (flft κ1 full_share) ⊛ ‵ ftrue)) ⊛ ‵ (u64.own_val u (v ∷ []))) ⊛
     some (λ (ws : (MutexHandle × (SeatHandle × Unit {0}))). ‵ (lasts g.ended z.0.0 z.0.3 ws) ⊛ raw (fact 𝓤 (TellsGive x.0 x.1 ws.0 ws.1.0 u)))))) (id⊢ 𝓤 _) $
     await ! tt $ pick ! (λ u. split ! $ split ! $ split ! $ lft_end ! tt $ move ! (1 ∷ []) $ split ! $ lft_end ! tt $
-    -- [the end of the second lifetime; nothing; the end of the first; the result; what the call left; the rights to the handles]
+    -- hypotheses: the end of the second lifetime; nothing; the end of the first; the result; what the call left; the rights to
+    -- the handles
     move ! (3 ∷ []) $ peeks ! u64 (Is u64) (shows 𝓛 u64) u (v ∷ []) (λ is. lands_as ! refl refl ((uint_Lawful 𝓛 w64).typed u _ is).0 $
     move ! (4 ∷ []) $ pick ! (λ ws. split ! $ move ! (1 ∷ []) $ heard ! _ (λ told. fsplit ! $ fsplit ! $ move ! (2 ∷ []) $ fsplit ! $ fsplit ! $
     move ! (6 ∷ 9 ∷ 0 ∷ []) $ use3 𝓛 (later (‵ (part_at second_row full_share ws.1.0 b1 o1))) (ref_back 𝓛 second_row κ1 γ1 ws.1.0 b1 o1) $ await ! tt $

@@ -72,7 +72,7 @@ impl Machine {
         self.seat_or_absent(s).takes
     }
 
-    /// How many handoffs seat s has posted.
+    /// How many posts seat s has made.
     pub fn posts(&self, s: u64) -> u64
         ensures { result ≡ (seat self.now.seats s).posts }
     {
@@ -98,7 +98,7 @@ fn is_passed(wake: Wake, point: Point) -> bool
     matches!(wake, Wake::Grant(_)) && !matches!(point, Point::ReceiveWakeStore(_))
 }
 
-/// Where the responsibility lies.
+/// The place of the responsibility.
 impl Machine {
     /// Where the responsibility is. Owner if the owner word names a seat; otherwise Posted if there is a post; otherwise Passed
     /// for the first seat with a grant that it has not loaded; otherwise Carried for the first seat whose call carries the
@@ -150,7 +150,7 @@ impl Machine {
         self.chain_len(self.unwalked()) + self.popped.len() + self.chain_len(self.push.next)
     }
 
-    /// The seat and the stamp of the queued record with index i, where 0 is the oldest. None if i is past the newest. It
+    /// The seat and the stamp of the queued record with index i; index 0 is the oldest. None if i is past the newest. It
     /// follows the links of the records that are not in the pop list.
     pub fn queued(&self, i: u64) -> Option<(SeatNo, u64)>
         ensures { result ≡ option_map pair_of (slice_get (queue_of self.now) i) }

@@ -34,7 +34,7 @@ module _ {T : Type 0} (views : List (View T)) (id : ℕ) (v w : View T) (at : ge
       (λ (t : (0 ≡ id) × (w ≡ k)). (v, subst (λ (i : ℕ). get_elem? views i ≡ some v) (sym t.0) at, sym opening ∙ ap (λ (u : View T). u.opening) t.1))
       (λ (t : (0 ≢ id) × (get_elem? views 0 ≡ some k)). (k, t.1, refl)) (at_set views id 0 w k e)
 
-  -- no hold has ended
+  -- if the step ends no hold, the holds are numbered as before
   pub numbered_same : (n : ℕ) → w.last ≡ v.last → w.ended ≡ v.ended → AreNumbered views n → AreNumbered (set views id w) n
   numbered_same n same_last same_ended old = record {
     within = λ j z e. let a = noted_at same_last same_ended j z e in subst (λ (m : ℕ). m ≤ n) a.2 (old.within j a.0 a.1);
@@ -51,7 +51,7 @@ module _ {T : Type 0} (views : List (View T)) (id : ℕ) (v w : View T) (at : ge
         sym b.3 ∙ (old.opens a.0 j b.0 a.1 b.1 (b.2 ∙ none) ∙ a.2);
   }
 
-  -- this seat has ended the next hold
+  -- if the step ends hold n + 1, the holds are numbered up to n + 1
   module _ (n : ℕ) (next : w.ended ≡ n + 1) (old : AreNumbered views n) where
     ended_at : (j : ℕ) (z : View T) → get_elem? (set views id w) j ≡ some z → ((j ≡ id) × (z.ended ≡ n + 1)) ⊎ ((get_elem? views j ≡ some z) × (z.ended ≤ n))
     ended_at j z e = ⊎_elim

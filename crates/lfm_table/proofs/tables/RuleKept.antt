@@ -436,7 +436,7 @@ module _ {T : Type 0} (follows : ℕ → T → T → Type 0) (suits : T → ℕ 
       kept_found : ((r : Releaser) → p.point ≢ ReleaseOwnerStore r) → left_by p.point me.0.found me.0.last_found ≡ me.0.last_found
       kept_found other = left_same p.point me.0.found me.0.last_found other
 
-      -- a step that ends no hold
+      -- a step that ends no hold does not change how many have ended
       same_holds : ((r : Releaser) → p.point ≢ ReleaseOwnerStore r) → holds_after ≡ h.holds_ended
       same_holds other = left_same p.point (h.holds_ended + 1) h.holds_ended other
 

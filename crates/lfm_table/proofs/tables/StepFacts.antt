@@ -35,7 +35,7 @@ use Rattle.lfm_table.specs.Rule.{left_by}
 use Rattle.lfm_table.specs.Settled.{Became, calls_to}
 use Rattle.lfm_table.specs.Steps.{stores, gives_at, add_by}
 
--- a seat, from its parts
+-- a seat's data, from their parts
 abbrev pub made_of : ℕ → ℕ → ℕ → Point → SeatState
 made_of d t ps q = record { depth = d; takes = t; posts = ps; point = q }
 

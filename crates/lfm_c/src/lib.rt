@@ -3,10 +3,10 @@
 //! sleeps if a call returns that the seat sleeps, and wakes the seat that a call names.
 //!
 //! An export returns the answer of the mutex's call as a status in the low 8 bits. Its contract states what the status means:
-//! the contract of the mutex's call about answers, steps and their bound holds for it. An `ask` or `unlock` may grant the mutex
-//! to at most one other seat. The number of that seat is above the status, or 0 if there is none, and the contract states that
-//! it is the seat of the call's wake-up. So the library loses no wake-up, and the caller must wake the seat that an answer
-//! names.
+//! the clauses of the mutex's own call about answers, steps and the bound on steps hold for it. An `ask` or `unlock` may grant
+//! the mutex to at most one other seat. The number of that seat is above the status, or 0 if there is none, and the contract
+//! states that it is the seat of the call's wake-up. So no wake-up is lost on this side: the caller must wake the seat that an
+//! answer names.
 #![tactic(auto)]
 
 ghost use Rattle.std.specs.Borrow.{full_share, sem};

@@ -15,7 +15,7 @@ pub enum Status {
     Still,
     /// The seat sleeps.
     Asleep,
-    /// The mutex was released and posted, for another call to take over.
+    /// The mutex was released and posted. Another call takes it over, or has already done so.
     Posted,
     /// The mutex was granted to the oldest queued seat.
     Granted,

@@ -66,8 +66,8 @@ pub fn carries_after(state: &SeatState, number: u64, found: u64) -> bool
     }
 }
 
-/// Replaces what the seat has in hand. This is a separate function since an assignment also drops the old value. In the callers
-/// each case would double the proof.
+/// Replaces what the seat has in hand. An assignment also drops the old value, if there is one. It is in a function of its own
+/// so that the callers are not proved once for each case.
 fn put<T: Drop>(moving: &mut Option<MovingBox<T>>, new: Option<MovingBox<T>>)
     ensures { moving.new ≡ new }
 {

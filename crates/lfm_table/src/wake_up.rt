@@ -10,8 +10,8 @@ use lfm_protocol::SeatState;
 use lfm_words::Wake;
 use std::marker::Model;
 
-/// States that a seat was granted the mutex and is still to be woken. Only the step that stores a grant makes one. A contract
-/// sees the number of the seat.
+/// The duty to wake a seat that was granted the mutex. Only the step that stores a grant makes one. A contract sees the number
+/// of the seat.
 ///
 /// The type has no `Drop`, so a path that loses a wake-up does not compile. A wake-up must be passed to `parking::wake`,
 /// returned to a caller, or turned into a seat's number. `parking::wake` adds the seat to the list of woken seats.

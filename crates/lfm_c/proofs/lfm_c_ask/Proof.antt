@@ -75,7 +75,8 @@ lfm_c_ask_spec 𝓤 𝓛 𝓜 𝓡 wired =
     -- hypotheses: the end of the lifetime; nothing; the result; what the call left; the right to the handle
     move ! (2 ∷ []) $ peeks ! u64 (Is u64) (shows 𝓛 u64) u (v ∷ []) (λ is. lands_as ! refl refl ((uint_Lawful 𝓛 w64).typed u _ is).0 $
     move ! (3 ∷ []) $ pick ! (λ ws. split ! $ move ! (1 ∷ []) $ heard ! _ (λ told. fsplit ! $ fsplit ! $
-    -- hypotheses: the loan's last value; its borrow; nothing; the result; the end of the lifetime; nothing; the right to the handle
+    -- hypotheses: the loan's last value; its borrow; nothing; the result; the end of the lifetime; nothing; the right to the
+    -- handle
     move ! (4 ∷ 6 ∷ 0 ∷ []) $ use3 𝓛 (later (‵ (part_at first_row full_share ws.0 b0 o0))) (ref_back 𝓛 first_row κ0 γ0 ws.0 b0 o0) $ await ! tt $
     returns ! (look_at ! 0 refl) $ free_all ! refl $ keep ! (0 ∷ 3 ∷ []) $
     -- the fact that the clause states is joined with the handles

@@ -1,5 +1,5 @@
 -- What a step does to a seat's own data. A seat at depth 0 after its step was at depth 0 before, unless it has just released,
--- and it has answered no hold. A seat that carries nothing does not change the pop list.
+-- and it has answered no hold. A seat that does not carry the value does not change the pop list.
 use Rattle.std.proofs.Common.{◌≡◌, ◌≢◌, ◌⊎◌, ℕ, zero, suc, ◌+◌, ◌-◌, Bool, true, false, Option, Some, None, List, [], ◌∷◌, nat_eq, refl, sym, ap, ◌∙◌, arith, inl, inr, if◌then◌else◌}
 use Rattle.std.specs.Prelude.{nat_lt, ◌&&◌}
 use Rattle.std.proofs.lemmas.Bool.{cases_eq, ne_eqb, eq-eqb, false≢true}
@@ -135,7 +135,7 @@ is_zero d e =
       | inr n ↦ absurd (false≢true (sym (ne_eqb d 0 n) ∙ e))
     ]
 
--- a seat that does not carry the responsibility has depth 0
+-- a seat that does not carry the value has depth 0
 pub empty_depth : (x : SeatState) → carries_value x ≡ false → x.depth ≡ 0
 empty_depth x e = is_zero x.depth (carries_if (nat_eq x.depth 0) (carries x.point) e)
 
@@ -175,7 +175,7 @@ list_at d t ps s n l (GrantWakeStore carrier oldest) none = absurd (carries_none
 list_at d t ps s n l (TakeLinkLoad carrier next) none = absurd (carries_none (carries_value (made_of d t ps (TakeLinkLoad carrier next))) (carries_at d (TakeLinkLoad carrier next) refl) none)
 list_at d t ps s n l _ none = refl
 
--- a step of a seat that does not carry the responsibility does not change the pop list
+-- a step of a seat that does not carry the value does not change the pop list
 pub list_stays : (x : SeatState) (s n : ℕ) (l : List Record) → carries_value x ≡ false → popped_by_step x s n l ≡ l
 list_stays x s n l none = list_at x.depth x.takes x.posts s n l x.point none
 
@@ -251,7 +251,7 @@ begun_depth x l (call ∷ calls) e = begun_depth x l calls (begin_depth (begun x
 pub became_depth : (x : SeatState) (l : Limits) (p : SeatState) → Became x l p → p.depth ≡ 0 → x.depth ≡ 0
 became_depth x l p b e = begun_depth x l (calls_to x p) (ap (λ y. y.depth) (sym b.leads) ∙ e)
 
--- A carrier still carries after its step unless the step gives the value away
+-- A seat that carries the value still carries it after its step, unless the step gives it away
 
 nonzero_carries : (x : SeatState) → x.depth ≢ 0 → carries_value x ≡ true
 nonzero_carries x some = rw (ne_eqb x.depth 0 some) refl
@@ -334,7 +334,7 @@ carries_unread_at d t ps s n o u (ReleaseHandoffExchange r) =
     (take_carries d (Carrier.Reclaimer r) s o u)
 carries_unread_at d t ps s n o u _ = refl
 
--- whether the seat carries after its step does not depend on the pop list
+-- whether the seat carries the value after its step does not depend on the pop list
 pub carries_unread : (x : SeatState) (s n : ℕ) (o u : Option Record) → carries_value (stepped_by x s n o).seat ≡ carries_value (stepped_by x s n u).seat
 carries_unread x s n o u = carries_unread_at x.depth x.takes x.posts s n o u x.point
 
@@ -360,7 +360,7 @@ unread_after_at d t ps s n o u (ReleaseHandoffExchange r) none =
     unread_then (same_handoff (handoff_of n) (record { seat = s; post = ps })) x (take (Carrier.Reclaimer r) s o) (take (Carrier.Reclaimer r) s u) (releases x r Unlocked.TakenOver) (taking (Carrier.Reclaimer r) s o) none
 unread_after_at d t ps s n o u _ none = refl
 
--- a seat that does not carry the responsibility after its step has not read the pop list
+-- a seat that does not carry the value after its step has not read the pop list
 pub unread_after : (x : SeatState) (s n : ℕ) (o u : Option Record) → carries_value (stepped_by x s n o).seat ≡ false → stepped_by x s n o ≡ stepped_by x s n u
 unread_after x s n o u none = unread_after_at x.depth x.takes x.posts s n o u x.point none
 
@@ -414,7 +414,7 @@ pub gives_not_release : (q : Point) → gives_at q ≡ true → (r : Releaser) �
 gives_not_release (ReleaseOwnerStore u) e r f = false≢true e
 gives_not_release _ e r f = cc
 
--- The start of a call neither gains the responsibility nor gives it away
+-- The start of a call neither gains the value nor gives it away
 
 abbrev Keeps : SeatState → Stepped → Type 0
 Keeps p st = carries_value st.seat ≡ carries_value p

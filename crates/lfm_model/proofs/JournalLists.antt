@@ -49,7 +49,7 @@ module _ {A : Type 0} where
   stamps_step t k s (Took (Queued x)) rest n m q = ap (λ y. one_to k ++ (y ∷ rest)) m ∙ sym (append_assoc (one_to k) ((k + 1) ∷ []) rest) ∙ (let f : one_to (k + 1) ++ rest ≡ one_to n = q in rw add-one at f)
   stamps_step t k s (Did op) rest n m q = q
 
-  -- k numbers followed by the stamps of a lawful journal are 1, 2, 3 and so on
+  -- the numbers 1 to k, followed by the stamps of a journal that is lawful after k queued takes, are 1, 2, 3 and so on
   pub lawful_stamps : (t : Option ℕ) (k : ℕ) (xs : List (Entry A)) → LawfulFrom t k xs → one_to k ++ stamps xs ≡ one_to (queued_from k xs)
   lawful_stamps t k [] h = append-nil (one_to k)
   lawful_stamps t k (e ∷ xs) h = stamps_step t k e.seat e.what (stamps xs) (queued_from k (e ∷ xs)) h.0 (lawful_stamps (taker_at t e.seat e.what) (queued_at k e.what) xs h.1)

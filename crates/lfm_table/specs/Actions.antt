@@ -1,5 +1,6 @@
--- The run of a table: the actions of its seats since its opening, in order. What each seat records of them in its trail, and
--- how the run continues from what a seat knows. An action is an event of the core, or a load of the owner word by `owner`.
+-- The run of a table: the actions of its seats since its opening, in order. This file also defines what each seat records of
+-- them in its trail, and how the run continues from what a seat knows. An action is an event of the core, or a load of the
+-- owner word by `owner`.
 use Rattle.std.specs.Prelude.{◌≡◌, ◌⊎◌, ℕ, ◌+◌, ◌<◌, List, [], ◌∷◌, ◌++◌, length, nat_eq, slice_index, filter, if◌then◌else◌, Option, Some, Bool, true, false}
 use mathlib.Core.Option.{some}
 use lib.ListN.{get_elem?}

@@ -150,7 +150,7 @@ LeftIn {T} views n w = (j : ℕ) × (v : View T) × (get_elem? views j ≡ some 
 -- The numbers of the holds that the seats ended last, if n have ended
 -- within: none is greater than n
 -- greatest: one of them is n, unless n is 0
--- differ: no two seats have the same number
+-- differ: no two seats have the same number above 0
 -- opens: a seat that has ended no hold has the opening value as its last
 pub record AreNumbered {T : Type 0} (views : List (View T)) (n : ℕ) : Type 0 where
   pub within : (j : ℕ) (v : View T) → get_elem? views j ≡ some v → v.ended ≤ n

@@ -174,18 +174,18 @@ module _ {T : Type 0} (follows : ℕ → T → T → Type 0) (suits : T → ℕ 
           made_now true gives None m0 refl is_m n m1 did words' id' same_words same_id a3 m2
           (took_one false (carries_value (stepped_by p number n None).seat) None a3 m1 m2 refl after took)
 
--- a step depends on a seat's number, limits and hand only, here as they are after it
+-- that a step was made may also be stated with the number, the limits and the hand that the seat has after the step
 pub told_after : {T : Type 0} {follows : ℕ → T → T → Type 0} {suits : T → ℕ → Type 0} {s t w i n : ℕ} {l k : Limits} {p : SeatState} {m m' : Me (Option (Moving T)) (View T)} {a b b' : Option (Moving T)}
     → (t ≡ s) × (k ≡ l) → b' ≡ b → MadeStep follows suits s w i l p n m a m' b → MadeStep follows suits t w i k p n m a m' b'
 told_after {T} {follows} {suits} {s} {t} {w} {i} {n} {l} {k} {p} {m} {m'} {a} same hand did =
     subst (λ (z : ℕ × Limits × Option (Moving T)). MadeStep follows suits z.0 w i z.1 p n m a m' z.2) (λ j. (sym same.0 j, sym same.1 j, sym hand j)) did
 
--- and here as they were before it
+-- and with those that it had before the step
 pub told_before : {T : Type 0} {follows : ℕ → T → T → Type 0} {suits : T → ℕ → Type 0} {s t w i n : ℕ} {l k : Limits} {p : SeatState} {m m' : Me (Option (Moving T)) (View T)} {a b : Option (Moving T)}
     → (t ≡ s) × (k ≡ l) → MadeStep follows suits t w i k p n m a m' b → MadeStep follows suits s w i l p n m a m' b
 told_before {T} {follows} {suits} {s} {t} {w} {i} {n} {l} {k} {p} {m} {m'} {a} {b} same did =
     subst (λ (z : ℕ × Limits). MadeStep follows suits z.0 w i z.1 p n m a m' b) (λ j. (same.0 j, same.1 j)) did
 
--- two such steps in sequence
+-- if two steps keep the number and the limits, both in sequence do
 pub same_then : {s t u : ℕ} {l k j : Limits} → (t ≡ s) × (k ≡ l) → (u ≡ t) × (j ≡ k) → (u ≡ s) × (j ≡ l)
 same_then first then = (then.0 ∙ first.0, then.1 ∙ first.1)

@@ -1,4 +1,4 @@
--- Why a call of the monitor is refused that an add makes: the pass is used up.
+-- A call of the monitor that an add makes is refused only because the pass is used up.
 use Rattle.std.proofs.Common.{◌≡◌, ◌∙◌, ⊎_elim, inl, inr, ℕ, sym, subst, ap, arith, Err, Ok, Result, IfErr, true≢false}
 use Rattle.std.specs.Bool.{⊤}
 use Rattle.std.specs.Prelude.{IsErrAnd}
@@ -34,7 +34,7 @@ module _ {R : Type 0} {K : _} where
   not_entered_to_add m p q k Busy idle e = absurd e.0
 
 module _ {R : Type 0} {K : _} (after : Total → TotalOp → Total) (reply : Total → TotalOp → R) where
-  -- the pass has left the monitor since
+  -- a refused addition has a cause, also after the pass has left the monitor
   pub not_added : (m : Monitor Total TotalOp R K) (p q v : Pass Total TotalOp R K) (op : TotalOp) (k : ℕ) (r : Refusal) → HoldsOnce (pass_sight p)
       → ApplyEnds after reply (share_of m) op (pass_sight p) (pass_sight q) (mine_of p) (mine_of q) (Err r) → mine_of v ≡ mine_of q → HasCause (Add k) m v r
   not_added m p q v op k Spent h e mine = inl (let a = e.2 in let b = e.4 in omega arith)

@@ -1,4 +1,4 @@
--- What the calls of one command add to what a pass has added.
+-- What the calls of one command add to the numbers of a pass.
 use Rattle.std.proofs.Common.{◌≡◌, ◌<◌, ◌≤◌, ◌+◌, ℕ, zero, suc, List, [], ◌∷◌, ◌++◌, take, get_or, length, Bool, if◌then◌else◌, refl, sym, ◌∙◌, ap, append_assoc, append-nil, eq-eqb, arith, take_all, Ok, Err, Result}
 use Rattle.std.proofs.Common.{true≢false, IsErr}
 use Rattle.std.specs.Bool.{⊤}
@@ -32,12 +32,12 @@ adds-append (e ∷ xs) ys = ap (λ r. added e.what ++ r) (adds-append xs ys) ∙
 own_entry : (s : ℕ) (w : What TotalOp) → own s (entry s w ∷ []) ≡ entry s w ∷ []
 own_entry s w = ap (λ (b : Bool). (if b then entry s w ∷ [] else [])) (eq-eqb s s refl)
 
--- one more entry of a seat
+-- one more entry of a seat adds its number to the seat's numbers
 adds_more : (s : ℕ) (js : List (Entry TotalOp)) (w : What TotalOp) → adds (own s (js ++ entry s w ∷ [])) ≡ adds (own s js) ++ added w
 adds_more s js w = ap adds (own-append s js (entry s w ∷ []) ∙ ap (λ x. own s js ++ x) (own_entry s w)) ∙ (adds-append (own s js) (entry s w ∷ []) ∙ ap (λ x. adds (own s js) ++ x) (append-nil (added w)))
 
 module _ {R : Type 0} {K : _} where
-  -- the pass s has become t: its number is the same, and it has added these numbers
+  -- the pass has changed from s to t: its number is the same, and it has added these numbers
   pub record Goes (s t : Sight (Journaled Total TotalOp R K)) (ks : List ℕ) : Type 0 where
     pub number : t.number ≡ s.number
     pub adds_are : own_adds t ≡ own_adds s ++ ks
@@ -51,7 +51,7 @@ module _ {R : Type 0} {K : _} where
     adds_are = b.adds_are ∙ (ap (λ x. x ++ ls) a.adds_are ∙ append_assoc (own_adds s) ks ls);
   }
 
-  -- a refusal of a command, by a pass that has added nothing
+  -- a refused command whose pass has added nothing
   pub failed : (m : Command) (s t : Sight (Journaled Total TotalOp R K)) (r : Result ⊤ Refusal) → IsErr r → Goes s t [] → CommandEnds m s t r
   failed m s t (Ok u) e g = absurd (true≢false (sym e))
   failed m s t (Err r) e g = g.adds_are ∙ append-nil (own_adds s)
@@ -137,6 +137,6 @@ one_more ms i d old now new h before made =
     made ∙ ap (λ ks. ks ++ command_adds (get_or ms i d)) before ∙ append_assoc old (all_adds (take i ms)) (command_adds (get_or ms i d))
     ∙ ap (λ ks. old ++ ks) (sym (all_adds-take ms i d h)) ∙ ap (λ n. old ++ all_adds (take n ms)) next
 
--- all were made
+-- all commands were made
 pub all_made : (ms : List Command) (i : ℕ) (old now : List ℕ) → length ms ≤ i → now ≡ old ++ all_adds (take i ms) → now ≡ old ++ all_adds ms
 all_made ms i old now h made = made ∙ ap (λ ks. old ++ all_adds ks) (take_all i ms h)

@@ -1,5 +1,5 @@
--- The end of a run: nothing hinders the close, and each entry of the journal is by one of the passes, since they wrote as many
--- as there are.
+-- The end of a run: the monitor can be closed. Each entry of the journal is by one of the passes, since they wrote as many
+-- entries as the journal has.
 use Rattle.std.proofs.Common.{◌≡◌, ◌≤◌, ◌<◌, ◌+◌, ◌-◌, ◌==◌, ℕ, zero, suc, Bool, true, false, true≢false, if◌then◌else◌, List, [], ◌∷◌, length, refl, sym, ◌∙◌, ap, subst, arith}
 use mathlib.Core.Logic.{dite}
 use mathlib.Core.Option.{some, some-ne-none, some-injective}
@@ -39,18 +39,18 @@ module _ {A : Type 0} where
   one_more n e es = sum_ext (λ s. length (own s (e ∷ es))) (λ s. one_at e.seat s + length (own s es)) n (λ s. own_more (e.seat == s) e (own s es))
       ∙ sum_add (one_at e.seat) (λ s. length (own s es)) n
 
-  -- the seats' shares are no more than the journal
+  -- the seats have together no more entries than the journal
   own_least : (n : ℕ) (es : List (Entry A)) → sum_to (λ s. length (own s es)) n ≤ length es
   own_least n [] = let a = sum_none n in omega arith
   own_least n (e ∷ es) = let a = one_more n e es in let b = own_least n es in let c = one_or_none e.seat n in omega arith
 
-  -- if they are the whole journal, each entry is by one of the seats
+  -- if they have as many entries as the journal, each entry is by one of the seats
   pub within_counted : (n : ℕ) (es : List (Entry A)) → length es ≤ sum_to (λ s. length (own s es)) n → Within n es
   within_counted n [] h = tt
   within_counted n (e ∷ es) h = let a = one_more n e es in let b = own_least n es in let c = one_or_none e.seat n in
       let here = one_inside e.seat n (omega arith) in (here.0, (here.1, within_counted n es (omega arith)))
 
--- the sum over items, if that of each is that of its number
+-- the sum over the items is the sum over their numbers, if the two agree for each item
 pub total_is_sum : {A : Type 0} (f : A → ℕ) (g : ℕ → ℕ) (xs : List A) (k : ℕ) → ((j : ℕ) (x : A) → get_elem? xs j ≡ some x → f x ≡ g (k + j + 1)) → sum_to g (k + length xs) ≡ sum_to g k + total f xs
 total_is_sum f g [] k each = let e : k + 0 ≡ k = omega arith in let a = ap (sum_to g) e in omega arith
 total_is_sum f g (x ∷ xs) k each =
@@ -64,7 +64,7 @@ at_place [] i h = absurd (omega arith)
 at_place (x ∷ xs) zero h = (x, refl)
 at_place (x ∷ xs) (suc i) h = at_place xs i (omega arith)
 
--- a seat for each number, none of which holds or sleeps: nothing is missing
+-- there is a seat for each number, and none holds or sleeps: nothing is missing
 pub none_missing : {A T : Type 0} (look : A → Sight T) (xs : List A) (n : ℕ) (m : Missing) → length xs ≡ n
     → ((j : ℕ) (x : A) → get_elem? xs j ≡ some x → Idle (look x) × ((look x).number ≡ j + 1)) → FirstMissing look xs n m → ⊥
 none_missing look xs n (NotBack k) long each e =
@@ -79,7 +79,7 @@ abbrev cons_at : ℕ → (ℕ → ℕ) → ℕ → ℕ
 cons_at x f zero = x
 cons_at x f (suc j) = f j
 
--- a number for each item, taken together
+-- one function that gives the number of each item
 pub record Chosen {A : Type 0} (P : ℕ → A → ℕ → Type 0) (xs : List A) : Type 0 where
   pub at : ℕ → ℕ
   pub each : (j : ℕ) (x : A) → get_elem? xs j ≡ some x → P j x (at j)

@@ -1,4 +1,4 @@
--- How a cause to refuse a command lies within what the command may meet.
+-- Each refusal that has a cause is one that the command may meet.
 use Rattle.std.proofs.Common.{ℕ}
 use Rattle.lfm_model.specs.declared.objects.Total.{Total}
 use Rattle.lfm_model.specs.declared.objects.TotalOp.{TotalOp}

@@ -1,4 +1,4 @@
--- A refusal of a call of the monitor is the cause of that of the command.
+-- The cause of a refused call of the monitor is the cause of the refused command.
 use Rattle.std.proofs.Common.{◌≡◌, ◌++◌, ⊎_elim, inl, inr, ◌<◌, ℕ, zero, suc, List, [], ◌∷◌, get_or, length, set, take, refl, sym, ◌∙◌, ap, subst, arith, Err, Ok, Result, IfErr, true≢false}
 use Rattle.std.specs.Bool.{⊤}
 use mathlib.Core.Option.{some, some-ne-none}
@@ -32,13 +32,13 @@ use Rattle.lfm_script.specs.Adds.{all_adds}
 use Rattle.lfm_program.specs.Causes.{AtCondition, FoundListed, FoundNotWaiting, HasCause, HasNoTake, RefusedForCause, WakeHasCause}
 use Rattle.lfm_program.specs.Performs.{HoldsOnce, own_adds}
 
--- what was put at a place stands there
+-- an item that was set at a place is found there
 stands_set : {A : Type 0} (xs : List A) (i : ℕ) (x y : A) → get_elem? xs i ≡ some y → get_elem? (set xs i x) i ≡ some x
 stands_set [] i x y e = absurd (some-ne-none y (sym e))
 stands_set (z ∷ xs) zero x y e = refl
 stands_set (z ∷ xs) (suc i) x y e = stands_set xs i x y e
 
--- a cond seat that was used is as it was seen after that
+-- a property that each use of a cond seat leaves holds of the cond seat that was used
 used_at : (condition : ℕ) (cs ds : List CondSeat) (used : Sight Waiters → Sight Waiters → Type 0) (so : Sight Waiters → Type 0) → OnCondition condition cs ds used
     → ((c d : Sight Waiters) → used c d → so d) → AtCondition condition ds so
 used_at condition cs ds used so e f = (
@@ -66,7 +66,7 @@ module _ {R : Type 0} {K : _} where
   takes_left s t n n' (Err NotWaiting) h e = absurd e
   takes_left s t n n' (Err Busy) h e = absurd e
 
-  -- a wait is refused to a pass that holds once, and which has an entry
+  -- the cause of a refused wait, of a pass that holds once and writes no entry
   pub not_waited_for : (m : Monitor Total TotalOp R K) (p q : Pass Total TotalOp R K) (condition k : ℕ) (r : Refusal) → HoldsOnce (pass_sight p)
       → WaitEnds (mutex_limits m) (condition_limits (passes_of m)) (tries_in m) (share_of m) (conditions_of m) condition (cond_seats_of p) (cond_seats_of q) (pass_sight p) (pass_sight q) (mine_of p) (Err r)
       → mine_of q ≡ mine_of p → HasCause (Until condition k) m q r
@@ -88,7 +88,7 @@ module _ {R : Type 0} {K : _} where
   not_waited_for m p q condition k DepthFull h e mine = absurd e.0
   not_waited_for m p q condition k NotWaiting h e mine = absurd e.0
 
-  -- it stays so when the pass leaves the monitor
+  -- the cause remains when the pass leaves the monitor
   until_left : (m : Monitor Total TotalOp R K) (p q : Pass Total TotalOp R K) (condition k : ℕ) (r : Refusal) → (pass_sight q).number ≡ (pass_sight p).number
       → (pass_sight q).takes ≡ (pass_sight p).takes → mine_of q ≡ mine_of p → cond_seats_of q ≡ cond_seats_of p → HasCause (Until condition k) m p r → HasCause (Until condition k) m q r
   until_left m p q condition k Spent number takes mine seats h =
@@ -108,7 +108,7 @@ module _ {R : Type 0} {K : _} where
   cause_left m p q condition k (Ok u) number takes mine seats h = tt
   cause_left m p q condition k (Err r) number takes mine seats h = until_left m p q condition k r number takes mine seats h
 
-  -- a wake is refused to a pass that is awake
+  -- the cause of a refused wake, of a pass that is awake
   pub not_woke_one : (m : Monitor Total TotalOp R K) (p q : Pass Total TotalOp R K) (condition : ℕ) (r : Refusal) → Idle (pass_sight p)
       → WakeOneEnds (passes_of m) (condition_limits (passes_of m)) (tries_in m) (conditions_of m) condition (cond_seats_of p) (cond_seats_of q) (pass_sight p) (pass_sight q) (Err r)
       → WakeHasCause condition m q r

@@ -1,5 +1,5 @@
--- What the workers of a script's run gave back: their passes can close the monitor, and its journal is one of the commands that
--- they made.
+-- The results of the workers of a script's run: their passes can close the monitor, and its journal is a journal of the
+-- commands that they made.
 use Rattle.std.proofs.Common.{◌≡◌, ◌≤◌, ◌<◌, ◌+◌, ◌-◌, ◌/◌, ◌&&◌, zero, suc, ℕ, Bool, true, false, List, [], ◌∷◌, ◌++◌, take, length, get_or, slice_index_or, Option, Some, None, is_some, refl, sym, ◌∙◌, ap, subst, arith, take_all, true≢false, Vec, Global}
 use mathlib.Core.Option.{some, some-injective}
 use lib.ListN.{get_elem?}
@@ -45,8 +45,8 @@ use Rattle.lfm_program.proofs.JournalEnds.{Chosen, at_place, choose, total_is_su
 use Rattle.lfm_program.proofs.Refusals.{may_meet}
 use Rattle.lfm_program.proofs.Threads.{read_here}
 
--- The numbers are those that the first i commands add: all commands if none was refused, and otherwise those before the one that
--- was
+-- The numbers are those that the first i commands add. These are all commands if none was refused, and otherwise the commands
+-- before the refused one
 abbrev pub MadeBy : ℕ → List Command → Option Refusal → List ℕ → ℕ → Type 0
 MadeBy conditions ms r ks i = (ks ≡ all_adds (take i ms)) × (r ≡ None → length ms ≤ i) × ((x : Refusal) → r ≡ Some x → RefusedAt conditions ms i x)
 
@@ -75,7 +75,7 @@ one_refused (Some r ∷ rs) e = (0, omega arith, refl)
 pub refusal_is : (rs : List (Option Refusal)) (j : ℕ) (r : Option Refusal) → get_elem? rs j ≡ some r → refusal_at rs (j + 1) ≡ r
 refusal_is rs j r at = let e : j + 1 - 1 ≡ j = omega arith in subst (λ (k : ℕ). get_or rs k None ≡ r) (sym e) (read_here rs j r None at)
 
--- what an option is that is not none
+-- an option that is some has a value
 something : {A : Type 0} (o : Option A) → is_some o ≡ true → (x : A) × (o ≡ Some x)
 something None e = absurd (true≢false (sym e))
 something (Some x) e = (x, refl)
@@ -86,7 +86,7 @@ its_commands : (p : Plan) (scripts commands : List (Vec Command Global)) (lines 
 its_commands p scripts commands lines j ms same_scripts same_lines many each at = let lt = in_range scripts j ms at in
     ap (λ v. v.items) (sym (read_here scripts j ms ms at) ∙ ap (λ cs. slice_index_or cs j ms) same_scripts) ∙ each j ms (omega arith) ∙ ap (commands_of (j + 1)) same_lines
 
--- the run of a script's commands, with as many of each worker as it made
+-- the journal of a script's run, and the number of commands that each worker made
 pub record Ran (p : Plan) (rs : List (Option Refusal)) (es : List (Entry TotalOp)) : Type 0 where
   pub made : ℕ → ℕ
   pub run : IsRunOfMade p made es
@@ -120,13 +120,13 @@ module _ {R : Type 0} {K : _} where
         made = subst (λ cs. MadeBy (conditions_of m) cs (refusal_at rs (j + 1)) (own_adds (pass_sight q)) made.0) is (subst (λ o. MadeBy (conditions_of m) ms o (own_adds (pass_sight q)) made.0) (sym (refusal_is rs j r at)) made.1);
       }
 
-  -- all workers gave back their passes, in order
+  -- all workers returned their passes, in order
   pub record AllBack (m : Monitor Total TotalOp R K) (p : Plan) (rs : List (Option Refusal)) (ps : List (Pass Total TotalOp R K)) : Type 0 where
     pub many : length ps ≡ p.workers
     pub as_many : length rs ≡ p.workers
     pub each : (j : ℕ) (q : Pass Total TotalOp R K) → get_elem? ps j ≡ some q → GivesBack m p.lines rs j q
 
-  -- a journal that is exactly what these passes wrote is by the workers alone
+  -- if a journal has exactly the entries of these passes, all its entries are by the workers
   pub by_workers : (m : Monitor Total TotalOp R K) (p : Plan) (rs : List (Option Refusal)) (ps : List (Pass Total TotalOp R K)) (es : List (Entry TotalOp)) → AllBack m p rs ps
       → ((j : ℕ) (q : Pass Total TotalOp R K) → get_elem? ps j ≡ some q → mine_of q ≡ length (own (pass_sight q).number es)) → length es ≡ total (λ q. mine_of q) ps → Within p.workers es
   by_workers m p rs ps es back mine whole =
@@ -140,7 +140,7 @@ module _ {R : Type 0} {K : _} where
   own_share m q of idle = let k = q.kept in let l = something (pass_sight q).last k.there in
       let mine = (k.left idle.0 l.0 l.1).mine_is in let share = (of.1 l.0 l.1).2 in let few = l.0.shares (pass_sight q).number in omega arith
 
-  -- no worker has more than its share of a journal that has what these passes wrote
+  -- in a journal of the entries of these passes, no worker has more than its share
   pub in_shares : (m : Monitor Total TotalOp R K) (p : Plan) (rs : List (Option Refusal)) (ps : List (Pass Total TotalOp R K)) (es : List (Entry TotalOp)) → share_of m ≡ max_journal / p.workers → AllBack m p rs ps
       → ((j : ℕ) (q : Pass Total TotalOp R K) → get_elem? ps j ≡ some q → mine_of q ≡ length (own (pass_sight q).number es)) → (w : ℕ) → 0 < w → w ≤ p.workers → length (own w es) ≤ max_journal / p.workers
   in_shares m p rs ps es share_is back mine w above low =
@@ -167,7 +167,7 @@ module _ {R : Type 0} {K : _} where
             (subst (λ (s : ℕ). refusal_at rs s ≡ Some r → RefusedAt (conditions_of m) (commands_of s p.lines) (counts.at (w - 1)) r) e ((counts.each (w - 1) there.0 there.1).2 r) is);
       }
 
--- what comes from the threads, divided into passes and refusals
+-- the results of the threads, divided into passes and refusals
 pub collected : (m : Monitor Total TotalOp _ _) (stops : ℕ → ℕ → Type 0) (p : Plan) (scripts commands : List (Vec Command Global)) (lines : List ScriptLine) (before : List (Pass Total TotalOp _ _)) (ws : List Worked)
     (ps : List (Pass Total TotalOp _ _)) (rs : List (Option Refusal)) → MadeReady p.workers p.conditions m before → scripts ≡ commands → lines ≡ p.lines → length scripts ≡ p.workers
     → ((i : ℕ) (d : Vec Command Global) → i < p.workers → (slice_index_or commands i d).items ≡ commands_of (i + 1) lines)
@@ -184,7 +184,7 @@ collected m stops p scripts commands lines before ws ps rs ready same_scripts sa
       subst (GivesBack m p.lines rs j) same (gives_back m p.lines rs j t.0 w.0.pass stops t.1.items w.0.end r.0 (ready.passes j t.0 t.2) is t.4 r.1 r.2);
 }
 
--- a worker that was stopped tells which command of its own the gate stops
+-- if a worker was stopped, the gate may stop it before one of its commands
 pub stopped_in : (m : Monitor Total TotalOp _ _) (stops : ℕ → ℕ → Type 0) (p : Plan) (scripts commands : List (Vec Command Global)) (lines : List ScriptLine) (before : List (Pass Total TotalOp _ _)) (ws : List Worked)
     → MadeReady p.workers p.conditions m before → scripts ≡ commands → lines ≡ p.lines → length scripts ≡ p.workers
     → ((i : ℕ) (d : Vec Command Global) → i < p.workers → (slice_index_or commands i d).items ≡ commands_of (i + 1) lines)

@@ -1,4 +1,4 @@
--- What a worker's thread is given, and what it gives back, may move to another thread.
+-- What a worker's thread gets, and what it returns, may be sent to another thread.
 use Rattle.lfm_condvar.specs.contracts.cond_seat.CondSeat as CondSeat
 use Rattle.lfm_condvar.proofs.cond_seat.CondSeat.TheSendSync as CondSeatSend
 use Rattle.lfm_model.specs.contracts.objects.Total as Total
@@ -63,7 +63,8 @@ pass_field_send = Send.struct_send (Declared.shape (Pass.the_type Total.the_row 
 pub worked_send : Send.IsSend Worked.the_row
 worked_send = Send.recorded_send (Worked.the_field).row _ _ (Worked.the_type).to_one (Send.struct_send (Declared.shape Worked.the_type) (pass_field_send, (WorkerEndSend.the_field_send, tt)))
 
--- what the closure of a worker's thread holds: the runtime, the starting line, the monitor, its pass, its commands and the gate
+-- what the closure of a worker's thread captures: the runtime, the starting line, the monitor, its pass, its commands and the
+-- gate
 abbrev pub held : (places : NamedLft × NamedLft × NamedLft × NamedLft × NamedLft) → RattleType → RattleType → List RattleType
 held p R G =
     (Field.shr_ref_field p.0 (param 0 R) tt).row ∷ (Field.shr_ref_field p.1 StartingLine.the_row tt).row ∷ (Field.shr_ref_field p.2 monitor tt).row ∷ pass

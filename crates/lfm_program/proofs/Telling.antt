@@ -1,4 +1,4 @@
--- What was read, written and answered is the run of what the input says.
+-- What was read, written and answered is the run of the script in the input.
 use Rattle.std.proofs.Common.{◌≡◌, ◌≢◌, ◌⊎◌, ◌++◌, ℕ, Bool, true, List, Option, Some, None, Result, Ok, Err, IfSome, inl, inr, ⊎_elim, refl, sym, ◌∙◌, ap, subst, append-nil, arith}
 use Rattle.std.specs.Prelude.{IsErrAnd}
 use Rattle.std.specs.Io.KnownBytes.{Appends, Keeps}
@@ -18,12 +18,12 @@ use Rattle.lfm_program.specs.Works.{SomeWork, TellsWork, Works}
 use Rattle.lfm_script.proofs.RunReports.{script_told}
 use Rattle.lfm_script.proofs.scripts.Plans.{plan_only}
 
--- known bytes stay
+-- bytes that have not changed are kept
 pub keeps_same : (a : Option (List ℕ)) → Keeps a a
 keeps_same None = tt
 keeps_same (Some x) = refl
 
--- a run that came to nothing, by the fault that `?` passes on
+-- a run that failed with the fault that `?` passes on
 pub run_failed : (stops : ℕ → ℕ → Type 0) (r : Result Bool WorkFault) (e : WorkFault) (p : Plan) (old : Option (List ℕ)) → IsErrAnd r (λ y. y ≡ e) → (e ≡ Memory) ⊎ ((e ≡ Stuck) × StopsIn stops p)
     → TellsWork stops r (Ok p) old old × (r ≢ Err Read)
 run_failed stops (Ok b) e p old is fault = absurd is
@@ -43,12 +43,12 @@ report_failed stops (Ok c) fault p text b old new is report writes = absurd is
 report_failed stops (Err y) fault p text b old new is report writes =
     subst (λ x. TellsWork stops (Err x) (Ok p) old new) (sym is) (record { text = text; verdict = b; report = report; appended = writes.outcome })
 
--- a run is stuck only by a gate that stops a worker of some script
+-- Stuck is answered only at a gate that may stop a worker of some script
 pub stuck_by : (stops : ℕ → ℕ → Type 0) (r : Result Bool WorkFault) (said : Result Plan WorkFault) (old new : Option (List ℕ)) → TellsWork stops r said old new → r ≡ Err Stuck → (p : Plan) × StopsIn stops p
 stuck_by stops r (Ok p) old new told at = let stuck : TellsWork stops (Err Stuck) (Ok p) old new = subst (λ x. TellsWork stops x (Ok p) old new) at told in (p, stuck.0)
 stuck_by stops r (Err fault) old new told at = let stuck : TellsWork stops (Err Stuck) (Err fault) old new = subst (λ x. TellsWork stops x (Err fault) old new) at told in absurd stuck
 
--- the bytes that were taken say what all the bytes say
+-- all bytes are read as the same script or fault as the bytes that were taken
 past_limit : (xs : List ℕ) → is_past_limit xs ≡ true → script_in xs ≡ Err Limit
 past_limit xs past = rw past refl
 
@@ -60,7 +60,7 @@ same_script xs (Some ys) taken takes =
       | inr fits ↦ ap script_in (takes.taken ∙ ap (λ l. taken ++ l) (takes.whole fits) ∙ append-nil taken)
     ]
 
--- what was answered of an input that was taken, if no read failed
+-- the answer for an input that was taken, if no read failed
 pub some : (stops : ℕ → ℕ → Type 0) (r : Result Bool WorkFault) (input : List ℕ) (before after old new : Option (List ℕ)) → r ≢ Err Read
     → Takes before after input → Works stops r input old new → SomeWork stops r before after old new
 some stops (Ok b) input before after old new no_read takes p = record { input = input; takes = takes; works = p }
@@ -71,7 +71,7 @@ some stops (Err Stuck) input before after old new no_read takes p = record { inp
 some stops (Err Read) input before after old new no_read takes p = absurd (no_read refl)
 some stops (Err Memory) input before after old new no_read takes p = p
 
--- the same of the bytes that were taken, for all the bytes
+-- the answer for the bytes that were taken is the answer for all bytes
 pub exact : (stops : ℕ → ℕ → Type 0) (before after : Option (List ℕ)) (taken : List ℕ) (r : Result Bool WorkFault) (old new : Option (List ℕ))
     → Takes before after taken → Works stops r taken old new → IfSome before (λ xs. Works stops r xs old new)
 exact stops None after taken r old new takes p = tt

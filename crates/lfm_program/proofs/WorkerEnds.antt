@@ -1,4 +1,4 @@
--- What the end of a worker's thread tells of its commands.
+-- What the end of a worker's thread implies for its commands.
 use Rattle.std.proofs.Common.{◌≡◌, ◌≢◌, Bool, true, false, sym, ap, true≢false}
 use Rattle.lfm_program.specs.declared.performed.Performed.{Performed}
 use Rattle.lfm_program.specs.declared.performed.Performed.TheVariants.{Done}

@@ -24,7 +24,7 @@ use Rattle.lfm_script.specs.declared.script.Command.TheVariants.{Add, Until, One
 use Rattle.lfm_script.specs.Adds.{all_adds}
 use Rattle.lfm_program.specs.Performs.{own_adds}
 
--- there is such a condition, and the cond seat of it among these is so
+-- there is such a condition, and its cond seat in this list has the property
 abbrev pub AtCondition : ℕ → List CondSeat → (Sight Waiters → Type 0) → Type 0
 AtCondition condition cs so = (n : ℕ) × (c : CondSeat) × (condition ≡ n + 1) × (get_elem? cs n ≡ some c) × so (cond_sight c)
 
@@ -32,13 +32,13 @@ AtCondition condition cs so = (n : ℕ) × (c : CondSeat) × (condition ≡ n + 
 abbrev pub HasNoTake : Sight Waiters → Type 0
 HasNoTake c = max_budget ≤ c.takes
 
--- the seat of this number stood in the list that the cond seat found last
+-- the seat of this number was in the list that the cond seat found last
 abbrev pub FoundListed : ℕ → Sight Waiters → Type 0
 FoundListed number c = (v : Waiters) × (c.found ≡ Some v) × (0 < times number v.list.items)
 
 module _ {R : Type 0} {K : _} where
-  -- the last that the seat did was to send one of the list that the cond seat found last, and that was refused as NotWaiting; n is
-  -- how many seats there are
+  -- the last action of the seat was to send one of the list that the cond seat found last, and this was refused as NotWaiting;
+  -- n is the number of seats
   abbrev pub FoundNotWaiting : ℕ → Sight (Journaled Total TotalOp R K) → Sight Waiters → Type 0
   FoundNotWaiting n t c =
       (v : Waiters) × (gone : List Waiter) × (x : Waiter) × (rest : List Waiter) × (s : Sight (Journaled Total TotalOp R K)) × (c.found ≡ Some v) × (v.list.items ≡ gone ++ x ∷ rest)
@@ -55,8 +55,8 @@ module _ {R : Type 0} {K : _} where
   WakeHasCause condition m p Refusal.NotWaiting = AtCondition condition (cond_seats_of p) (FoundNotWaiting (passes_of m) (pass_sight p))
   WakeHasCause condition m p _ = ⊥
 
-  -- Why a command is refused, by what is true of its pass then. The condition is missing exactly if the refusal is NoSuchSeat; but
-  -- an until of a pass that is used up is Spent, whether the condition is there or not
+  -- What is true of the pass of a command that is refused in this way. NoSuchSeat is answered exactly if the condition is
+  -- missing, with one exception: an until of a pass that is used up is refused as Spent, whether or not the condition exists
   abbrev pub HasCause : Command → Monitor Total TotalOp R K → Pass Total TotalOp R K → Refusal → Type 0
   HasCause (Add k) m p Refusal.Spent = IsUsedUp m p
   HasCause (Add k) m p _ = ⊥
@@ -67,7 +67,7 @@ module _ {R : Type 0} {K : _} where
   HasCause (One condition) m p r = WakeHasCause condition m p r
   HasCause (All condition) m p r = WakeHasCause condition m p r
 
-  -- If a worker was refused: there is the cause to refuse one of its commands so, and to the old numbers its pass has added those
+  -- If a worker was refused, one of its commands has a cause for this refusal, and its pass has added to the old numbers those
   -- of the commands before that one
   abbrev pub RefusedForCause : Monitor Total TotalOp R K → List Command → List ℕ → Pass Total TotalOp R K → Performed → Type 0
   RefusedForCause m ms old p (Refused r) =

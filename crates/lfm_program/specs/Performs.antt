@@ -1,4 +1,4 @@
--- What a worker's commands add, by its pass.
+-- What a worker's commands add, as its pass shows it.
 use Rattle.std.specs.Prelude.{◌≡◌, ⊤, ℕ, false, List, ◌++◌, Result, Ok, Err}
 use Rattle.lfm_model.specs.declared.objects.Total.{Total}
 use Rattle.lfm_model.specs.declared.objects.TotalOp.{TotalOp}

@@ -1,4 +1,4 @@
--- The steps of a script's run, from the passes of a new monitor to what its workers gave back.
+-- The stages of a script's run, from the passes of a new monitor to the results of its workers.
 use Rattle.std.specs.Prelude.{◌≡◌, ◌+◌, ◌/◌, ℕ, Bool, true, false, List, [], ◌∷◌, length, Option, Some, None}
 use mathlib.Core.Option.{some}
 use lib.ListN.{get_elem?}
@@ -24,7 +24,7 @@ module _ {R : Type 0} {K : _} where
     pub count : length ps ≡ workers
     pub passes : (j : ℕ) (p : Pass Total TotalOp R K) → get_elem? ps j ≡ some p → NewPass m (j + 1) p
 
--- all were made, or one was refused for this cause
+-- all commands were made, or one was refused for this cause
 abbrev pub EndsSo : WorkerEnd → Option Refusal → Type 0
 EndsSo end None = end ≡ LetGo Done
 EndsSo end (Some r) = end ≡ LetGo (Refused r)

@@ -1,4 +1,4 @@
--- What a worker's thread gives back.
+-- What a worker's thread returns.
 use Rattle.std.specs.Prelude.{◌≡◌, ◌+◌, ◌<◌, ◌≤◌, ℕ, List, ◌++◌, length, take}
 use Rattle.lfm_model.specs.declared.objects.Total.{Total}
 use Rattle.lfm_model.specs.declared.objects.TotalOp.{TotalOp}
@@ -17,22 +17,22 @@ use Rattle.lfm_program.specs.declared.workers.WorkerEnd.TheVariants.{Performed a
 use Rattle.lfm_program.specs.Causes.{RefusedForCause}
 use Rattle.lfm_program.specs.Performs.{own_adds}
 
--- a gate that stops these stops this worker before one of this number of commands
+-- a gate with these stops may stop this worker before one of its commands, of which there are this many
 abbrev pub StopsOne : (ℕ → ℕ → Type 0) → ℕ → ℕ → Type 0
 StopsOne stops worker count = (i : ℕ) × (i < count) × stops worker (i + 1)
 
--- it stops a worker of the script before one of its commands
+-- the gate may stop a worker of the script before one of its commands
 abbrev pub StopsIn : (ℕ → ℕ → Type 0) → Plan → Type 0
 StopsIn stops p = (w : ℕ) × (0 < w) × (w ≤ p.workers) × StopsOne stops w (length (commands_of w p.lines))
 
--- it stops this worker before one of these commands, and to the old numbers exactly those of the commands before that one were
--- added
+-- the gate may stop this worker before one of these commands, and exactly the numbers of the commands before that one were
+-- added to the old numbers
 abbrev pub StoppedAt : (ℕ → ℕ → Type 0) → ℕ → List Command → List ℕ → List ℕ → Type 0
 StoppedAt stops worker ms old new = (i : ℕ) × (i < length ms) × (new ≡ old ++ all_adds (take i ms)) × stops worker (i + 1)
 
 module _ {R : Type 0} {K : _} where
-  -- The pass p of the monitor has become q by the commands of a worker, at a gate that stops these. Of one whose start was called
-  -- off nothing more is told
+  -- The commands of a worker, at a gate with these stops, have changed the pass p of the monitor to q. If the start was called
+  -- off, nothing more is stated
   pub record WorksAs (m : Monitor Total TotalOp R K) (stops : ℕ → ℕ → Type 0) (ms : List Command) (p q : Pass Total TotalOp R K) (end : WorkerEnd) : Type 0 where
     pub belongs : OfMonitor q m
     pub idle : Idle (pass_sight q)

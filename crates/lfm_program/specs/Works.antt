@@ -23,8 +23,8 @@ pub record PrefixReport (p : Plan) (old new : Option (List ℕ)) : Type 0 where
   pub report : IsReport p text verdict
   pub appended : AppendsPrefix old new text
 
--- What was written and answered for what an input says, at a gate that stops these: its fault's line, or a report, or nothing if
--- the gate stops a worker of the script before one of its commands
+-- What was written and answered for an input that is read as this, at a gate with these stops: the line of its fault, or a
+-- report, or nothing if the gate stops a worker of the script before one of its commands
 abbrev pub TellsWork : (ℕ → ℕ → Type 0) → Result Bool WorkFault → Result Plan WorkFault → Option (List ℕ) → Option (List ℕ) → Type 0
 TellsWork stops (Ok b) (Ok p) old new = SomeReport p b old new
 TellsWork stops (Ok b) (Err fault) old new = ⊥
@@ -37,18 +37,18 @@ TellsWork stops (Err Stuck) (Err fault) old new = ⊥
 TellsWork stops (Err Read) said old new = Keeps old new
 TellsWork stops (Err Memory) said old new = Keeps old new
 
--- of an input whose bytes are known
+-- the same for an input whose bytes are known
 abbrev pub Works : (ℕ → ℕ → Type 0) → Result Bool WorkFault → List ℕ → Option (List ℕ) → Option (List ℕ) → Type 0
 Works stops result input old new = TellsWork stops result (script_in input) old new
 
--- an input was taken of which this is the run
+-- an input was taken from the reader, and this is its run
 pub record WorksTaken (stops : ℕ → ℕ → Type 0) (result : Result Bool WorkFault) (before after old new : Option (List ℕ)) : Type 0 where
   pub input : List ℕ
   pub takes : Takes before after input
   pub works : Works stops result input old new
 
--- Whatever the reader gave: some input was taken and this is its run, unless a read failed or memory was refused, and then nothing
--- was written. The reader failed before what it gave was past a limit.
+-- For any reader: some input was taken and this is its run, unless a read failed or memory was refused. In these two cases
+-- nothing was written. A read that fails does so before the input is past a limit.
 abbrev pub SomeWork : (ℕ → ℕ → Type 0) → Result Bool WorkFault → Option (List ℕ) → Option (List ℕ) → Option (List ℕ) → Option (List ℕ) → Type 0
 SomeWork stops (Ok b) before after old new = WorksTaken stops (Ok b) before after old new
 SomeWork stops (Err (Syntax n)) before after old new = WorksTaken stops (Err (Syntax n)) before after old new

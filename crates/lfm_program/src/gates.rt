@@ -1,11 +1,11 @@
-//! Gates: before each command of a worker, a gate says whether it goes on.
+//! Gates. Before each command of a worker, a gate decides whether the worker goes on.
 
 ghost use Rattle.std.specs.Prelude.{◌≡◌, ◌≢◌, ◌⊎◌, ℕ, false, IsTrue};
 
 use crossbeam_utils::CachePadded;
 use std::sync::atomic::{AtomicU64, Ordering};
 
-/// Is asked before each command of each worker, by the threads of all workers.
+/// Decides before each command of each worker whether it is made. The threads of all workers call it.
 pub trait Gate: Sync {
     /// The gate may stop the worker of this number before its command of this number.
     ghost stops: { Self → ℕ → ℕ → Type 0 };
@@ -20,7 +20,7 @@ pub trait Gate: Sync {
 pub struct OpenGate;
 
 impl Gate for OpenGate {
-    // It stops nobody.
+    // It stops no worker.
     ghost stops = { λ _ _ _. ⊥ };
 
     /// True for each command of each worker.
@@ -40,15 +40,15 @@ const SECOND: u64 = 2;
 /// The marks of both.
 const BOTH: u64 = 3;
 
-/// The first to come has given up. Later arrivals may still add their marks.
+/// The worker that arrived first has given up. Later arrivals may still add their marks.
 const GIVEN_UP: u64 = 4;
 
 /// A gate that holds the first commands of workers 1 and 2 until both have arrived.
 ///
-/// It needs no runtime and never sleeps: each of the two looks for the other at most `limit` times. A first command of worker 1
-/// or 2 is answered true if both have arrived. It is answered false if its worker saw only its own mark in all its looks and
-/// gave up, or if the other had given up before. After one answer false no later arrival is answered true, not even that of a
-/// worker that arrives again. All other commands and workers are answered true at once.
+/// It needs no runtime and never sleeps. Each of the two workers reads the marks at most `limit` times to find the other's. A
+/// first command of worker 1 or 2 is answered true if both have arrived. It is answered false if its worker saw only its own
+/// mark in all these reads and gave up, or if the other had given up before. After one answer of false, no later arrival is
+/// answered true, not even if a worker arrives again. All other commands and workers are answered true at once.
 #[derive(Drop)]
 pub struct Meet {
     arrived: CachePadded<AtomicU64>,
@@ -56,7 +56,7 @@ pub struct Meet {
 }
 
 impl Meet {
-    /// A gate at which nobody has arrived yet. With a `limit` of 0 the first to come gives up at once.
+    /// A gate at which no worker has arrived yet. With a `limit` of 0 the first worker to arrive gives up at once.
     pub fn new(limit: u64) -> Meet {
         Meet {
             arrived: CachePadded::new(AtomicU64::new(0)),
@@ -64,7 +64,7 @@ impl Meet {
         }
     }
 
-    /// Marks the arrival of one worker and looks for the other's. Returns whether both have arrived.
+    /// Marks the arrival of one worker and waits for the other's mark. Returns whether both have arrived.
     fn meet(&self, mark: u64) -> bool {
         let arrived: &AtomicU64 = &self.arrived;
         let before = arrived.fetch_or(mark, Ordering::SeqCst);
@@ -80,7 +80,7 @@ impl Meet {
             }
         }
         // Another thread of the same mark may have given up meanwhile, so a failed exchange alone doesn't mean that the other
-        // worker came.
+        // worker has arrived.
         match arrived.compare_exchange(mark, GIVEN_UP, Ordering::SeqCst, Ordering::SeqCst) {
             Ok(_) => false,
             Err(seen) => seen == BOTH,
@@ -89,12 +89,12 @@ impl Meet {
 }
 
 impl Gate for Meet {
-    // It stops workers 1 and 2 alone, before their first command.
+    // It stops only workers 1 and 2, and only before their first command.
     ghost stops = { λ _ worker command. (command ≡ 1) × (worker ≡ 1 ⊎ (worker ≡ 2)) };
 
     /// Holds the first commands of workers 1 and 2 until both have arrived, or one has given up.
     fn before(&self, worker: u64, command: u64) -> bool
-        // Later commands are not held, and no other worker is.
+        // Neither later commands nor other workers are held.
         ensures later { (command ≢ 1) → IsTrue result }
         ensures others { (worker ≢ 1) → (worker ≢ 2) → IsTrue result }
     {

@@ -1,6 +1,6 @@
-//! The run of a script of workers, each a thread, round one monitor. `lfm_script` has what a script is and what is reported of
-//! it. Of other crates' names, only `Command`, `WorkFault` and the functions that turn the outcome of a run or of a replay into
-//! an exit status are re-exported.
+//! Runs a script of workers. Each worker is a thread, and all of them use one monitor. `lfm_script` defines scripts and their
+//! reports. Of the names of other crates, only `Command`, `WorkFault` and the functions that turn the outcome of a run or of a
+//! replay into an exit status are re-exported.
 #![tactic(auto)]
 
 pub mod gates;

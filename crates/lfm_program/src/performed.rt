@@ -1,4 +1,4 @@
-//! What one worker does with its pass: its commands, one after another.
+//! What one worker does with its pass: it makes its commands in order.
 ghost use Rattle.lfm_monitor.specs.Belongs.{OfMonitor, pass_sight};
 ghost use Rattle.lfm_mutex.specs.Close.{Idle};
 ghost use Rattle.lfm_program.specs.Causes.{RefusedForCause};
@@ -21,23 +21,25 @@ use std::sync::Wait;
 pub enum Performed {
     /// All were made.
     Done,
-    /// A call of the monitor was refused. What was done before it stands, and no further command was made.
+    /// A call of the monitor was refused. What was done before it is kept, and no further command was made.
     Refused(Refusal),
     /// The gate stopped the worker before a command.
     Stuck,
 }
 
-/// Makes the commands of one worker in order, each after the gate allows it. The gate is asked with the pass's number and the
-/// command's, from 1 in each call. Before and after, the pass neither holds nor sleeps.
+/// Makes the commands of one worker in order, each after the gate allows it. The gate is called with the pass's number and the
+/// command's number, which starts at 1 in each call. Before and after, the pass neither holds nor sleeps.
 ///
-/// A refusal is that of the call of the monitor that was refused. An `add` is refused as Spent alone: its pass has no entry or
-/// no take left. An `until` is refused as Spent for that or if its seat of the condition has no take left, as NoSuchSeat if
-/// there is no such condition, and as Busy as `wait` of the monitor. A wake is refused as NoSuchSeat, as Spent if its seat of
-/// the condition has no take left, and as NotWaiting as `wake_one` of the monitor.
+/// A refusal is the one that the call of the monitor answered. An `add` is refused only as Spent: its pass has no entry or no
+/// take left. An `until` is refused as Spent for the same reason or if its seat of the condition has no take left, as
+/// NoSuchSeat if there is no such condition, and as Busy in the same case as the monitor's `wait`. A wake is refused as
+/// NoSuchSeat if there is no such condition, as Spent if its seat of the condition has no take left, and as NotWaiting in the
+/// same case as the monitor's `wake_one`.
 ///
-/// Stuck is answered just before a command at which the gate stops this worker: those before it, and no others, were made.
+/// Stuck is answered if the gate stops this worker before a command. The commands before that one were made, and no others.
 ///
-/// It may sleep as it enters, waits and wakes. A script's wait that nobody ends doesn't return. It takes no memory.
+/// It may sleep when it enters, waits or wakes. If no other worker ends a wait of the script, it never returns. It allocates no
+/// memory.
 pub fn perform<G: Gate, R: Wait>(
     rt: &R,
     monitor: &Monitor<Total>,

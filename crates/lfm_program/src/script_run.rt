@@ -1,4 +1,5 @@
-//! The run of a script: its workers on a monitor over a total, and what its journal tells once all have ended.
+//! The run of a script: its workers use a monitor over a total. When all have ended, the rows and the verdict are computed from
+//! the journal.
 ghost use Rattle.lfm_script.specs.Report.{report_text};
 ghost use Rattle.lfm_program.specs.ScriptRuns.{Divides, EndsSo, HasStopped, MadeReady, are_none};
 ghost use Rattle.lfm_program.specs.Workers.{StopsIn};
@@ -22,7 +23,7 @@ use std::alloc::{AllocError, Global};
 use std::sync::Wait;
 use std::thread::{Threads, available_parallelism};
 
-/// What a script came to when all its workers had ended.
+/// The result of a script's run, once all its workers have ended.
 #[derive(Drop)]
 pub(crate) struct ScriptRun {
     /// A row for each worker, in order.
@@ -31,11 +32,12 @@ pub(crate) struct ScriptRun {
     pub total: u64,
     /// Whether the journal is lawful and its replay from 0 gives the total.
     pub lawful: bool,
-    /// Whether it is lawful so, and no worker was refused.
+    /// Whether `lawful` is true and no worker was refused.
     pub succeeded: bool,
 }
 
-/// Sets the monitor's pace for the processors that this program may use. If their number can't be told, its pace stays.
+/// Sets the monitor's pace for the processors that this program may use. If their number can't be found out, the pace is not
+/// changed.
 fn set_pace<R: Threads>(rt: &R, monitor: &mut Monitor<Total>)
     ensures { (workers conditions : ℕ) (passes : _) → MadeReady workers conditions monitor.old passes → MadeReady workers conditions monitor.new passes }
 {
@@ -125,8 +127,8 @@ fn is_lawful(alloc: Global, total: Total, journal: &[Entry<TotalOp>]) -> Result<
     Ok(replayed == total)
 }
 
-/// Runs a script: each worker in a thread of its own, by `perform`. Returns when all have ended, which may be never if nobody
-/// ends a wait of the script.
+/// Runs a script: each worker in a thread of its own, by `perform`. Returns when all have ended. If no worker ends a wait of
+/// the script, it never returns.
 ///
 /// Stuck if the gate stopped a worker before one of its commands. Memory if a request for memory was refused or a worker could
 /// not be started.

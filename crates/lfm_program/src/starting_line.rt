@@ -1,7 +1,7 @@
 //! The line at which workers wait until all of them have been started.
 //!
 //! It is made of std's `Mutex` and `Condvar`, which `lfm work` has to use here. `StartLatch` of `lfm_threads` does the same for
-//! `share`, and proves in addition that all threads found the same decision.
+//! `share`, and it is also proved there that all threads find the same decision.
 
 use std::sync::{Condvar, Mutex, Wait};
 
@@ -16,7 +16,7 @@ enum Start {
     CalledOff,
 }
 
-/// A starting line. It is closed until it lets all go, or is called off. It takes no memory.
+/// A starting line. It is closed until it lets all workers start or is called off. It allocates no memory.
 #[derive(Drop)]
 pub struct StartingLine {
     start: Mutex<Start>,

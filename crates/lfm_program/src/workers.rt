@@ -1,4 +1,4 @@
-//! Workers, each a thread with a pass of its own. All start from one line.
+//! Workers. Each is a thread with its own pass, and all start from one starting line.
 ghost use Rattle.lfm_program.specs.Workers.{ReadyFor, WorksAs};
 ghost use Rattle.std.specs.Prelude.{◌≡◌, ℕ, IfErr, IfOk, Vec, length, vec_len};
 ghost use lib.ListN.{get_elem?};
@@ -72,7 +72,7 @@ fn run_worker<G: Gate, R: Wait>(
     }
 }
 
-/// Waits for the workers that were started, and gives what came back if all were.
+/// Joins the threads that were started. Returns their results if all workers were started, and Memory otherwise.
 fn join_all<R: Threads, G: Gate>(
     rt: &R,
     handles: Vec<PromisedHandle<Worked, Assignment<G>>>,
@@ -95,11 +95,11 @@ fn join_all<R: Threads, G: Gate>(
     }
 }
 
-/// Runs the workers, each with the pass and the commands at its place, all from one starting line, and returns what came back
-/// from each, in order. It sleeps until all have ended.
+/// Runs the workers from one starting line, each with the pass and the commands at its place, and returns their results in
+/// order. It sleeps until all have ended.
 ///
-/// Memory if a request for it was refused, or a worker could not be started. Then those that were started made no command, or
-/// what they made is lost with their passes.
+/// Memory if a request for memory was refused or a worker could not be started. In that case the started workers made no
+/// command, or the results of their commands are lost with their passes.
 pub(crate) fn run_workers<R: Threads + Wait + Sync, G: Gate>(
     rt: &R,
     alloc: Global,
@@ -117,7 +117,7 @@ pub(crate) fn run_workers<R: Threads + Wait + Sync, G: Gate>(
 {
     let line = StartingLine::new();
     let at_line = &line;
-    // The closure repeats the contract, since a scope answers only what its closure ensures. So the function is long.
+    // The closure repeats the contract, since a scope ensures only what its closure ensures. This makes the function long.
     thread::scope(
         thread::scope_env(),
         rt,

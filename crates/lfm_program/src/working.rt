@@ -1,4 +1,4 @@
-//! A script of workers from a reader, and the report of its run into a writer.
+//! Reads a script of workers from a reader, runs it, and writes its report into a writer.
 
 ghost use Rattle.std.specs.Prelude.{◌≡◌, ◌≢◌, ◌<◌, true, length, Err, Ok, IfSome};
 ghost use Rattle.lfm_text.specs.Text.{max_lines};
@@ -29,7 +29,7 @@ fn write_run<W: Write>(writer: &mut W, run: &ScriptRun) -> Result<(), WriteFault
     Ok(())
 }
 
-/// Writes the line of an input's fault, and flushes the writer.
+/// Writes the line that reports a fault of the input, and flushes the writer.
 fn write_input_fault<W: Write>(writer: &mut W, fault: WorkFault) -> Result<(), WriteFault>
     ensures { Writes (W.contents writer.old) (W.contents writer.new) (fault_text fault) result }
 {
@@ -80,15 +80,15 @@ fn work_input<R: Threads + Wait + Sync, G: Gate, W: Write>(
     }
 }
 
-/// Reads a script, runs its workers, each a thread, round one monitor, and writes the report of the run. Returns whether the
-/// journal is lawful, which it always is, and no worker was refused. Each of N workers may write 1,048,576 / N entries,
+/// Reads a script, runs its workers on one monitor, each in its own thread, and writes the report of the run. Returns true if
+/// the journal is lawful, which it always is, and no worker was refused. Each of N workers may write 1,048,576 / N entries,
 /// rounded down. It sleeps until all workers have ended.
 ///
 /// The faults, and what is written before each of them:
 /// - Read and Memory: nothing. Read is a failure of the reader, before the input was past a limit. Memory is a request that was
 ///   refused, or a worker that could not be started.
-/// - Syntax and Limit: the line of the fault, and nothing else. `read_script` says which comes when.
-/// - Stuck: nothing. The gate stopped a worker before one of its commands, so it never comes with an `OpenGate`.
+/// - Syntax and Limit: the line of the fault, and nothing else. The order of these faults is that of `read_script`.
+/// - Stuck: nothing. The gate stopped a worker before one of its commands. It is never answered with an `OpenGate`.
 /// - Write: a prefix of the text. The writer failed, took no byte, or failed to flush.
 ///
 /// Every request for memory precedes the first write. After the last line the writer is flushed.
@@ -99,16 +99,16 @@ pub fn work<R: Threads + Wait + Sync, G: Gate, I: Read, W: Write>(
     writer: &mut W,
     gate: &G,
 ) -> Result<bool, WorkFault>
-    // Some input was read, and this is its run. It says nothing of a reader's or a writer's bytes that are not known.
+    // Some input was read, and this is its run. Nothing is ensured of bytes of the reader or the writer that are not known.
     ensures some { SomeWork (G.stops gate.now) result (I.remaining reader.old) (I.remaining reader.new)
         (W.contents writer.old) (W.contents writer.new) }
-    // If it is known what the reader has, this is the run of exactly that.
+    // If the reader's bytes are known, this is the run of exactly these bytes.
     ensures exact { IfSome (I.remaining reader.old) (λ input.
         Works (G.stops gate.now) result input (W.contents writer.old) (W.contents writer.new)) }
-    // If no worker was refused, what is written is a function of the script.
+    // If no worker was refused, the text that is written is a function of the script.
     ensures script { IfSome (I.remaining reader.old) (λ input. (p : Plan) → script_in input ≡ Ok p → result ≡ Ok true →
         Appends (W.contents writer.old) (W.contents writer.new) (script_text p)) }
-    // It is stuck only by a gate that stops some worker before a command of its own.
+    // Stuck is answered only if the gate stops some worker before one of its commands.
     ensures stuck { result ≡ Err WorkFault.Stuck → (p : Plan) × StopsIn (G.stops gate.now) p }
 {
     let input = read_input(alloc, reader)?;

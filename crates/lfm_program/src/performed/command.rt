@@ -1,4 +1,4 @@
-//! How one command is made: by the calls of the monitor that it stands for.
+//! Makes one command, by calls of the monitor.
 ghost use Rattle.lfm_monitor.specs.Belongs.{OfMonitor, pass_sight};
 ghost use Rattle.lfm_mutex.specs.Close.{Idle};
 ghost use Rattle.lfm_program.specs.Causes.{HasCause};
@@ -118,8 +118,8 @@ fn wake_all<R: Wait>(
     Ok(())
 }
 
-/// Makes one command. A refusal is that of the call of the monitor that was refused. If the pass held the monitor then, it has
-/// left it.
+/// Makes one command. A refusal is the one that the call of the monitor answered. If the pass held the monitor at that call, it
+/// has left it since.
 pub(crate) fn make<R: Wait>(
     rt: &R,
     monitor: &Monitor<Total>,

@@ -7,7 +7,7 @@ use Rattle.lfm_program.specs.ScriptRuns.{EndsSo}
 use Rattle.lfm_program.specs.declared.workers.Worked.{Worked}
 use Rattle.lfm_program.proofs.script_run.divide.Given as goal
 
--- the workers so far are divided, and the others are to come
+-- the workers so far are divided, and the others are still in the list
 abbrev pub invariant-dividing : goal.invariant-dividing
 invariant-dividing l = record {
   long : into_iter_len l.one-iterator ≡ length (into_iter_items l.one-iterator);

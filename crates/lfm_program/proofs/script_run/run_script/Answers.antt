@@ -87,7 +87,7 @@ returns-clause-report g c =
     reported plan rs es c.in_ok-rows.rows.items c.in-Ok.total _ c.in_ok-lawful.lawful _ is_allowed c.requires.few within c.in-Ok.ensures.legal.1 shares made back.as_many rows c.in-Ok.ensures.legal.0
     c.in_ok-monitor.ensures.ready.opening lawful_is (and_true c.none_refused.result c.in_ok-lawful.lawful (are_none rs) (c.none_refused.ensures ∙ ap are_none c.deref-6.ensures.value) lawful_is)
 
--- the worker that was stopped tells which command the gate stops
+-- the stopped worker has a command before which the gate may stop it
 pub returns-in_err-passes-clause-fault : goal.returns-in_err-passes-clause-fault
 returns-in_err-passes-clause-fault g c =
     let many : length c.deref-2.result.now ≡ c.args.script.now.workers = (let a = ap length c.deref-2.ensures.value in let b = c.in_ok-commands.ensures.count in let d = c.in_ok-commands.commands.ok in omega arith) in

@@ -10,7 +10,7 @@ use Rattle.lfm_program.specs.ScriptRuns.{MadeReady}
 use Rattle.lfm_program.proofs.script_run.set_pace.Goals as goal
 
 module _ {R : Type 0} {K : _} where
-  -- the pace is no part of what a monitor and its passes are ready for
+  -- MadeReady does not depend on the pace
   still_ready : (workers conditions : ℕ) (m n : Monitor Total TotalOp R K) (ps : List (Pass Total TotalOp R K)) → n.mutex.limits ≡ m.mutex.limits → opening_of n ≡ opening_of m → share_of n ≡ share_of m
       → SameButPaces (conditions_in m) (conditions_in n) → ((p : Pass Total TotalOp R K) → OfMonitor p m → OfMonitor p n) → MadeReady workers conditions m ps → MadeReady workers conditions n ps
   still_ready workers conditions m n ps limits opening share same belongs ready = record {

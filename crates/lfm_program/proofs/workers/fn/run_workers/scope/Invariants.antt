@@ -4,7 +4,8 @@ use mathlib.Core.Option.{some}
 use lib.ListN.{get_elem?}
 use Rattle.lfm_program.proofs.workers.fn.run_workers.scope.Given as goal
 
--- a thread was started for each pass so far, with the pass and the commands at its place; the other passes are to come
+-- a thread was started for each pass so far, with the pass and the commands at its place; the other passes are still in the
+-- list
 abbrev pub invariant-starting : goal.invariant-starting
 invariant-starting g l = record {
   long : into_iter_len l.pass-iterator ≡ length (into_iter_items l.pass-iterator);

@@ -1,6 +1,6 @@
-//! A producer and a consumer: one thread puts the numbers 1, 2, 3 and on into a bounded buffer, and another takes them out. A
-//! monitor guards the buffer, which is the object of `lfm_buffer`. A thread that finds it full, or empty, waits on a condition
-//! until the other thread wakes it.
+//! A producer and a consumer: one thread puts the numbers 1, 2, 3 and so on into a bounded buffer, and another takes them out.
+//! A monitor guards the buffer, which is the object of `lfm_buffer`. A thread that finds it full, or empty, waits on a
+//! condition until the other thread wakes it.
 #![tactic(auto)]
 
 use anyhow::bail;
@@ -13,8 +13,8 @@ use std::sync::Wait;
 /// How many numbers go through the buffer.
 const NUMBERS: u64 = 10_000;
 
-/// How many entries of the journal a thread may write. A number costs it four at most: it enters and tries, and if that fails
-/// it waits, enters again and tries once more.
+/// How many entries of the journal a thread may write. A number costs at most four entries: the thread enters and tries, and if
+/// that fails, it waits, enters again and tries once more.
 const ENTRIES: u64 = 40_000;
 
 /// The conditions of the monitor: a thread that found the buffer empty waits on the first, and one that found it full on the
@@ -23,13 +23,13 @@ const NOT_EMPTY: u64 = 1;
 
 const NOT_FULL: u64 = 2;
 
-/// What a thread does by the number of its pass: pass 1 produces, and pass 2 consumes.
+/// The role of a thread depends on the number of its pass: pass 1 produces, and pass 2 consumes.
 struct Roles;
 
 impl<R: Wait> CriticalSection<Buffer, R> for Roles {
     type Answer = ControlFlow<()>;
 
-    /// Puts one number in, or takes one out, and wakes the other thread if that waits for it.
+    /// Puts one number in or takes one out, and wakes the other thread if it waits for that.
     fn execute(
         &self,
         rt: &R,
@@ -56,7 +56,7 @@ impl<R: Wait> CriticalSection<Buffer, R> for Roles {
     }
 }
 
-/// How many numbers were taken, if they are 1, 2, 3 and on.
+/// How many numbers were taken, if they are 1, 2, 3 and so on. None otherwise.
 fn taken_in_order(replies: &[BufferReply]) -> Option<u64> {
     let mut last = 0u64;
     for reply in replies {
@@ -72,7 +72,7 @@ fn taken_in_order(replies: &[BufferReply]) -> Option<u64> {
 
 /// Runs both threads, and then checks by the journal that no number was lost and none overtook another.
 fn main(rt: HostRuntime) -> anyhow::Result<()> {
-    // a monitor with two passes, each of which may write `ENTRIES` entries, and two conditions, round an empty buffer
+    // a monitor with two passes, each of which may write `ENTRIES` entries, and two conditions; it guards an empty buffer
     let (monitor, passes) = Monitor::new(rt.alloc(), 2, ENTRIES, 2, Buffer::new())?;
     let Ok(passes) = monitor.run(&rt, passes, NUMBERS, &Roles) else {
         bail!("a thread could not be started");
@@ -80,7 +80,7 @@ fn main(rt: HostRuntime) -> anyhow::Result<()> {
     let Ok((_, journal)) = monitor.close(passes) else {
         bail!("a pass still holds the monitor");
     };
-    // the journal has all that was done under the monitor, in order: made again, it gives the same replies
+    // the journal has all ops on the buffer, in order: a replay of them gives the same replies
     let (_, replies) = replay(rt.alloc(), Buffer::new(), &journal)?;
     let Some(taken) = taken_in_order(&replies) else {
         bail!("a number was taken out of turn");

@@ -11,8 +11,7 @@ struct Entry {
     found: u64,
 }
 
-/// What was found for some numbers. Each number has one place, by its remainder by 16, and a place keeps what was put there
-/// last.
+/// What was found for some numbers. The place of a number is the number modulo 16, and a place keeps what was put there last.
 #[derive(Drop)]
 pub struct Cache {
     entries: [Option<Entry>; 16],
@@ -26,7 +25,7 @@ impl Cache {
         }
     }
 
-    /// What was found for this number, if that is here.
+    /// What was found for this number, if the cache has it.
     pub fn find(&self, number: u64) -> Option<u64> {
         let place = self.entries[(number % ROOM) as usize];
         match place {
@@ -41,7 +40,7 @@ impl Cache {
     }
 }
 
-/// A thread may leave anything in it.
+/// A thread may leave any value.
 impl Kept for Cache {
     ghost fits = { λ _ _. Unit {0} };
 

@@ -1,5 +1,5 @@
-//! Four threads look up the sums of divisors of numbers in one small cache. None waits for another: a thread that finds the
-//! cache held adds the divisors up itself.
+//! Four threads look up the sums of divisors of numbers in one small cache. No thread waits for another: if the cache is held,
+//! a thread adds the divisors up itself.
 #![tactic(auto)]
 
 ghost use Rattle.lfm_mutex.specs.Belongs.{OfMutex};
@@ -20,7 +20,7 @@ const ROUNDS: u64 = 1_000;
 /// How often a seat may take the mutex: twice for a number, to look it up and to put it in.
 const BUDGET: u64 = 2_000;
 
-/// The numbers are 1 to 40, over and over again.
+/// The numbers are 1 to 40, again and again.
 const NUMBERS: u64 = 40;
 
 /// The sum of all numbers that divide this one.
@@ -34,8 +34,8 @@ fn sum_of_divisors(number: u64) -> u64 {
     sum
 }
 
-/// The sum of the divisors, from the cache if it is there and no other seat holds the mutex. Otherwise it is added up, and put
-/// into the cache if no other seat holds the mutex then.
+/// The sum of the divisors. It is read from the cache if the cache has it and no other seat holds the mutex. Otherwise it is
+/// computed, and put into the cache if no other seat holds the mutex at that time.
 fn look_up(mutex: &Mutex<Cache>, seat: &mut Seat<Cache>, number: u64) -> Result<u64, Refusal>
     requires { OfMutex seat.old mutex.now }
     ensures belongs { OfMutex seat.new mutex.now }

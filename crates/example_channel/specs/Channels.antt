@@ -1,11 +1,11 @@
--- A channel and its ops. Its numbers lie in the slots from place `received` to place `sent`, less all multiples of the room.
+-- A channel and its ops. Its numbers are in the slots from `received` to `sent`, modulo the room.
 use Rattle.std.specs.Prelude.{ℕ, ◌+◌, ◌-◌, ◌%◌, ◌^◌, nat_lt, nat_eq, if◌then◌else◌, slice_set, slice_index}
 use Rattle.example_channel.specs.declared.channel.Channel.{Channel}
 use Rattle.example_channel.specs.declared.channel.ChannelOp.{ChannelOp}
 use Rattle.example_channel.specs.declared.channel.ChannelOp.TheVariants.{Send, Receive, Close}
 use Rattle.example_channel.specs.declared.channel.ChannelReply.{ChannelReply}
 
--- there is room for four
+-- how many numbers it has room for
 abbrev pub room : ℕ
 room = 4
 

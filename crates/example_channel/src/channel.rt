@@ -10,7 +10,7 @@ const ROOM: u64 = 4;
 #[derive(Debug, Drop)]
 pub struct Channel {
     slots: [u64; 4],
-    /// How many numbers were sent so far. The next one goes to the slot with this number, less all multiples of four.
+    /// How many numbers were sent so far. The next one goes to the slot with this number modulo four.
     sent: u64,
     /// How many were received.
     received: u64,
@@ -34,11 +34,11 @@ pub enum ChannelReply {
     Sent,
     /// There is no room, and nothing was done.
     Full,
-    /// The number that was sent first of those that are there. It was taken out.
+    /// The oldest number in the channel. It was taken out.
     Received(u64),
-    /// Nothing is there yet, and nothing was done.
+    /// The channel is empty, and nothing was done.
     Empty,
-    /// Nothing is there, and nothing will come: all senders have closed their ends.
+    /// The channel is empty and stays so: all senders have closed their ends.
     Ended,
     /// The sender's end was closed.
     Closed,
@@ -65,7 +65,7 @@ impl Object for Channel {
 
     ghost reply = { channel_reply };
 
-    /// Sends, receives or closes. It never waits: a reply tells that there was no room, or nothing.
+    /// Sends, receives or closes. It never waits: if there is no room, or no number, the reply says so.
     fn apply(&mut self, op: &ChannelOp) -> ChannelReply {
         match op {
             ChannelOp::Send(number) => {

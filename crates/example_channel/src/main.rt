@@ -14,15 +14,15 @@ use std::sync::Wait;
 /// How many threads send. The thread with the pass after theirs receives.
 const SENDERS: u64 = 4;
 
-/// How many numbers each of them sends: together they send 1, 2, 3 and on, each number once.
+/// How many numbers each of them sends: together they send 1, 2, 3 and so on, each number once.
 const NUMBERS: u64 = 250;
 
-/// How many rounds a thread makes at most: the receiver one for each number, and one that finds the end.
+/// The most rounds of a thread: the receiver makes one for each number, and one that finds the end.
 const ROUNDS: u64 = 1_001;
 
-/// How many entries of the journal a thread may write. A round costs it two, a take and an op, and so does each wait. A wait
-/// ends by a wake, and each condition has one for each number and each close. So 5,000 are enough, even for a thread that gets
-/// all the wakes of its condition.
+/// How many entries of the journal a thread may write. A round costs two entries, a take and an op, and so does each wait. A
+/// wait ends by a wake, and each condition has one wake for each number and each close. So 5,000 entries are enough, even for a
+/// thread that gets all wakes of its condition.
 const ENTRIES: u64 = 5_000;
 
 /// The conditions of the monitor: a thread that found the channel empty waits on the first, and one that found it full on the
@@ -31,7 +31,7 @@ const NOT_EMPTY: u64 = 1;
 
 const NOT_FULL: u64 = 2;
 
-/// What a thread does by the number of its pass: passes 1 to 4 send, and pass 5 receives.
+/// The role of a thread depends on the number of its pass: passes 1 to 4 send, and pass 5 receives.
 struct Roles;
 
 impl<R: Wait> CriticalSection<Channel, R> for Roles {
@@ -89,7 +89,8 @@ fn received(replies: &[ChannelReply]) -> (u64, u64) {
 
 /// Runs all five threads, and then counts by the journal what was received.
 fn main(rt: HostRuntime) -> anyhow::Result<()> {
-    // a monitor with a pass for each thread, each of which may write `ENTRIES` entries, and two conditions, round the channel
+    // a monitor with a pass for each thread, each of which may write `ENTRIES` entries, and two conditions; it guards the
+    // channel
     let channel = Channel::new(SENDERS);
     let (monitor, passes) = Monitor::new(rt.alloc(), SENDERS + 1, ENTRIES, 2, channel)?;
     let Ok(passes) = monitor.run(&rt, passes, ROUNDS, &Roles) else {
@@ -98,7 +99,7 @@ fn main(rt: HostRuntime) -> anyhow::Result<()> {
     let Ok((_, journal)) = monitor.close(passes) else {
         bail!("a pass still holds the monitor");
     };
-    // the journal has all that was done under the monitor, in order: made again, it gives the same replies
+    // the journal has all ops on the channel, in order: a replay of them gives the same replies
     let (_, replies) = replay(rt.alloc(), Channel::new(SENDERS), &journal)?;
     let (count, sum) = received(&replies);
     println!(rt; "{count} numbers were received, and their sum is {sum}")?;

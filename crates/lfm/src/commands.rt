@@ -11,7 +11,7 @@ use std::rt::Env;
 use std::sync::Wait;
 use std::thread::Threads;
 
-/// The line that tells the usage of the program.
+/// The usage line of the program.
 const USAGE_LINE: &str = "usage: lfm replay | lfm work";
 
 /// Does what the command line asks for, and returns the exit status. Messages go to standard error.

@@ -1,5 +1,5 @@
-//! The program `lfm`: it reads a schedule of atomic steps and shows the mutex after each line, or it reads a script of
-//! workers, runs them round a monitor, and reports what they added.
+//! The program `lfm`. It reads a schedule of atomic steps and shows the mutex after each line. Or it reads a script of workers,
+//! runs them on one monitor, and reports what they added.
 #![tactic(auto)]
 
 mod commands;

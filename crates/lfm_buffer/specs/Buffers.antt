@@ -1,11 +1,11 @@
--- A bounded buffer and its ops. Its numbers lie in the slots from place `taken` to place `put`, less all multiples of the room.
+-- A bounded buffer and its ops. Its numbers are in the slots from `taken` to `put`, modulo the room.
 use Rattle.std.specs.Prelude.{ℕ, ◌+◌, ◌-◌, ◌%◌, ◌^◌, nat_lt, nat_eq, if◌then◌else◌, slice_set, slice_index}
 use Rattle.lfm_buffer.specs.declared.Buffer.{Buffer}
 use Rattle.lfm_buffer.specs.declared.BufferOp.{BufferOp}
 use Rattle.lfm_buffer.specs.declared.BufferOp.TheVariants.{Put, Take}
 use Rattle.lfm_buffer.specs.declared.BufferReply.{BufferReply}
 
--- there is room for four
+-- how many numbers it has room for
 abbrev pub room : ℕ
 room = 4
 

@@ -13,7 +13,7 @@ const ROOM: u64 = 4;
 #[derive(Debug, Drop)]
 pub struct Buffer {
     slots: [u64; 4],
-    /// How many numbers were put in so far. The next one goes to the slot with this number, less all multiples of four.
+    /// How many numbers were put in so far. The next one goes to the slot with this number modulo four.
     put: u64,
     /// How many were taken out.
     taken: u64,
@@ -33,9 +33,9 @@ pub enum BufferReply {
     Stored,
     /// There is no room, and nothing was done.
     Full,
-    /// The number that was put in first of those that are there. It was taken out.
+    /// The oldest number in the buffer. It was taken out.
     Taken(u64),
-    /// Nothing is there, and nothing was done.
+    /// The buffer is empty, and nothing was done.
     Empty,
 }
 
@@ -59,7 +59,8 @@ impl Object for Buffer {
 
     ghost reply = { buffer_reply };
 
-    /// Puts a number in, or takes the oldest one out. It never waits: a reply tells that there was no room, or nothing.
+    /// Puts a number in, or takes the oldest one out. It never waits: the reply is Full if there was no room, and Empty if
+    /// there was no number.
     fn apply(&mut self, op: &BufferOp) -> BufferReply {
         match op {
             BufferOp::Put(number) => {

@@ -1,12 +1,12 @@
-//! What the program does with its arguments: with none it explains a schedule, with the word `drive` it drives a running mutex
-//! through one. Its messages and statuses are those of `lfm replay`.
+//! What the program does with its arguments. Without arguments it explains a schedule. With the word `drive` it drives a
+//! running mutex through one. Its messages and statuses are those of `lfm replay`.
 use lfm_core::{ReplayFault, report};
 use lfm_explanation::{drive, explain};
 use lfm_text::{CommandLine, read_command_line, standard_output, tell_usage};
 use std::io::Input;
 use std::rt::Env;
 
-/// The line that tells the usage of the program.
+/// The usage line of the program.
 const USAGE_LINE: &str = "usage: lfm_explain [drive]";
 
 /// Does what the command line asks for, and returns the exit status. Messages go to standard error.

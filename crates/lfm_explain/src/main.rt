@@ -1,6 +1,6 @@
-//! The program `lfm_explain`: it reads a schedule of atomic steps, as `lfm replay` does, and shows each step that is made. With
-//! the word `drive` it drives a running mutex through the schedule instead, and shows the outcome of each line. The crate
-//! `lfm_explanation` makes what it prints; only its arguments, messages and statuses are decided here.
+//! The program `lfm_explain`: it reads a schedule of atomic steps, as `lfm replay` does, and shows each step. With the word
+//! `drive` it drives a running mutex through the schedule instead, and shows the outcome of each line. The crate
+//! `lfm_explanation` makes the output; this crate handles only the arguments, messages and statuses.
 #![tactic(auto)]
 
 mod commands;

@@ -1,4 +1,4 @@
--- The program's names of the abstract cases stand for those of the laws.
+-- The abstract cases of the laws that the program's cases name.
 use Rattle.std.specs.Prelude.{Option, Some, None}
 use Rattle.lfm_model.specs.AbstractRuns as Abstract
 use Rattle.lfm_explanation.specs.declared.cases.Case.{Case}
@@ -17,7 +17,7 @@ named_case Enter = Abstract.enter
 named_case Release = Abstract.release
 named_case Leave = Abstract.leave
 
--- the same if there is one
+-- the same for an optional case
 abbrev pub abstract_case : Option Case → Option Abstract.Case
 abstract_case None = None
 abstract_case (Some case) = Some (named_case case)

@@ -1,4 +1,4 @@
--- What an explanation of an input answers: what the replay of it answers, if reading, writing and memory did not fail.
+-- The explanation of an input answers the same as its replay, if reading, writing and memory did not fail.
 use Rattle.std.specs.Prelude.{ℕ, Bool, ◌≡◌, ⊤, List, Option, Result, Ok, Err}
 use Rattle.std.specs.Io.KnownBytes.{Keeps}
 use Rattle.lfm_core.specs.declared.text.faults.ReplayFault.{ReplayFault}

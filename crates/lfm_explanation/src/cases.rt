@@ -16,17 +16,17 @@ pub enum Case {
     Ask,
     /// A seat that asked joins the end of the queue.
     Queue,
-    /// The oldest record leaves the queue, and its seat is brought in.
+    /// The oldest record leaves the queue, and its seat is granted the mutex or owns it.
     Serve,
     /// The responsibility is posted.
     Post,
-    /// A posted handoff is taken over, or taken back.
+    /// A posted hand-off is taken over or taken back.
     Take,
-    /// A `try_lock` accepts a posted handoff and comes in by it.
+    /// A `try_lock` accepts a posted hand-off, and thereby acquires the mutex.
     Accept,
     /// A seat loads its grant.
     TakeUp,
-    /// A seat comes in without a record.
+    /// A seat becomes the owner without a record.
     Enter,
     /// The owner gives the mutex up.
     Release,
@@ -52,7 +52,7 @@ impl Case {
     }
 }
 
-/// The case of a locker's count: a seat that holds already is only counted again.
+/// The case of a locker's count add. None if the seat holds already and is only counted again.
 fn case_of_count(state: &State, s: u64) -> Option<Case>
     ensures { abstract_case result ≡ asks_at state.now.count (seat state.now.seats s).depth }
 {
@@ -63,7 +63,7 @@ fn case_of_count(state: &State, s: u64) -> Option<Case>
     }
 }
 
-/// The case of a store of the owning seat: a locker that has taken its own record serves itself.
+/// The case of a store of the owning seat. A locker that has taken its own record from the queue serves itself.
 fn case_of_entry(entrant: Entrant, how: How) -> Case
     ensures { abstract_case (Some result) ≡ Some (enters_by entrant how) }
 {
@@ -73,14 +73,14 @@ fn case_of_entry(entrant: Entrant, how: How) -> Case
     }
 }
 
-/// This case if it comes, else None.
+/// This case if it occurs, otherwise None.
 fn only_if(comes: bool, case: Case) -> Option<Case>
     ensures { result ≡ if comes then Some case else None }
 {
     if comes { Some(case) } else { None }
 }
 
-/// The case of the step that seat s makes next; none if it leaves the abstract mutex as it is.
+/// The case of the step that seat s makes next. None if that step does not change the abstract mutex.
 pub fn next_case(state: &State, s: u64) -> Option<Case>
     ensures { abstract_case result ≡ case_of_step state.now s }
 {

@@ -1,7 +1,7 @@
-//! The driver: a schedule that is driven through a running mutex by `start` and `next`, one thread holding all its seats.
+//! The driver runs a schedule on a running mutex by `start` and `next`. One thread has all its seats.
 //!
-//! What it writes are the lines of a replay without the states, so that the words of a running mutex can be compared with
-//! those of the core's state.
+//! It writes the lines of a replay without the states, so that the words of a running mutex can be compared with those of the
+//! core's state.
 ghost use Rattle.lfm_mutex.specs.Belongs.{Beside, OfMutex};
 ghost use Rattle.std.specs.Prelude.{◌≡◌, ◌<◌, ◌⊎◌, All, length};
 
@@ -16,7 +16,7 @@ use lfm_text::{flush, write_line_feed, write_number, write_text};
 use std::alloc::Global;
 use std::io::{Read, Write};
 
-/// The seat makes up to this number of steps, and stops as its call ends or a step is refused.
+/// The seat makes at most this number of steps, and stops when its call ends or a step is refused.
 fn make_steps(mutex: &Mutex<u64>, seat: &mut Seat<u64>, most: u64) -> Turn
     requires belongs { OfMutex seat.old mutex.now }
     ensures belongs { Beside seat.old seat.new }
@@ -60,7 +60,7 @@ pub fn follow(mutex: &Mutex<u64>, seats: &mut [Seat<u64>], line: &Line) -> Turn
     follow_seat(mutex, &mut seats[at], line.act, longest)
 }
 
-/// Writes what came of each line as it is done. Returns whether none was refused.
+/// Writes the outcome of each line when it has been made. Returns whether none was refused.
 fn drive_lines<W: Write>(
     writer: &mut W,
     mutex: &Mutex<u64>,
@@ -84,7 +84,7 @@ fn drive_lines<W: Write>(
     Ok(none_refused)
 }
 
-/// Drives a schedule. All memory is asked for before the first byte is written.
+/// Drives a schedule. All memory is requested before the first byte is written.
 fn drive_schedule<W: Write>(
     alloc: Global,
     schedule: &Schedule,
@@ -103,12 +103,12 @@ fn drive_schedule<W: Write>(
     Ok(none_refused)
 }
 
-/// Reads a schedule, drives it through a running mutex at its start, and writes a line for each of its lines: what came of
-/// it, as a replay has it, without the state. Returns whether no line was refused.
+/// Reads a schedule, drives it through a running mutex at its start, and writes a line for each of its lines: its outcome as in
+/// a replay, without the state. Returns whether no line was refused.
 ///
-/// Faults, their order and the flush are those of a replay: Syntax and Limit are written as a line of their own and then
-/// answered; Read and Memory come before anything is written, Write after a prefix of the text. Memory for the input, the lines
-/// of the schedule and the mutex is asked for before the first byte is written.
+/// Faults, their order and the flush are those of a replay. Syntax and Limit are written as a line of their own and then
+/// answered. Read and Memory are answered before anything is written, and Write after a prefix of the text. The memory for the
+/// input, the lines of the schedule and the mutex is requested before the first byte is written.
 pub fn drive<R: Read, W: Write>(
     alloc: Global,
     reader: &mut R,

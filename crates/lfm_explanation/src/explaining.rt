@@ -1,4 +1,5 @@
-//! The explanation of a schedule: the lines of `lfm replay`, and before each the begins and steps that led to it.
+//! The explanation of a schedule: the lines of `lfm replay`, and before each of them the starts of calls and the steps that led
+//! to it.
 ghost use Rattle.std.specs.Prelude.{◌≡◌, ◌≤◌, length, vec_capacity, true, Ok, IfOk, IfSome, IsErrOf};
 ghost use Rattle.std.specs.Io.KnownBytes.{Keeps};
 ghost use Rattle.lfm_core.specs.text.Grammar.{plan_of};
@@ -16,8 +17,8 @@ use lfm_words::Record;
 use std::alloc::Global;
 use std::io::{Read, Write};
 
-/// The seat of this line makes up to this number of steps, each with its line, and stops as its call ends or a step is refused.
-/// Returns the last turn.
+/// The seat of this line makes at most this number of steps, and a line is written for each. It stops when its call ends or a
+/// step is refused. Returns the last turn.
 fn steps_shown<W: Write>(
     writer: &mut W,
     start: LineStart,
@@ -36,7 +37,7 @@ fn steps_shown<W: Write>(
     Ok(Turn::Open)
 }
 
-/// Does what a line says, with a line for each begin and step. Returns its last turn.
+/// Does what a line says, and writes a line for each start of a call and each step. Returns the last turn.
 fn line_shown<W: Write>(
     writer: &mut W,
     number: u64,
@@ -101,7 +102,7 @@ fn explain_run<W: Write>(
     Ok(none_refused)
 }
 
-/// Explains a schedule. All memory is asked for before the first byte is written.
+/// Explains a schedule. All memory is requested before the first byte is written.
 fn explain_schedule<W: Write>(
     alloc: Global,
     schedule: &Schedule,
@@ -115,20 +116,20 @@ fn explain_schedule<W: Write>(
     Ok(explain_run(writer, schedule, &mut state, &mut records)?)
 }
 
-/// Reads a schedule, runs it on a mutex at its start, and writes what `replay` writes, and before each line of that a line
-/// for each begin and step that the schedule's line makes. Returns whether no line was refused.
+/// Reads a schedule, runs it on a mutex at its start, and writes what `replay` writes. Before each line of that, it writes a
+/// line for each start of a call and each step that the schedule's line makes. Returns whether no line was refused.
 ///
-/// Grammar, limits and faults are those of `replay`, in the same order. All memory is asked for before the first byte is
+/// Grammar, limits and faults are those of `replay`, in the same order. All memory is requested before the first byte is
 /// written, by the same requests as in `replay`. At the end the writer is flushed.
 pub fn explain<R: Read, W: Write>(
     alloc: Global,
     reader: &mut R,
     writer: &mut W,
 ) -> Result<bool, ReplayFault>
-    // What is answered is what `replay` answers to the same bytes, unless reading, writing or memory fails.
+    // The answer is that of `replay` to the same bytes, unless reading, writing or memory fails.
     ensures verdict { IfSome (R.remaining reader.old) (λ input.
         Judges result input (W.contents writer.old) (W.contents writer.new)) }
-    // Whatever was read, nothing is written after these two faults.
+    // After these two faults nothing was written, whatever was read.
     ensures read { IsErrOf result ReplayFault.Read → Keeps (W.contents writer.old) (W.contents writer.new) }
     ensures memory { IsErrOf result ReplayFault.Memory → Keeps (W.contents writer.old) (W.contents writer.new) }
 {

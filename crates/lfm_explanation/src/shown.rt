@@ -1,4 +1,5 @@
-//! The lines of begins and steps: each is made on the state first and then written, so what is shown is what was done.
+//! The lines of starts of calls and of steps. Each is made on the state first and then written, so that a line shows what was
+//! done.
 ghost use Rattle.std.specs.Prelude.{◌≡◌, IfOk};
 ghost use Rattle.lfm_protocol.specs.Step.{begin, step};
 
@@ -21,7 +22,7 @@ pub struct LineStart {
     pub seat: u64,
 }
 
-/// The plain data of a seat, to be compared before and after.
+/// The plain data of a seat, which is compared before and after a step.
 #[derive(Clone, Copy, Debug, PartialEq, Eq)]
 struct Plain {
     depth: u64,
@@ -51,7 +52,7 @@ struct Coming {
 }
 
 impl Coming {
-    /// The step that seat s makes next; none if no call of it is open.
+    /// The step that seat s makes next. None if no call of the seat is open.
     fn of(state: &State, s: u64) -> Option<Coming> {
         let kind = state.point(s).kind()?;
         let target = state.point(s).target(s);
@@ -84,7 +85,7 @@ impl Coming {
         )
     }
 
-    /// Whether this case moves the responsibility. It stays if a record is queued, or if a further seat asks.
+    /// Whether this case moves the responsibility. It stays where it is if a record is queued or a further seat asks.
     fn moves(&self, case: Case) -> bool {
         match case {
             Case::Queue => false,
@@ -94,7 +95,7 @@ impl Coming {
     }
 }
 
-/// The seat of this line begins a call, and the line of it is written: what the checks answered, and what was charged.
+/// The seat of this line starts a call. Writes the line of the start: what the checks answered, and what was charged.
 pub fn begin_shown<W: Write>(
     writer: &mut W,
     start: LineStart,
@@ -112,8 +113,7 @@ pub fn begin_shown<W: Write>(
     Ok(turn)
 }
 
-/// The seat of this line makes the step at its point, and the line of it is written. Nothing is written if no call of the seat
-/// is open.
+/// The seat of this line makes the step at its point. Writes the line of the step, or nothing if no call of the seat is open.
 pub fn step_shown<W: Write>(
     writer: &mut W,
     start: LineStart,
@@ -141,7 +141,7 @@ fn write_line_start<W: Write>(writer: &mut W, start: LineStart) -> Result<(), Wr
     write_text(writer, b" ")
 }
 
-/// Writes a call that was begun, and how that turned out: `begins`, its answer, or why it was refused.
+/// Writes a call that was started, and the outcome of the start: `begins`, its answer, or why it was refused.
 fn write_begin<W: Write>(
     writer: &mut W,
     start: LineStart,
@@ -163,7 +163,7 @@ fn write_begin<W: Write>(
     }
 }
 
-/// Writes a step that was made, up to where the responsibility went.
+/// Writes the first part of the line of a step, up to where the responsibility went.
 fn write_step<W: Write>(
     writer: &mut W,
     start: LineStart,
@@ -200,7 +200,7 @@ fn write_operation<W: Write>(
     Ok(())
 }
 
-/// Writes the abstract case, and the new place of the responsibility, if it went somewhere.
+/// Writes the abstract case, and the new place of the responsibility if it moved.
 fn write_case<W: Write>(writer: &mut W, coming: &Coming, state: &State) -> Result<(), WriteFault> {
     let Some(case) = coming.case else {
         return Ok(());
@@ -214,7 +214,7 @@ fn write_case<W: Write>(writer: &mut W, coming: &Coming, state: &State) -> Resul
     Ok(())
 }
 
-/// Writes what became of the seat's plain data, and ends the line.
+/// Writes the changes of the seat's plain data, and ends the line.
 fn write_changes<W: Write>(writer: &mut W, before: Plain, after: Plain) -> Result<(), WriteFault> {
     write_change(writer, b", depth ", before.depth, after.depth)?;
     write_change(writer, b", takes ", before.takes, after.takes)?;

@@ -1,9 +1,9 @@
-//! How the step at a point is called: its call, and its number among the numbered steps of that call.
+//! The name of the step at a point: its call, and its number among the numbered steps of that call.
 use lfm_core::Call;
 use lfm_core::kinds::Kind;
 use lfm_core::points::{Carrier, Entrant, Point, Pusher, Releaser};
 
-/// The name of a call, as a schedule has it.
+/// The name of a call in a schedule.
 pub fn call_name(call: Call) -> &'static str {
     match call {
         Call::Lock => "lock",
@@ -29,8 +29,8 @@ pub fn kind_name(kind: Kind) -> &'static str {
     }
 }
 
-/// The call and the number of the step at a point, as in `lock 6`. A step of taking a record has the number of the step
-/// that began to take in front, as in `unlock 2 take 1`. No text if no call is open.
+/// The call and the number of the step at a point, as in `lock 6`. A step that takes a record has before it the number of the
+/// step at which the taking began, as in `unlock 2 take 1`. Empty if no call is open.
 pub fn step_name(point: Point) -> &'static str {
     match point {
         Point::Rest | Point::Asleep(_) => "",

@@ -1,4 +1,4 @@
-//! What a word holds, decoded, and how it is written.
+//! The decoded content of a word, and its text.
 ghost use Rattle.std.specs.Prelude.{◌≡◌};
 ghost use Rattle.lfm_explanation.specs.Values.{word_value};
 
@@ -12,7 +12,7 @@ use std::io::Write;
 /// What a word holds.
 #[derive(Clone, Copy, Debug, PartialEq, Eq)]
 pub enum Value {
-    /// Of the count word, and of the owner word, in which 0 is nobody.
+    /// Of the count word and of the owner word. An owner word of 0 means that no seat owns the mutex.
     Number(u64),
     /// Of the handoff word.
     Handoff(Handoff),
@@ -36,7 +36,7 @@ pub fn value_of(state: &State, word: Word) -> Value
     }
 }
 
-/// Writes the name of a word: `count`, `wake.2` and the others.
+/// Writes the name of a word, as in `count` or `wake.2`.
 pub fn write_word<W: Write>(writer: &mut W, word: Word) -> Result<(), WriteFault> {
     match word {
         Word::Count => write_text(writer, b"count"),
@@ -48,7 +48,7 @@ pub fn write_word<W: Write>(writer: &mut W, word: Word) -> Result<(), WriteFault
     }
 }
 
-/// Writes a name and a number behind it.
+/// Writes a name, and a number after it.
 fn write_numbered<W: Write>(writer: &mut W, name: &[u8], number: u64) -> Result<(), WriteFault> {
     write_text(writer, name)?;
     write_number(writer, number)

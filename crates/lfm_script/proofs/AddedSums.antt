@@ -23,7 +23,7 @@ use Rattle.lfm_script.specs.script.Limits.{is_there, max_number, command_allowed
 pub sum-append : (xs ys : List ℕ) → sum (xs ++ ys) ≡ sum xs + sum ys
 sum-append xs ys = sum_by-append (λ x. x) xs ys
 
--- a at k, and nothing elsewhere
+-- a at k, and 0 elsewhere
 abbrev share_at : ℕ → ℕ → ℕ → ℕ
 share_at a k s = (if k == s then a else 0)
 
@@ -43,7 +43,7 @@ share_within a k (suc n) p h = dite (ℕ_discrete k (suc n))
     (λ e. let rest = share_past a k n (omega arith) in let here = share_same a k (suc n) e in omega arith)
     (λ ne. let rest = share_within a k n p (omega arith) in let here = share_other a k (suc n) ne in omega arith)
 
--- one more share of k
+-- a more at k makes the sum larger by a
 one_more : (n k a : ℕ) (f g : ℕ → ℕ) → 0 < k → k ≤ n → ((s : ℕ) → g s ≡ share_at a k s + f s) → sum_to g n ≡ a + sum_to f n
 one_more n k a f g above within splits =
     let all = sum_ext g (λ s. share_at a k s + f s) n splits in
@@ -55,7 +55,7 @@ own_adds : (b : Bool) (e : Entry TotalOp) (es : List (Entry TotalOp)) → sum (a
 own_adds true e es = sum-append (added e.what) (adds es)
 own_adds false e es = omega arith
 
--- what all entries add is what those of each seat add, taken together
+-- the sum of what all entries add is the sum of what the entries of each seat add
 pub journal_sum : (n : ℕ) (es : List (Entry TotalOp)) → Within n es → sum (adds es) ≡ sum_to (λ s. sum (adds (own s es))) n
 journal_sum n [] within = sym (sum_none n)
 journal_sum n (e ∷ es) within =
@@ -68,7 +68,7 @@ own_commands : (b : Bool) (m : Command) (ms : List Command) → sum (all_adds (i
 own_commands true m ms = sum-append (command_adds m) (all_adds ms)
 own_commands false m ms = omega arith
 
--- a line whose worker is there, in front of such lines
+-- a line whose worker exists, in front of such lines
 record Allowed (n c : ℕ) (l : ScriptLine) (ls : List ScriptLine) : Type 0 where
   above : 0 < l.worker
   within : l.worker ≤ n

@@ -11,7 +11,7 @@ use Rattle.lfm_script.specs.Report.{row_text, rows_text}
 rows_text-drop : (i : ℕ) (rows : List Row) (d : Row) → i < length rows → rows_text (drop i rows) ≡ row_text (get_or rows i d) ++ rows_text (drop (i + 1) rows)
 rows_text-drop i rows d more = rw (drop_more rows i d more) refl
 
--- a row was written, so what writes the text of those after it writes the text from it on
+-- a row was written: with the text of the rows after it, the text from this row on is written
 pub row_written : (i : ℕ) (rows : List Row) (d : Row) → i < length rows → (old mid new : Option (List ℕ)) (r : Result (Unit {0}) WriteFault)
     → Writes {T = Unit {0}} old mid (row_text (get_or rows i d)) (Ok tt) → Writes mid new (rows_text (drop (i + 1) rows)) r → Writes old new (rows_text (drop i rows)) r
 row_written i rows d more old mid new r p q = rw (rows_text-drop i rows d more) (wrote_then old mid new _ _ tt r p q)

@@ -1,4 +1,4 @@
--- What the entries of a journal add to the rows, one by one.
+-- What each entry of a journal adds to the rows.
 use Rattle.std.proofs.Common.{◌≡◌, ◌≢◌, ◌≤◌, ◌<◌, ◌+◌, ◌^◌, ◌==◌, zero, suc, ℕ, Bool, true, false, if◌then◌else◌, List, [], ◌∷◌, ◌++◌, length, sum, get_or, set, drop, refl, sym, ◌∙◌, ap, subst, Option, None, arith, eq-eqb, ne_eqb, length-append}
 use mathlib.Core.Logic.{dite}
 use native.Mathlib.Decide.{ℕ_discrete}
@@ -16,7 +16,7 @@ use Rattle.lfm_script.specs.declared.rows.Row.{Row}
 use Rattle.lfm_script.specs.Adds.{added, adds}
 use Rattle.lfm_script.specs.Rows.{row_of, row_plus, rows_from, run_row, FitsRow}
 
--- numbers that are added one after another are added together
+-- adding one list of numbers and then another is adding both at once
 row_plus-append : (r : Row) (xs ys : List ℕ) → row_plus r (xs ++ ys) ≡ row_plus (row_plus r xs) ys
 row_plus-append r xs ys =
     let counts = length-append xs ys in
@@ -49,7 +49,7 @@ within_at n es k e within below is =
     let same : e.seat ≡ (get_or es k e).seat = ap (λ x. x.seat) is in
     (omega (arith, there.0, same), omega (arith, there.1, same))
 
--- what is left of the journal makes of each row what the whole journal makes of the row before
+-- adding the rest of the journal to each row gives the same as adding the whole journal to the row as it was before
 abbrev pub Left : List Row → List Row → List (Entry TotalOp) → List (Entry TotalOp) → Type 0
 Left rows before rest es = (i : ℕ) (d : Row) → i < length before → row_plus (get_or rows i d) (adds (own (i + 1) rest)) ≡ row_plus (get_or before i d) (adds (own (i + 1) es))
 
@@ -91,7 +91,7 @@ added_once (Took how) = omega arith
 added_once (Did (Add k)) = omega arith
 added_once (Did Read) = omega arith
 
--- the seat's own entries add no more often and no more than all entries
+-- the seat's own entries add no more numbers, and no greater sum, than all entries
 record NoMore (xs es : List (Entry TotalOp)) : Type 0 where
   count : length (adds xs) ≤ length es
   sum : sum (adds xs) ≤ sum (adds es)
@@ -122,7 +122,7 @@ idle_fits r s w o es idle few fits =
 abbrev nobody : Row
 nobody = record { worker = 0; count = 0; sum = 0; refused = None }
 
--- what an idle row counts is what there is
+-- an idle row to which numbers are added is the row of these numbers
 idle_counts : (w : ℕ) (o : Option Refusal) (ks : List ℕ) → row_plus (row_of w [] o) ks ≡ row_of w ks o
 idle_counts w o ks =
     let count : 0 + length ks ≡ length ks = omega arith in

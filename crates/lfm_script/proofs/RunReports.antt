@@ -1,5 +1,5 @@
--- What the report of a run is, whatever the order of its journal: that of the commands that the workers made, and, if all made
--- all of theirs, that of the script.
+-- The report of a run does not depend on the order of its journal. It is the report of the commands that the workers made, and
+-- if each worker made all of its commands, it is the report of the script.
 use Rattle.std.proofs.Common.{◌≡◌, ◌≤◌, ◌<◌, ◌+◌, ◌^◌, zero, suc, ℕ, true, List, [], ◌∷◌, take, length, sum, Option, None, refl, sym, ◌∙◌, ap, arith, take_all}
 use Rattle.lfm_model.specs.declared.refusals.Refusal.{Refusal}
 use Rattle.lfm_model.specs.declared.objects.TotalOp.{TotalOp}
@@ -19,7 +19,7 @@ use Rattle.lfm_script.specs.Runs.{made_adds, made_row, made_total, IsReport, IsR
 use Rattle.lfm_text.specs.Text.{max_lines}
 use Rattle.lfm_script.proofs.AddedSums.{sum-append, both, lines_small, lines_sum, journal_sum, total_is}
 
--- each worker's entries being its own lines', all of them add up to the script's sum
+-- if each worker's entries add what its own lines add, all entries add up to the script's sum
 sums_agree : (n : ℕ) (es : List (Entry TotalOp)) (ls : List ScriptLine) → ((w : ℕ) → 0 < w → w ≤ n → adds (own w es) ≡ worker_adds w ls)
     → sum_to (λ s. sum (adds (own s es))) n ≡ sum_to (λ s. sum (worker_adds s ls)) n
 sums_agree zero es ls same = refl
@@ -74,7 +74,7 @@ sums_same f g (suc n) same =
     let last = same (suc n) (omega arith) (omega arith) in
     omega arith
 
--- what the entries add is what the workers' commands do, and it is a 64-bit number
+-- what the entries add is what the workers' commands add, and the sum is a 64-bit number
 pub record AddsMade (p : Plan) (made : ℕ → ℕ) (journal : List (Entry TotalOp)) : Type 0 where
   pub sum_is : sum (adds journal) ≡ made_total p made
   pub fits : sum (adds journal) < 2 ^ 64

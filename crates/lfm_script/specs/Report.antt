@@ -1,4 +1,4 @@
--- The report of a run of workers: its text, the one that a script leads to, and the one that a journal leads to.
+-- The report of a run of workers: its text, the report of a script, and the report of a journal.
 use Rattle.std.specs.Prelude.{ℕ, Bool, true, false, ◌≡◌, ◌<◌, ◌≤◌, List, [], ◌∷◌, ◌++◌, sum, Option, Some, None, codes, decimal}
 use Rattle.lfm_model.specs.declared.refusals.Refusal.{Refusal}
 use Rattle.lfm_model.specs.Refusals.{name_of}
@@ -56,7 +56,7 @@ run_text workers journal refused total lawful = report_text (rows_from (run_row 
 abbrev pub total_of : List (Entry TotalOp) → ℕ
 total_of journal = (after_all total_after (record { 0 = 0 }) journal).0
 
--- each worker's entries add what its own lines do
+-- each worker's entries add what its own lines add
 abbrev pub IsRunOf : Plan → List (Entry TotalOp) → Type 0
 IsRunOf p journal = (w : ℕ) → 0 < w → w ≤ p.workers → adds (own w journal) ≡ worker_adds w p.lines
 

@@ -1,4 +1,4 @@
--- The rows of a report: what one tells of a worker that added some numbers, and those that a journal leads to.
+-- The rows of a report: the row of a worker that added some numbers, and the rows of a journal.
 use Rattle.std.specs.Prelude.{ℕ, ◌+◌, ◌-◌, ◌^◌, ◌<◌, zero, suc, List, [], ◌∷◌, length, sum, slice_index_or, Option, None}
 use Rattle.lfm_model.specs.declared.refusals.Refusal.{Refusal}
 use Rattle.lfm_model.specs.declared.objects.TotalOp.{TotalOp}
@@ -11,7 +11,7 @@ use Rattle.lfm_script.specs.Adds.{adds}
 abbrev pub row_of : ℕ → List ℕ → Option Refusal → Row
 row_of w ks refused = record { worker = w; count = length ks; sum = sum ks; refused = refused }
 
--- the row of a worker that added these numbers too
+-- the row, after its worker has added these numbers too
 abbrev pub row_plus : Row → List ℕ → Row
 row_plus r ks = record { worker = r.worker; count = r.count + length ks; sum = r.sum + sum ks; refused = r.refused }
 

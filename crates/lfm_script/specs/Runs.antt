@@ -26,7 +26,7 @@ made_row p made refused w = row_of w (made_adds p made w) (refused w)
 abbrev pub made_total : Plan → (ℕ → ℕ) → ℕ
 made_total p made = sum_to (λ w. sum (made_adds p made w)) p.workers
 
--- each worker's entries add what its first commands do
+-- each worker's entries add what its first commands add
 abbrev pub IsRunOfMade : Plan → (ℕ → ℕ) → List (Entry TotalOp) → Type 0
 IsRunOfMade p made journal = (w : ℕ) → 0 < w → w ≤ p.workers → adds (own w journal) ≡ made_adds p made w
 
@@ -52,13 +52,13 @@ MayMeet conditions (All condition) r = WakeMayMeet conditions condition r
 abbrev pub max_journal : ℕ
 max_journal = 1048576
 
--- a worker that has made the first i of these commands was refused at the next, as that may be refused
+-- a worker has made the first i of these commands, and the next was refused for a cause that it may meet
 abbrev pub RefusedAt : ℕ → List Command → ℕ → Refusal → Type 0
 RefusedAt conditions ms i r = (c : Command) × (get_elem? ms i ≡ some c) × MayMeet conditions c r
 
--- The text of a run in which each worker made its first commands: all of them if it was not refused, and otherwise those before
--- the one at which it was. There is a lawful journal of exactly these adds, by the workers alone, each with no more than its
--- share of the entries. The verdict is that none was refused.
+-- The text is the report of a run in which each worker made its first commands: all of them if it was not refused, and
+-- otherwise those before the refused one. There is a lawful journal of exactly these adds. All its entries are by the workers,
+-- and no worker has more than its share. If the verdict is true, no worker was refused.
 pub record IsReport (p : Plan) (text : List ℕ) (verdict : Bool) : Type 0 where
   pub made : ℕ → ℕ
   pub refused : ℕ → Option Refusal

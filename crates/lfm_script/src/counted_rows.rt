@@ -11,7 +11,7 @@ use lfm_model::{Entry, Refusal, TotalOp, What};
 use std::alloc::{AllocError, Global};
 
 impl Row {
-    /// Adds what an entry says to the row.
+    /// Counts an entry in the row. Only an entry that adds a number changes the row.
     fn count_entry(&mut self, what: &What<TotalOp>)
         requires fits { FitsRow (row_plus self.old (added what.now)) }
         ensures { self.new ≡ row_plus self.old (added what.now) }
@@ -26,7 +26,7 @@ impl Row {
     }
 }
 
-/// Adds what each worker's entries say to the worker's row. The first row is worker 1's. Takes no memory.
+/// Counts each worker's entries in the worker's row. The first row is worker 1's. Allocates no memory.
 fn count_entries(rows: &mut [Row], entries: &[Entry<TotalOp>])
     requires within { Within (length rows.old) entries.now }
     requires fits { (i : ℕ) (d : Row) → i < length rows.old →
@@ -41,9 +41,9 @@ fn count_entries(rows: &mut [Row], entries: &[Entry<TotalOp>])
     }
 }
 
-/// A row for each worker from 1 on: how many numbers its entries in the journal add, their sum, and its refusal. There are as
-/// many workers as refusals. Makes one request for memory, of exactly the rows, and none if there is no worker; AllocError if
-/// it is refused.
+/// A row for each worker, beginning with worker 1: how many numbers its entries in the journal add, their sum, and its refusal.
+/// There are as many workers as refusals. Makes one request for memory, of exactly the rows, and none if there is no worker;
+/// AllocError if it is refused.
 pub fn rows_of(
     alloc: Global,
     refusals: &[Option<Refusal>],

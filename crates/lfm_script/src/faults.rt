@@ -1,4 +1,4 @@
-//! Why a script was not read, or not run to its end.
+//! The faults of reading a script or running it to its end.
 
 ghost use Rattle.std.specs.Prelude.{◌≡◌};
 ghost use Rattle.lfm_script.specs.Faults.{input_fault, memory_fault, output_fault};
@@ -45,7 +45,7 @@ impl From<InputFault> for WorkFault {
 impl From<WriteFault> for WorkFault {
     ghost from_gives = { λ e r. r ≡ output_fault e };
 
-    /// A writer has one fault, whatever it did.
+    /// Write, whichever fault of the writer it is.
     fn from(_fault: WriteFault) -> WorkFault {
         WorkFault::Write
     }
@@ -54,7 +54,7 @@ impl From<WriteFault> for WorkFault {
 impl From<AllocError> for WorkFault {
     ghost from_gives = { λ e r. r ≡ memory_fault e };
 
-    /// A refused request for memory is one fault, whatever it was for.
+    /// Memory, whatever the refused request was for.
     fn from(_fault: AllocError) -> WorkFault {
         WorkFault::Memory
     }

@@ -1,5 +1,5 @@
-//! What a script of workers is and what is reported of its run, and how its outcomes become messages and exit statuses. No
-//! thread, mutex or monitor is used here: the crates above run a script.
+//! Scripts of workers and the reports of their runs, and how the outcome of a run becomes a message and an exit status. No
+//! thread, mutex or monitor is used here: the crates that depend on this one run scripts.
 #![tactic(auto)]
 
 mod counted_rows;

@@ -1,4 +1,4 @@
-//! What the report of a run says of its script. Each law is the contract of a function that does nothing.
+//! How the report of a run depends on its script. Each law is the contract of a function that does nothing.
 
 ghost use Rattle.std.specs.Prelude.{◌≡◌, ◌<◌, ℕ, true, length, sum, List, Option, None};
 ghost use Rattle.lfm_model.specs.declared.refusals.Refusal.{Refusal};
@@ -12,8 +12,8 @@ ghost use Rattle.lfm_script.specs.Rows.{rows_from};
 ghost use Rattle.lfm_script.specs.Report.{report_text, run_text, script_text, total_of, IsRunOf};
 ghost use Rattle.lfm_script.specs.Runs.{made_row, made_total, IsReport, IsRunOfMade};
 
-/// If each worker's entries add what its own lines do, the report is a function of the script, in whatever order the entries of
-/// different workers stand.
+/// If each worker's entries add what its own lines add, the report is a function of the script, whatever the order of the
+/// entries of different workers.
 pub fn reports_are_of_scripts()
     ensures total { (p : Plan) (journal : List (Entry TotalOp)) → plan_allowed p ≡ true → length p.lines < max_lines →
         Within p.workers journal → IsRunOf p journal → total_of journal ≡ sum (lines_adds p.lines) }
@@ -22,8 +22,8 @@ pub fn reports_are_of_scripts()
         run_text p.workers journal (λ w. None) (total_of journal) true ≡ script_text p }
 {}
 
-/// If each worker's entries add what its first commands do, the report is that of those commands; and if no worker was refused,
-/// it is the script's own.
+/// If each worker's entries add what its first commands add, the report is that of these commands. If no worker was refused, it
+/// is the script's own report.
 pub fn reports_are_of_commands()
     ensures made { (p : Plan) (made : ℕ → ℕ) (refused : ℕ → Option Refusal) (journal : List (Entry TotalOp)) →
         plan_allowed p ≡ true → length p.lines < max_lines → Within p.workers journal → IsRunOfMade p made journal →

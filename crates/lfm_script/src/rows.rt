@@ -1,8 +1,8 @@
-//! What the report of a run says of each worker.
+//! The rows of a report, one for each worker.
 
 use lfm_model::Refusal;
 
-/// What a report says of one worker.
+/// The row of one worker in a report.
 #[derive(Clone, Copy, Debug, PartialEq, Eq)]
 pub struct Row {
     /// The worker's number, from 1.

@@ -1,5 +1,5 @@
-//! What a script of workers is: how many workers and conditions there are, and what each worker does. How it is
-//! read, and the commands of each worker, stand in the modules below.
+//! A script of workers: how many workers and conditions there are, and what each worker does. The modules below read a script
+//! and list the commands of each worker.
 
 mod commands;
 pub mod grammar_laws;
@@ -18,7 +18,7 @@ pub const MAX_CONDITIONS: u64 = 16;
 /// The most that one command may add, or wait for.
 pub const MAX_NUMBER: u64 = 1_000_000_000;
 
-/// What a worker does. In `Until` the condition comes first.
+/// A command of a worker. In `Until` the condition comes first.
 #[derive(Clone, Copy, Debug, PartialEq, Eq)]
 pub enum Command {
     /// The worker adds this number to the total.

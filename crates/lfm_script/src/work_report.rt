@@ -102,8 +102,8 @@ pub fn write_report<W: Write>(
     write_total(writer, total, lawful)
 }
 
-/// Writes the line of a fault of the input: of Syntax with its line's number, or of Limit. Any other fault is none of the input
-/// and has no line: nothing is written. It does not flush. A fault if the writer fails or takes no byte, after a prefix of the
+/// Writes the line of a fault of the input: of Syntax with its line's number, or of Limit. Any other fault is not a fault of
+/// the input, and nothing is written. It does not flush. A fault if the writer fails or takes no byte, after a prefix of the
 /// line.
 pub fn write_fault<W: Write>(writer: &mut W, fault: WorkFault) -> Result<(), WriteFault>
     ensures { Writes (W.contents writer.old) (W.contents writer.new) (fault_text fault) result }

@@ -9,7 +9,7 @@ use Rattle.lfm_script.specs.script.Grammar.{line_of, header_of}
 use Rattle.lfm_script.specs.script.Spelling.{command_spelling, line_spelling, header_spelling, IsWritableCommand, IsWritable}
 use Rattle.lfm_text.proofs.Separators.{Lacks, first_part, only_part, no_space, literal_lacks, no_feed, both_lack}
 
--- a worker and a command
+-- the spelling of a worker and a command is read as these
 command_decodes : (w : ℕ) (m : Command) → w < 10 ^ 18 → IsWritableCommand m
     → line_of (words_of (decimal w ++ 32 ∷ command_spelling m)) ≡ Some (record { worker = w; command = m })
 command_decodes w (Add k) small short =
@@ -28,11 +28,11 @@ command_decodes w (One c) small short =
 command_decodes w (All c) small short =
     rw (first_part 32 (decimal w) (codes "all " ++ decimal c) (no_space w small), only_part 32 (decimal c) (no_space c short), every w small, every c short) refl
 
--- a line as it is written
+-- the spelling of a line is read as that line
 pub line_decodes : (l : ScriptLine) → IsWritable l → line_of (words_of (line_spelling l)) ≡ Some l
 line_decodes l writable = command_decodes l.worker l.command writable.worker writable.command
 
--- a first line as it is written
+-- the spelling of a first line is read as that line
 pub header_decodes : (n c : ℕ) → n < 10 ^ 18 → c < 10 ^ 18 → header_of (words_of (header_spelling n c)) ≡ Some (n, c)
 header_decodes n c small short =
     rw (first_part 32 (decimal n) (decimal c) (no_space n small), only_part 32 (decimal c) (no_space c short), every n small, every c short) refl

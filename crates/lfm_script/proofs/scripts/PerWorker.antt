@@ -1,4 +1,4 @@
--- Lists of one item for each worker, which change as the lines of a script are looked at one by one.
+-- Lists with one item for each worker, which change with each line of a script.
 use Rattle.std.proofs.Common.{◌≡◌, ◌≢◌, ◌≤◌, ◌<◌, ◌+◌, ◌-◌, ◌==◌, ℕ, Bool, true, false, cond, List, [], ◌∷◌, ◌++◌, length, get_or, sym, ◌∙◌, ap, refl, arith, tests, append_assoc, length-append, Global, false-eqb, ne_eqb}
 use Rattle.std.specs.Prelude.{slice_set, Vec, vec_capacity}
 use Rattle.std.proofs.lemmas.List.{get_or-set_same, get_or-set_other}
@@ -7,7 +7,7 @@ use Rattle.lfm_script.specs.declared.script.ScriptLine.{ScriptLine}
 use Rattle.lfm_script.specs.script.Limits.{is_there}
 use Rattle.lfm_script.specs.script.Commands.{commands_of}
 
--- P tells of a worker's number, the lines that are left, and the worker's item; here of each worker's
+-- P is about a worker's number, the lines that are left, and the worker's item; here it holds for each worker
 abbrev pub Each : {X : Type 0} → (ℕ → List ScriptLine → X → Type 0) → ℕ → List ScriptLine → List X → Type 0
 Each {X} P workers rest xs = (i : ℕ) (d : X) → i < workers → P (i + 1) rest (get_or xs i d)
 
@@ -16,7 +16,7 @@ abbrev pub OthersKeep : {X : Type 0} → (ℕ → List ScriptLine → X → Type
 OthersKeep {X} P = (w : ℕ) (l : ScriptLine) (rest : List ScriptLine) (x : X) → (l.worker == w) ≡ false → P w (l ∷ rest) x → P w rest x
 
 module _ {X : Type 0} (P : ℕ → List ScriptLine → X → Type 0) (others : OthersKeep P) where
-  -- the item of the worker of a line, if that is there
+  -- the item of a line's worker, if the worker exists
   pub own : (l : ScriptLine) (rest : List ScriptLine) (workers : ℕ) (xs : List X) (x : X) → is_there l.worker workers ≡ true → x ≡ get_or xs (l.worker - 1) x → Each P workers rest xs → P l.worker rest x
   own l rest workers xs x there is each =
       let some : 0 < l.worker = search (tests, arith, there) in
@@ -28,11 +28,11 @@ module _ {X : Type 0} (P : ℕ → List ScriptLine → X → Type 0) (others : O
   not_there : (l : ScriptLine) (workers i : ℕ) → is_there l.worker workers ≡ false → i < workers → (l.worker == i + 1) ≡ false
   not_there l workers i none within = ne_eqb l.worker (i + 1) (λ same. absurd (search (tests, arith, none, within, same)))
 
-  -- a line of a worker that is not there changes nothing
+  -- a line of a worker that does not exist changes nothing
   pub skipped : (l : ScriptLine) (rest : List ScriptLine) (workers : ℕ) (xs : List X) → is_there l.worker workers ≡ false → Each P workers (l ∷ rest) xs → Each P workers rest xs
   skipped l rest workers xs none each i d within = others (i + 1) l rest (get_or xs i d) (not_there l workers i none within) (each i d within)
 
-  -- a line of a worker that is there changes this worker's item
+  -- a line of a worker that exists changes this worker's item
   pub changed : (l : ScriptLine) (rest : List ScriptLine) (workers : ℕ) (xs : List X) (x : X) → is_there l.worker workers ≡ true → length xs ≡ workers
       → P l.worker rest x → Each P workers (l ∷ rest) xs → Each P workers rest (slice_set xs (l.worker - 1) x)
   changed l rest workers xs x there all its each i d within = by_worker (l.worker == i + 1) refl
@@ -62,7 +62,7 @@ length_commands_of w (l ∷ ls) = by_worker (l.worker == w) (length_commands_of 
 
 -- ---- how many commands were counted
 
--- the commands that were counted and those that are left are all of them
+-- the commands counted so far and those of the lines that are left are all commands
 abbrev pub Counted : List ScriptLine → ℕ → List ScriptLine → ℕ → Type 0
 Counted ls w rest n = n + length (commands_of w rest) ≡ length (commands_of w ls)
 
@@ -78,7 +78,7 @@ counted_one ls l rest n counted =
 
 -- ---- which commands were handed out
 
--- the commands that were handed out and those that are left are all of them, and there is exactly room for these
+-- the commands handed out so far and those of the lines that are left are all commands, and there is exactly room for these
 abbrev pub Handed : List ScriptLine → ℕ → List ScriptLine → Vec Command Global → Type 0
 Handed ls w rest v = (v.items ++ commands_of w rest ≡ commands_of w ls) × (vec_capacity v ≡ length (commands_of w ls))
 

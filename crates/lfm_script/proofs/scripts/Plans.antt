@@ -26,7 +26,7 @@ apart = record { number = λ m n e. cc; limit = λ n e. cc; whole = whole_no_lin
         by_test true = λ e. cc
         by_test false = λ e. cc
 
--- single lines of scripts say exactly what they spell
+-- single lines are read as exactly the lines that they spell
 spelled : AreSpelled scripts SpellsFirst Spells
 spelled = record {
   first_only = λ text h e. header_only text h.0 h.1 e;
@@ -46,7 +46,7 @@ plan_all text p spells allowed = says text p true spells allowed
 pub plan_range : (text : List ℕ) (p : Plan) → SpellsPlan text p → plan_allowed p ≡ false → script_in text ≡ Err Limit
 plan_range text p spells allowed = says text p false spells allowed
 
--- a text that says a script
+-- a text that is read as a script spells it
 pub plan_only : (text : List ℕ) (p : Plan) → script_in text ≡ Ok p → SpellsPlan text p × (plan_allowed p ≡ true)
 plan_only text p e =
     let says = said_only scripts SpellsFirst Spells spelled text p e in
@@ -57,7 +57,7 @@ plan_only text p e =
     by_test says true allowed e = let same : plan says.head says.lines ≡ p = cc in rw (← same) (says.spells, allowed)
     by_test says false allowed e = absurd (cc)
 
--- a text that is too long, or one whose numbers are out of range
+-- Limit is answered only if the text is too long or its numbers are out of range
 pub plan_limit : (text : List ℕ) → script_in text ≡ Err Limit → (is_past_limit text ≡ true) ⊎ ((p : Plan) × SpellsPlan text p × (plan_allowed p ≡ false))
 plan_limit text e =
     elim (limit_only scripts SpellsFirst Spells spelled apart text e) [
@@ -70,7 +70,7 @@ plan_limit text e =
     by_test says true allowed e = absurd (cc)
     by_test says false allowed e = (plan says.head says.lines, says.spells, allowed)
 
--- a whole script as it is written has its lines
+-- the spelling of a whole script has the spellings of the script's lines
 pub plan_is_spelled : (p : Plan) → IsWritablePlan p → is_past_limit (plan_spelling p) ≡ false → SpellsPlan (plan_spelling p) p
 plan_is_spelled p writable short =
     written line_spelling Spells IsWritable no_feed_in_line (λ l fits. (refl, fits)) SpellsFirst (header_spelling p.workers p.conditions) (p.workers, p.conditions) p.lines

@@ -1,4 +1,4 @@
--- A text that is read as a line or as a first line of a script is that line as it is written.
+-- A text that is read as a line or as a first line of a script is the spelling of that line.
 use Rattle.std.proofs.Common.{ap, ◌≡◌, ◌<◌, ◌^◌, ℕ, Bool, true, false, cond, List, [], ◌∷◌, ◌++◌, Option, Some, None, refl, codes, decimal}
 use Rattle.std.specs.Str.{bytes_eq}
 use Rattle.std.specs.List.{join_with_byte}
@@ -13,7 +13,7 @@ use Rattle.lfm_script.specs.declared.script.ScriptLine.{ScriptLine}
 use Rattle.lfm_script.specs.script.Grammar.{short_command_of, short_command, until_command, worker_line, line_of, header, header_of}
 use Rattle.lfm_script.specs.script.Spelling.{command_spelling, line_spelling, header_spelling, IsWritableCommand, IsWritable}
 
--- the text is a command as it is written
+-- the text is the spelling of the command
 record IsCommand (text : List ℕ) (m : Command) : Type 0 where
   spelled : text ≡ command_spelling m
   writable : IsWritableCommand m
@@ -28,7 +28,7 @@ short_only word k m small =
     (choose (IsSpelled (32 ∷ decimal k)) word (codes "one") (One k) m _ (record { spelled = refl; writable = small })
     (choose (IsSpelled (32 ∷ decimal k)) word (codes "all") (All k) m None (record { spelled = refl; writable = small }) (λ e. absurd (cc))))
 
--- the text is a line as it is written
+-- the text is the spelling of the line
 record IsLine (text : List ℕ) (l : ScriptLine) : Type 0 where
   spelled : text ≡ line_spelling l
   writable : IsWritable l
@@ -79,13 +79,13 @@ words_only (w ∷ word ∷ c ∷ t ∷ []) l e = by_test (bytes_eq word (codes "
     by_test false same e = absurd (cc)
 words_only (a ∷ b ∷ c ∷ d ∷ f ∷ more) l e = absurd (cc)
 
--- a text that says a line is that line
+-- a text that is read as a line is its spelling
 pub line_only : (text : List ℕ) (l : ScriptLine) → line_of (words_of text) ≡ Some l → (text ≡ line_spelling l) × IsWritable l
 line_only text l e =
     let line : IsLine text l = rw (join_with_byte-slice_split 32 text) at (words_only (words_of text) l e) in
     (line.spelled, line.writable)
 
--- the text is a first line as it is written
+-- the text is the spelling of the first line
 record IsHeader (text : List ℕ) (n c : ℕ) : Type 0 where
   spelled : text ≡ header_spelling n c
   small : n < 10 ^ 18
@@ -113,7 +113,7 @@ header_words_only (w ∷ s ∷ t ∷ []) n c e = by_test (bytes_eq w (codes "wor
     by_test false same e = absurd (cc)
 header_words_only (a ∷ b ∷ c ∷ d ∷ more) n k e = absurd (cc)
 
--- a text that says a first line is that line
+-- a text that is read as a first line is its spelling
 pub header_only : (text : List ℕ) (n c : ℕ) → header_of (words_of text) ≡ Some (n, c) → (text ≡ header_spelling n c) × (n < 10 ^ 18) × (c < 10 ^ 18)
 header_only text n c e =
     let line : IsHeader text n c = rw (join_with_byte-slice_split 32 text) at (header_words_only (words_of text) n c e) in

@@ -11,7 +11,7 @@ use Rattle.lfm_script.specs.declared.script.Script.{Script}
 use Rattle.lfm_script.specs.declared.faults.WorkFault.{WorkFault}
 use Rattle.lfm_script.specs.declared.faults.WorkFault.TheVariants.{Syntax, Limit, Read, Write, Memory, Stuck}
 
--- the command that one word and its number say
+-- the command that one word and its number spell
 abbrev pub short_command_of : List ℕ → ℕ → Option Command
 short_command_of word k =
     if bytes_eq word (codes "add") then Some (Add k)
@@ -36,12 +36,12 @@ worker_line None command = None
 worker_line (Some w) None = None
 worker_line (Some w) (Some m) = Some (record { worker = w; command = m })
 
--- what four words say
+-- the line that four words spell
 abbrev pub until_of : List ℕ → List ℕ → List ℕ → List ℕ → Option ScriptLine
 until_of worker word condition bound =
     if bytes_eq word (codes "until") then worker_line (number_of worker) (until_command (number_of condition) (number_of bound)) else None
 
--- what the words of a line after the first say
+-- the line after the first that these words spell
 abbrev pub line_of : List (List ℕ) → Option ScriptLine
 line_of (worker ∷ word ∷ number ∷ []) = worker_line (number_of worker) (short_command word (number_of number))
 line_of (worker ∷ word ∷ condition ∷ bound ∷ []) = until_of worker word condition bound
@@ -53,12 +53,12 @@ header None conditions = None
 header (Some n) None = None
 header (Some n) (Some c) = Some (n, c)
 
--- what the words of the first line say
+-- the numbers of the first line that these words spell
 abbrev pub header_of : List (List ℕ) → Option (ℕ × ℕ)
 header_of (word ∷ workers ∷ conditions ∷ []) = if bytes_eq word (codes "workers") then header (number_of workers) (number_of conditions) else None
 header_of _ = None
 
--- a script without where its lines lie in memory
+-- a script as plain data, without the memory of its lines
 pub record Plan : Type 0 where
   pub workers : ℕ
   pub conditions : ℕ
@@ -67,7 +67,7 @@ pub record Plan : Type 0 where
 abbrev pub script_of : Script → Plan
 script_of s = record { workers = s.workers; conditions = s.conditions; lines = s.lines.items }
 
--- whether the numbers of workers and conditions are allowed, those of all lines are there, and no number is too large
+-- whether the numbers of workers and conditions are allowed, those of all lines exist, and no number is too large
 abbrev pub plan_allowed : Plan → Bool
 plan_allowed p = header_allowed p.workers p.conditions && lines_allowed p.workers p.conditions p.lines
 
@@ -83,7 +83,7 @@ scripts = record { first = header_of; line = line_of; whole = in_limits; syntax_
 abbrev pub script_in : List ℕ → Result Plan WorkFault
 script_in text = said_in scripts text
 
--- the result, seen by view, is what the text says, unless memory was refused
+-- the result, mapped by view, is the reading of the text, unless memory was refused
 abbrev pub Gives : {X Y : Type 0} → (X → Y) → Result X WorkFault → Result Y WorkFault → Type 0
 Gives view (Ok x) said = said ≡ Ok (view x)
 Gives view (Err (Syntax n)) said = said ≡ Err (Syntax n)

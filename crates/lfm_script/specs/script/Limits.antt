@@ -20,14 +20,14 @@ max_conditions = 16
 abbrev pub max_number : ℕ
 max_number = 1000000000
 
--- whether the condition is there and the number is not too large
+-- whether the condition exists and the number is not too large
 abbrev pub command_allowed : ℕ → Command → Bool
 command_allowed conditions (Add k) = not (nat_lt max_number k)
 command_allowed conditions (Until c k) = is_there c conditions && not (nat_lt max_number k)
 command_allowed conditions (One c) = is_there c conditions
 command_allowed conditions (All c) = is_there c conditions
 
--- whether the worker is there too
+-- whether the worker exists too
 abbrev pub line_allowed : ℕ → ℕ → ScriptLine → Bool
 line_allowed workers conditions l = is_there l.worker workers && command_allowed conditions l.command
 

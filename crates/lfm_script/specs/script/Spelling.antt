@@ -20,7 +20,7 @@ line_spelling l = decimal l.worker ++ (codes " " ++ command_spelling l.command)
 abbrev pub header_spelling : ℕ → ℕ → List ℕ
 header_spelling workers conditions = codes "workers " ++ (decimal workers ++ (codes " " ++ decimal conditions))
 
--- a whole script: each line is ended by a line feed
+-- a whole script, with a line feed after each line
 abbrev pub plan_spelling : Plan → List ℕ
 plan_spelling p = lines_spelling line_spelling (header_spelling p.workers p.conditions) p.lines
 
@@ -36,7 +36,7 @@ pub record IsWritable (l : ScriptLine) : Type 0 where
   pub worker : l.worker < 10 ^ 18
   pub command : IsWritableCommand l.command
 
--- numbers of at most 18 digits throughout
+-- a script whose numbers all have at most 18 digits
 pub record IsWritablePlan (p : Plan) : Type 0 where
   pub workers : p.workers < 10 ^ 18
   pub conditions : p.conditions < 10 ^ 18
@@ -50,6 +50,6 @@ SpellsFirst text h = (text ≡ header_spelling h.0 h.1) × (h.0 < 10 ^ 18) × (h
 abbrev pub Spells : List ℕ → ScriptLine → Type 0
 Spells text l = (text ≡ line_spelling l) × IsWritable l
 
--- a text that is not too long, whose lines are those of the plan, in or out of range
+-- the text is not too long, and its lines spell those of the plan; numbers may be out of range
 abbrev pub SpellsPlan : List ℕ → Plan → Type 0
 SpellsPlan text p = SpellsLines SpellsFirst Spells text (p.workers, p.conditions) p.lines

@@ -1,5 +1,5 @@
-//! The commands of each worker of a script. Its lines are read twice: first they are counted, so that exactly the room that the
-//! commands need is reserved.
+//! The commands of each worker of a script. Its lines are read twice. The first time the commands are counted, so that exactly
+//! the memory that they need is reserved.
 
 ghost use Rattle.std.specs.Prelude.{◌≡◌, ◌<◌, ◌+◌, [], ℕ, length, IfOk, IfErr, Vec, vec_capacity, vec_len, slice_index_or};
 ghost use Rattle.lfm_script.specs.script.Commands.{commands_of};
@@ -28,8 +28,8 @@ fn count_commands(
     Ok(counts)
 }
 
-/// An empty list for each worker, with room for as many commands as its count says. Makes one request for memory for all lists,
-/// and one for each that is to have commands.
+/// An empty list for each worker, with room for as many commands as its count. Makes one request for memory for all lists, and
+/// one for each that is to have commands.
 fn reserve_commands(alloc: Global, counts: &[usize]) -> Result<Vec<Vec<Command>>, AllocError>
     ensures count { IfOk result (λ v. vec_len v ≡ length counts.now) }
     ensures empty { IfOk result (λ v. (i : ℕ) (d : Vec Command Global) → i < length counts.now →

@@ -1,4 +1,4 @@
-//! Laws of the grammar of scripts, in the subject's own words. Each is the contract of a function that does nothing.
+//! Laws of the grammar of scripts. Each is the contract of a function that does nothing.
 
 ghost use Rattle.std.specs.Prelude.{◌≡◌, ◌<◌, ◌^◌, ◌⊎◌, ℕ, true, false, List, Ok, Err, Some};
 ghost use Rattle.lfm_text.specs.Grammar.{IsFirstFault};
@@ -9,14 +9,14 @@ ghost use Rattle.lfm_script.specs.declared.script.ScriptLine.{ScriptLine};
 
 use crate::faults::WorkFault;
 
-/// A text says a line after the first exactly if it is that line as it is written.
+/// A text is read as a line after the first exactly if it is the spelling of that line.
 pub fn script_lines_are_spelled()
     ensures only { (text : List ℕ) (l : ScriptLine) →
         line_of (words_of text) ≡ Some l → (text ≡ line_spelling l) × IsWritable l }
     ensures all { (l : ScriptLine) → IsWritable l → line_of (words_of (line_spelling l)) ≡ Some l }
 {}
 
-/// A text says a first line exactly if it is that line as it is written.
+/// A text is read as a first line exactly if it is the spelling of that line.
 pub fn script_headers_are_spelled()
     ensures only { (text : List ℕ) (n : ℕ) (c : ℕ) →
         header_of (words_of text) ≡ Some (n, c) →
@@ -25,8 +25,8 @@ pub fn script_headers_are_spelled()
         header_of (words_of (header_spelling n c)) ≡ Some (n, c) }
 {}
 
-/// A text says a script exactly if its lines are those of the script, one by one, and all numbers are in range. So does the
-/// text that is written with a line feed after each line.
+/// A text is read as a script exactly if its lines are the spellings of the script's lines, in order, and all numbers are in
+/// range. The text that has a line feed after each line has these lines.
 pub fn scripts_are_spelled()
     ensures only { (text : List ℕ) (p : Plan) →
         script_in text ≡ Ok p → SpellsPlan text p × (plan_allowed p ≡ true) }
@@ -36,8 +36,8 @@ pub fn scripts_are_spelled()
         IsWritablePlan p → is_past_limit (plan_spelling p) ≡ false → SpellsPlan (plan_spelling p) p }
 {}
 
-/// Syntax is answered exactly if a text is not too long and has a line that says nothing, and it names the first such line. So
-/// it comes after the limits of length, and before those of the numbers.
+/// Syntax is answered exactly if a text is not too long and has a line that can't be read, and it names the first such line. So
+/// it takes precedence over the limits of the numbers, but not over the limits of length.
 pub fn first_script_faults_are_named()
     ensures only { (text : List ℕ) (n : ℕ) → script_in text ≡ Err (WorkFault.Syntax n) →
         (is_past_limit text ≡ false) × IsFirstFault scripts (lines_of text) n }

@@ -13,7 +13,7 @@ pub fn is_there(number: u64, count: u64) -> bool
 }
 
 impl Command {
-    /// Whether its condition is there and its number is at most 1,000,000,000.
+    /// Whether its condition exists and its number is at most 1,000,000,000.
     fn is_allowed(&self, conditions: u64) -> bool
         ensures { result ≡ command_allowed conditions self.now }
     {
@@ -27,7 +27,7 @@ impl Command {
     }
 }
 
-/// Whether the workers and conditions of all lines are there, and no number is too large.
+/// Whether the workers and conditions of all lines exist, and no number is too large.
 pub fn are_lines_allowed(workers: u64, conditions: u64, lines: &[ScriptLine]) -> bool
     ensures { result ≡ lines_allowed workers conditions lines.now }
 {

@@ -1,4 +1,4 @@
-//! How a script is read from its bytes.
+//! Reads a script from its bytes.
 
 ghost use Rattle.std.specs.Prelude.{◌≡◌, ◌<◌, true, length, IfOk, IsErrOf};
 ghost use Rattle.lfm_text.specs.Grammar.{lines_from};
@@ -12,7 +12,7 @@ use crate::script::{Command, Script, ScriptLine};
 use lfm_text::{LineWords, count_lines, first_line, read_number, split_words};
 use std::alloc::Global;
 
-/// The command that one word and its number say.
+/// The command that a word and its number spell. `None` if they spell none.
 fn read_short_command(word: &[u8], number: u64) -> Option<Command>
     ensures { result ≡ short_command_of word.now number }
 {
@@ -27,7 +27,7 @@ fn read_short_command(word: &[u8], number: u64) -> Option<Command>
     }
 }
 
-/// What four words say: a worker's `until`, its condition and its bound.
+/// The line that four words spell: a worker's `until`, with its condition and its bound. `None` if they spell none.
 fn read_until(worker: &[u8], word: &[u8], condition: &[u8], bound: &[u8]) -> Option<ScriptLine>
     ensures { result ≡ until_of worker.now word.now condition.now bound.now }
 {
@@ -43,7 +43,7 @@ fn read_until(worker: &[u8], word: &[u8], condition: &[u8], bound: &[u8]) -> Opt
     })
 }
 
-/// What a line after the first says. `None` if it is no line of a script.
+/// Reads a line after the first. `None` if it is no line of a script.
 fn read_line(text: &[u8]) -> Option<ScriptLine>
     ensures { result ≡ line_of (words_of text.now) }
 {
@@ -61,7 +61,7 @@ fn read_line(text: &[u8]) -> Option<ScriptLine>
     }
 }
 
-/// The numbers of workers and conditions that the first line names. `None` if it is no such line.
+/// Reads the first line, which names the numbers of workers and conditions. `None` if it is no such line.
 fn read_header(text: &[u8]) -> Option<(u64, u64)>
     ensures { result ≡ header_of (words_of text.now) }
 {
@@ -76,8 +76,8 @@ fn read_header(text: &[u8]) -> Option<(u64, u64)>
     Some((workers, conditions))
 }
 
-/// What the `count` lines of a text say, of which the first has number 2, or the fault of the first that is no line of a
-/// script. Makes one request for memory, for all of them, before it reads them.
+/// Reads the `count` lines of a text, of which the first has number 2. Returns Syntax with the number of the first that is no
+/// line of a script. Makes one request for memory, for all lines, before it reads them.
 fn read_lines(alloc: Global, text: &[u8], count: usize) -> Result<Vec<ScriptLine>, WorkFault>
     requires counted { length (lines_of text.now) ≡ count }
     requires few { count < max_lines }
@@ -101,25 +101,25 @@ fn read_lines(alloc: Global, text: &[u8], count: usize) -> Result<Vec<ScriptLine
 
 /// Reads a script from its bytes.
 ///
-/// A text may have several faults. This one is returned:
+/// If a text has several faults, the first of this list is returned:
 /// 1. Limit, if it is longer than 1,048,576 bytes or has more than 65,536 lines;
 /// 2. Syntax, if some line is no line of a script, with the number of the first such line. The numbers begin at 1, and a text
 ///    without lines has this fault in line 1;
 /// 3. Limit, if the number of workers is outside 1 to 4,095 or that of conditions is above 16, or if a line names a worker or a
-///    condition that is not there, or has a command add or wait for more than 1,000,000,000.
+///    condition that does not exist, or a number above 1,000,000,000 to add or to wait for.
 ///
 /// Makes one request for memory, for the lines after the first, and none if there are no such lines: Memory if it is refused,
 /// before those lines are read. Never Read, Write or Stuck.
 pub fn read_script(alloc: Global, text: &[u8]) -> Result<Script, WorkFault>
     ensures exact { Gives script_of result (script_in text.now) }
-    // Memory comes only if there are lines to be kept.
+    // Memory is answered only if there are lines to be kept.
     ensures memory { IsErrOf result WorkFault.Memory → 1 < line_count text.now }
 
     ensures few { IfOk result (λ s. length s.lines.items < max_lines) }
     ensures header { IfOk result (λ s. header_allowed s.workers s.conditions ≡ true) }
     ensures lines { IfOk result (λ s. lines_allowed s.workers s.conditions s.lines.items ≡ true) }
 {
-    // `read_input` has counted line feeds too, to stop at a limit. But a text may also come from elsewhere.
+    // `read_input` counts line feeds too, so that it stops at a limit. But the text may come from elsewhere.
     let Some(count) = count_lines(text) else {
         return Err(WorkFault::Limit);
     };

@@ -2,7 +2,7 @@ use Rattle.std.proofs.Common.{◌≡◌, ◌≤◌, ◌&&◌, drop, length, vec_
 use Rattle.lfm_core.specs.text.Trace.{none_refused}
 use Rattle.lfm_explanation.proofs.explaining.explain_lines.Given as goal
 
--- What was answered so far and what the lines that are left will answer is what all of them answer.
+-- The answer so far, together with the answer for the lines that are left, is the answer for all lines.
 abbrev pub invariant-running : goal.invariant-running
 invariant-running g l = record {
   verdict : (l.none_refused && none_refused l.state (drop l.index l.lines)) ≡ none_refused l.fn.state l.lines;

@@ -4,7 +4,7 @@ use Rattle.lfm_script.specs.Adds.{adds}
 use Rattle.lfm_script.specs.Rows.{row_plus}
 use Rattle.lfm_script.proofs.counted_rows.count_entries.Given as goal
 
--- what is left to be counted makes of each row what all entries make of it
+-- adding the entries that are left to each row gives the same as adding all entries to the row as it was before
 abbrev pub invariant-counting : goal.invariant-counting
 invariant-counting l = record {
   all : length l.rows ≡ length l.fn.rows;

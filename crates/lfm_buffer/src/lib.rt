@@ -59,8 +59,7 @@ impl Object for Buffer {
 
     ghost reply = { buffer_reply };
 
-    /// Puts a number in, or takes the oldest one out. It never waits: the reply is Full if there was no room, and Empty if
-    /// there was no number.
+    /// Puts a number in, or takes the oldest one out. It never waits: if there is no room, or no number, the reply says so.
     fn apply(&mut self, op: &BufferOp) -> BufferReply {
         match op {
             BufferOp::Put(number) => {

@@ -1,4 +1,4 @@
--- What an event makes of a state: the same as the turn of the core that it names.
+-- The state and outcome after an event: those of the turn of the core that it names.
 use Rattle.lfm_protocol.specs.Core.{Core, Moved}
 use Rattle.lfm_protocol.specs.Step.{begin, step}
 use Rattle.lfm_states.specs.declared.events.Event.{Event}

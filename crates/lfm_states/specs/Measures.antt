@@ -1,4 +1,4 @@
--- Which calls a measure counts, and how much one step of such a call counts.
+-- Which calls a measure counts, and what one step of such a call adds to the count.
 use Rattle.std.specs.Prelude.{ℕ, Bool, true, false}
 use Rattle.lfm_protocol.specs.declared.answers.Call.{Call}
 use Rattle.lfm_protocol.specs.declared.answers.Call.TheVariants.{TryLock, Receive}

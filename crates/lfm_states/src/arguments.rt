@@ -11,11 +11,11 @@ pub enum Request {
     Search(u64),
     /// Something else.
     Other,
-    /// Not known: there was no memory for the arguments.
+    /// The arguments could not be read, since a request for memory was refused.
     Unread,
 }
 
-/// What the program's arguments ask for. It takes memory.
+/// What the program's arguments ask for. It allocates memory.
 pub fn requested<R: Env + AllocGlobal>(rt: &R) -> Request {
     let mut words = match env::args(rt) {
         Ok(words) => words,

@@ -1,4 +1,4 @@
-//! What the program does with its arguments, and the status that it ends with.
+//! What the program does with its arguments, and its exit status.
 ghost use Rattle.std.specs.Prelude.{◌≡◌, if◌then◌else◌, nat_eq};
 
 use crate::arguments::{Request, requested};
@@ -8,10 +8,10 @@ use std::rt::Env;
 /// The status of a search in which each comparison passed.
 const AS_KNOWN: u8 = 0;
 
-/// The status of a search in which a comparison failed, or that did not come to its end.
+/// The status of a search in which a comparison failed, or that could not be completed.
 const NOT_AS_KNOWN: u8 = 1;
 
-/// The exit status of a command line that asks for nothing the program does.
+/// The exit status if the arguments are not those of a search.
 const USAGE: u8 = 2;
 
 /// The exit status after this many failed comparisons.

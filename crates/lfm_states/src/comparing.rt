@@ -31,7 +31,7 @@ impl Tally {
     }
 }
 
-/// Finds all states at this budget, which is 2 or 3, and compares each row. It takes memory.
+/// Finds all states at this budget, which is 2 or 3, and compares each row. It allocates memory.
 pub fn compare<R: AllocGlobal + Print>(rt: &R, budget: u64) -> io::Result<Tally> {
     let alloc = rt.alloc();
     let mut tally = Tally {
@@ -52,7 +52,7 @@ pub fn compare<R: AllocGlobal + Print>(rt: &R, budget: u64) -> io::Result<Tally>
     Ok(tally)
 }
 
-/// The greatest count of a row, in calls of either seat. None if the counts do not settle.
+/// The greatest count of a row, for calls of either seat. None if the counts do not converge.
 fn greatest_of_both(alloc: Global, graph: &Graph, row: &Row) -> Result<Option<u64>, AllocError> {
     let first = greatest(alloc, graph, row.measure, 1)?;
     let second = greatest(alloc, graph, row.measure, 2)?;
@@ -62,7 +62,7 @@ fn greatest_of_both(alloc: Global, graph: &Graph, row: &Row) -> Result<Option<u6
     }
 }
 
-/// The count beside this many changes or open calls.
+/// The count for this number of changes or open calls.
 fn count_at(counts: &Option<Vec<u64>>, beside: usize) -> Option<u64> {
     match counts {
         Some(counts) => counts.get(beside).copied(),
@@ -70,7 +70,7 @@ fn count_at(counts: &Option<Vec<u64>>, beside: usize) -> Option<u64> {
     }
 }
 
-/// Whether a greatest count was found, and is the known one.
+/// Whether a greatest count was found, is the known one, and is within the bound.
 fn passes(row: &Row, found: Option<u64>) -> bool {
     match found {
         Some(found) => row.is_as_known(found),
@@ -78,7 +78,7 @@ fn passes(row: &Row, found: Option<u64>) -> bool {
     }
 }
 
-/// Prints what was found of a row.
+/// Prints the result for a row.
 fn print_row<R: Print>(rt: &R, row: &Row, found: Option<u64>) -> io::Result<()> {
     let (name, bound, law) = (row.name, row.bound, row.law);
     let Some(count) = found else {

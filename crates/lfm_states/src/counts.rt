@@ -1,6 +1,6 @@
-//! For each node the greatest count of a measure with which it is reached. A smaller count can't lead to more from there, so it
-//! is dropped. There is one greatest count for each number of changes of the push word by the other seat, or of calls open at
-//! the start of the run.
+//! For each node, the greatest count of a measure with which it can be reached. A smaller count can't become greater than this
+//! one from there on, so it is dropped. There is a separate greatest count for each number of changes of the push word by the
+//! other seat, or of calls that were open at the start of the run.
 ghost use Rattle.std.specs.Prelude.{◌≡◌};
 ghost use Rattle.lfm_states.specs.Counts.{is_below};
 
@@ -11,13 +11,14 @@ use std::alloc::{AllocError, Global};
 /// Counts are kept for 0, 1 and 2 such changes or calls.
 pub const CLASSES: usize = 3;
 
-/// The most passes over all edges. If counts still change in the last of them, they do not settle.
+/// The most passes over all edges. If counts still change in the last pass, they do not converge.
 const MOST_PASSES: u64 = 1_000;
 
 /// The counts of all nodes, and the greatest of all.
 #[derive(Drop)]
 pub struct Counts {
-    /// For each node and each number of changes or calls, the greatest count. None if no count is open beside that number.
+    /// For each node and each number of changes or calls, the greatest count. None if no count has reached the node with that
+    /// number.
     at: Vec<Option<u64>>,
     /// For each number of changes or calls, the greatest count.
     greatest: Vec<u64>,
@@ -41,7 +42,7 @@ fn place(node: usize, beside: usize) -> usize {
 }
 
 impl Counts {
-    /// No count is open at any of this number of nodes.
+    /// Counts of this number of nodes, none of which a count has reached.
     fn new(alloc: Global, nodes: usize) -> Result<Counts, AllocError> {
         Ok(Counts {
             at: vec![in alloc; None; nodes.wrapping_mul(CLASSES)]?,
@@ -81,7 +82,7 @@ impl Counts {
         self.note(beside, count);
     }
 
-    /// Begins a count at each node at which a run may begin.
+    /// Starts a count at each node at which a run may start.
     fn start(&mut self, graph: &Graph, measure: Measure) {
         for node in 0..graph.nodes.len() {
             if let Some(reading) = graph.nodes.get(node) {
@@ -92,7 +93,7 @@ impl Counts {
         }
     }
 
-    /// Carries the count before an edge over to the node after it.
+    /// Carries the count of the node before an edge over to the node after it.
     fn relax(&mut self, edge: &Edge, beside: usize, effect: Effect) {
         if let Effect::Starts = effect {
             self.raise(edge.to, 0, 0);
@@ -124,8 +125,8 @@ impl Counts {
     }
 }
 
-/// The greatest counts of a measure in all runs, for calls of this seat, by what they are made beside. None if they do not
-/// settle. It takes memory.
+/// The greatest counts of a measure in all runs, for calls of this seat, by the number of changes or open calls. None if they
+/// do not converge. It allocates memory.
 pub fn greatest(
     alloc: Global,
     graph: &Graph,

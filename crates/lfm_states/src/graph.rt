@@ -18,13 +18,13 @@ pub struct Edge {
 /// The nodes by their number, from 0, and the edges in the order in which they were found. Node 0 is the start.
 #[derive(Drop)]
 pub struct Graph {
-    /// What each node holds.
+    /// The reading of each node.
     pub nodes: Vec<Reading>,
     /// All edges.
     pub edges: Vec<Edge>,
     /// The edge that first led to a node. The start has none.
     origins: Vec<Option<Edge>>,
-    /// The nodes by the hash code of what they hold.
+    /// The nodes by the hash code of their reading.
     by_code: BTreeMap<u64, Vec<usize>>,
 }
 
@@ -41,7 +41,7 @@ impl Graph {
         Ok(graph)
     }
 
-    /// The node that holds this. None if there is none yet.
+    /// The node with this reading. None if there is none yet.
     fn node_of(&self, reading: &Reading) -> Option<usize> {
         let bucket = self.by_code.get(&reading.code())?;
         for node in bucket {
@@ -54,7 +54,7 @@ impl Graph {
         None
     }
 
-    /// Adds a node, to which this edge led first.
+    /// Adds a node that was first reached by this edge.
     fn add_node(&mut self, reading: Reading, origin: Option<Edge>) -> Result<(), AllocError> {
         let node = self.nodes.len();
         let code = reading.code();
@@ -64,7 +64,7 @@ impl Graph {
         Ok(())
     }
 
-    /// Adds the edge by which this event leads from a node to what was read, and a node for that if it is new.
+    /// Adds the edge by which this event leads from a node to this reading. Adds a node if the reading is new.
     pub fn add(&mut self, from: usize, event: Event, reading: Reading) -> Result<(), AllocError> {
         let known = self.node_of(&reading);
         let to = match known {

@@ -1,7 +1,7 @@
-//! The program `lfm_states`: it finds every state that a mutex of two seats can reach, and measures in all of them what the
-//! laws of `lfm_laws` bound.
+//! The program `lfm_states` finds every state that a mutex of two seats can reach. Over all of them it measures the counts that
+//! the laws of `lfm_laws` bound.
 //!
-//! It shows what no proof says: which of the bounds are reached, and how near the greatest counts come to the others.
+//! It shows what no proof states: which of the bounds are reached, and how close the greatest counts are to the others.
 //! `scripts/search_states` runs it.
 #![tactic(auto)]
 

@@ -1,5 +1,5 @@
-//! What is measured: how often something happens in one call, between two ends of calls, or while a record is queued, and what
-//! an event does to such a count.
+//! The measures: how often something happens in one call, between two ends of calls, or while a record is queued. And what an
+//! event does to such a count.
 ghost use Rattle.std.specs.Prelude.{◌≡◌};
 ghost use Rattle.lfm_laws.specs.laws.Progress.{changed_push};
 ghost use Rattle.lfm_states.specs.Measures.{counts_call, weight_of};
@@ -13,7 +13,8 @@ use lfm_words::Link;
 /// What is counted, and over which part of a run.
 #[derive(Clone, Copy, Debug, PartialEq, Eq)]
 pub enum Measure {
-    /// The steps of a call that is no `try_lock` and no `receive`, beside some changes of the push word by the other seat.
+    /// The steps of a call that is neither a `try_lock` nor a `receive`, during which the other seat changes the push word some
+    /// number of times.
     StepsOfCall,
     /// The steps of a `try_lock`.
     StepsOfTry,
@@ -25,34 +26,37 @@ pub enum Measure {
     Grants,
     /// The steps of all calls from one end of a call to the next.
     StepsWithoutEnd,
-    /// How often seats come to own while the record that was the oldest as the run began is queued.
+    /// How often seats become the owner while the record that was the oldest at the start of the run is queued.
     Entries,
-    /// How often one seat does so.
+    /// How often one seat becomes the owner during that time.
     EntriesOfSeat,
-    /// How often seats stop owning meanwhile.
+    /// How often seats stop being the owner during that time.
     Releases,
-    /// How many calls begin while the record that was the oldest as the run began is queued, if only serving calls begin.
+    /// How many calls start while the record that was the oldest at the start of the run is queued, if only serving calls
+    /// start.
     BeginsBesideOldest,
-    /// The same of the record that was the second. Both seats are queued as such a run begins, so nobody is pushed behind it.
+    /// The same for the record that was the second. Both seats are queued at the start of such a run, so no record is pushed
+    /// behind it.
     BeginsBesideSecond,
-    /// How many steps are made while the record that was the oldest as the run began is queued, if only serving calls begin.
+    /// How many steps are made while the record that was the oldest at the start of the run is queued, if only serving calls
+    /// start.
     StepsBesideOldest,
 }
 
 /// What an event does to a count.
 #[derive(Clone, Copy, Debug, PartialEq, Eq)]
 pub enum Effect {
-    /// It begins at 0.
+    /// It starts at 0.
     Starts,
-    /// It stays.
+    /// It does not change.
     Stays,
-    /// It stays, and the other seat has changed the push word once more.
+    /// It does not change, and the other seat has changed the push word once more.
     Changes,
     /// It grows by this number.
     Grows(u64),
     /// It grows by this number, and is complete.
     Ends(u64),
-    /// It is complete as it was.
+    /// It is complete without a change.
     Stops,
 }
 
@@ -76,7 +80,7 @@ impl Measure {
         }
     }
 
-    /// What a step of the call counts if it changes the push word this often and stores this many grants.
+    /// What a step of the call adds if it changes the push word this often and stores this many grants.
     fn weight_of(self, changes: u64, grants: u64) -> u64
         ensures { result ≡ weight_of self changes grants }
     {
@@ -126,8 +130,8 @@ impl Measure {
         }
     }
 
-    /// What a step of seat s counts while the oldest record is queued; in the measure of one seat, only if the record is its
-    /// own.
+    /// What a step of seat s adds while the oldest record is queued. The measure of one seat counts only the steps of that
+    /// seat.
     fn weight_beside_record(self, seat: u64, s: u64, before: &Reading) -> u64 {
         match self {
             Measure::EntriesOfSeat if s != seat => 0,
@@ -136,7 +140,7 @@ impl Measure {
         }
     }
 
-    /// What an event does to a count that is made while the oldest record is queued.
+    /// What an event does to a count over the time in which the oldest record is queued.
     fn effect_beside_record(
         self,
         seat: u64,
@@ -153,7 +157,7 @@ impl Measure {
         }
     }
 
-    /// Whether the record beside which calls begin is still queued.
+    /// Whether the record of the measure is still queued.
     fn is_still_queued(self, before: &Reading, after: &Reading) -> bool {
         match self {
             Measure::BeginsBesideSecond => after.oldest.seat != 0,
@@ -161,7 +165,7 @@ impl Measure {
         }
     }
 
-    /// What an event does to a count that is made beside a queued record, if only serving calls begin.
+    /// What an event does to a count over the time in which a record is queued, if only serving calls start.
     fn effect_of_service(self, event: Event, before: &Reading, after: &Reading) -> Effect {
         let counts_steps = self == Measure::StepsBesideOldest;
         match event {
@@ -179,7 +183,7 @@ impl Measure {
         }
     }
 
-    /// Whether a run may begin at this node, with a count of 0. At other nodes a count begins as its call does.
+    /// Whether a run may start at this node with a count of 0. A count of one call starts with the call instead.
     pub fn starts_at(self, node: &Reading) -> bool {
         match self {
             Measure::StepsWithoutEnd => true,
@@ -190,7 +194,7 @@ impl Measure {
         }
     }
 
-    /// Beside how many changes or open calls the count of a run is kept that begins at this node.
+    /// For which number of changes or open calls the count of a run that starts at this node is kept.
     pub fn starts_beside(self, node: &Reading) -> usize {
         match self {
             Measure::StepsBesideOldest => {
@@ -200,8 +204,7 @@ impl Measure {
         }
     }
 
-    /// What an event between these two nodes does to the count. Unless it is a count of all calls, it counts a call of this
-    /// seat.
+    /// What an event between these two nodes does to the count. A count of single calls counts the calls of this seat.
     pub fn effect(self, seat: u64, event: Event, before: &Reading, after: &Reading) -> Effect {
         match self {
             Measure::StepsWithoutEnd => self.effect_on_all(event, after),

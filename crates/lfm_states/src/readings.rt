@@ -1,5 +1,5 @@
-//! What a state of two seats holds, as plain data that can be kept and compared: all words, all data of the seats, and the
-//! queue. The links, the points and the queue determine the pop list, so two states with the same reading are the same.
+//! The content of a state of two seats, as plain data that can be stored and compared: all words, all data of the seats, and
+//! the queue. The links, the points and the queue determine the pop list, so two states with the same reading are the same.
 ghost use Rattle.std.specs.Prelude.{◌≡◌};
 ghost use Rattle.lfm_laws.specs.laws.Grants.{grant_weight};
 ghost use Rattle.lfm_laws.specs.laws.Overtaking.{enters_at, releases_at};
@@ -11,24 +11,24 @@ use crate::weights::{enters_at, grants_at, is_open, releases_at};
 use lfm_core::State;
 use lfm_words::{Handoff, Link, Wake};
 
-/// What belongs to one seat.
+/// The data of one seat.
 #[derive(Clone, Copy, Debug, PartialEq, Eq)]
 pub struct SeatReading {
-    /// Where it stands.
+    /// Its point.
     pub point: PointNumbers,
     /// Whether a call of it is open.
     pub in_call: bool,
     /// How many grants its next step stores.
     pub grants: u64,
-    /// How often a seat comes to own by it.
+    /// How often a seat becomes the owner by its next step.
     pub enters: u64,
-    /// How often a seat stops owning by it.
+    /// How often a seat stops being the owner by its next step.
     pub releases: u64,
-    /// How often it holds.
+    /// Its depth.
     pub depth: u64,
     /// How many takes it has charged.
     pub takes: u64,
-    /// How many handoffs it has posted.
+    /// How many hand-offs it has posted.
     pub posts: u64,
     /// Its link word.
     pub link: Link,
@@ -37,7 +37,7 @@ pub struct SeatReading {
 }
 
 impl SeatReading {
-    /// What belongs to seat s of this state.
+    /// The data of seat s in this state.
     pub fn of(state: &State, s: u64) -> SeatReading
         ensures in_call { result.in_call ≡ is_call (seat state.now.seats s).point }
         ensures grants { result.grants ≡ grant_weight (seat state.now.seats s).point }
@@ -73,7 +73,7 @@ pub struct Queued {
     pub stamp: u64,
 }
 
-/// What a whole state holds.
+/// The content of a whole state.
 #[derive(Clone, Copy, Debug, PartialEq, Eq)]
 pub struct Reading {
     /// The count word.
@@ -88,14 +88,14 @@ pub struct Reading {
     pub oldest: Queued,
     /// The record after it.
     pub second: Queued,
-    /// What belongs to seat 1.
+    /// The data of seat 1.
     pub seat_1: SeatReading,
-    /// What belongs to seat 2.
+    /// The data of seat 2.
     pub seat_2: SeatReading,
 }
 
 impl Reading {
-    /// What this state holds.
+    /// The reading of this state.
     pub fn of(state: &State) -> Reading
         ensures count { result.count ≡ state.now.count }
         ensures owner { result.owner ≡ state.now.owner }
@@ -114,14 +114,14 @@ impl Reading {
         }
     }
 
-    /// What belongs to seat 1 if s is 1, and otherwise to seat 2.
+    /// The data of seat 1 if s is 1, and otherwise of seat 2.
     pub fn seat(&self, s: u64) -> SeatReading {
         if s == 1 { self.seat_1 } else { self.seat_2 }
     }
 }
 
 impl Queued {
-    /// The queued record number i, of which 0 is the oldest.
+    /// The queued record with index i; index 0 is the oldest.
     fn at(state: &State, i: u64) -> Queued {
         match state.queued(i) {
             Some((seat, stamp)) => Queued {

@@ -1,17 +1,17 @@
-//! What is compared: for each measure the greatest count that is known, and the bound of its law at two seats.
+//! The rows to compare: for each measure the known greatest count, and the bound of its law for two seats.
 ghost use Rattle.std.specs.Prelude.{◌≡◌};
 ghost use Rattle.lfm_states.specs.Rows.{known_states, is_as_known};
 
 use crate::measures::Measure;
 
-/// A greatest count, what is known of it, and the law that bounds it.
+/// A measure with its known greatest count, and the law that bounds it.
 #[derive(Clone, Copy, Debug, PartialEq, Eq)]
 pub struct Row {
-    /// What it is called.
+    /// Its name.
     pub name: &'static str,
     /// What is measured.
     pub measure: Measure,
-    /// Beside how many changes of the push word by the other seat, or calls that were open as the run began.
+    /// With how many changes of the push word by the other seat, or calls open at the start of the run, it is counted.
     pub beside: usize,
     /// The known greatest count. A budget of 2 takes is enough to reach it.
     pub known: u64,
@@ -22,7 +22,7 @@ pub struct Row {
 }
 
 impl Row {
-    /// Whether a greatest count is the known one, and within the bound.
+    /// Whether a greatest count is the known one and is within the bound.
     pub fn is_as_known(&self, greatest: u64) -> bool
         ensures { result ≡ is_as_known self.now greatest }
     {
@@ -37,7 +37,7 @@ pub fn known_states(budget: u64) -> usize
     if budget == 2 { 31_046 } else { 335_684 }
 }
 
-/// All rows, those of one measure after one another.
+/// All rows, grouped by their measure.
 pub const ROWS: [Row; 16] = [
     Row {
         name: "steps of a call beside no change of the push word",

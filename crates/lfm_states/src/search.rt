@@ -1,5 +1,5 @@
-//! The search: it tries each event in each state that was found, until no new state comes. A state cannot be copied, so it is
-//! rebuilt from the start, by the events that first led to it.
+//! The search tries each event in each state that was found, until there is no new state. A state cannot be copied, so it is
+//! rebuilt from the start by the events that first led to it.
 use crate::events::{CALLS, Event, SEATS, is_left_out};
 use crate::graph::Graph;
 use crate::readings::Reading;
@@ -10,20 +10,20 @@ use std::alloc::{AllocError, Global};
 /// More states than there are at either budget.
 const MOST_STATES: usize = 4_000_000;
 
-/// More events than the first path to any state has. With a smaller limit the number of states would come out wrong.
+/// More events than the first path to any state has. With a smaller limit the number of states would be wrong.
 const LONGEST_PATH: usize = 1_000;
 
-/// What a search works with.
+/// The data of a search.
 #[derive(Drop)]
 struct Search {
     alloc: Global,
     budget: u64,
     graph: Graph,
-    /// The events that lead to the state that is rebuilt, the last one first.
+    /// The events that lead to the state to be rebuilt, the last one first.
     path: Vec<Event>,
 }
 
-/// All states of a mutex of two seats with this budget, and the events between them. It takes memory.
+/// All states of a mutex of two seats with this budget, and the events between them. It allocates memory.
 pub fn reachable(alloc: Global, budget: u64) -> Result<Graph, AllocError> {
     let start = started(alloc, budget)?;
     let mut search = Search {

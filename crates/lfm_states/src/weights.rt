@@ -1,4 +1,5 @@
-//! What the measures ask of a point: whether a call is open there, and what its step counts. These are the words of the laws.
+//! What the measures need of a point: whether a call is open there, and what its step counts. The definitions are those of the
+//! laws.
 ghost use Rattle.std.specs.Prelude.{◌≡◌};
 ghost use Rattle.lfm_laws.specs.laws.Grants.{grant_weight};
 ghost use Rattle.lfm_laws.specs.laws.Overtaking.{enters_at, releases_at};
@@ -23,7 +24,7 @@ pub fn grants_at(point: Point) -> u64
     }
 }
 
-/// How often a seat comes to own by the step at this point.
+/// How often a seat becomes the owner by the step at this point.
 pub fn enters_at(point: Point) -> u64
     ensures { result ≡ enters_at point }
 {
@@ -33,7 +34,7 @@ pub fn enters_at(point: Point) -> u64
     }
 }
 
-/// How often a seat stops owning by the step at this point.
+/// How often a seat stops being the owner by the step at this point.
 pub fn releases_at(point: Point) -> u64
     ensures { result ≡ releases_at point }
 {

@@ -13,28 +13,28 @@ use std::sync::Wait;
 use std::thread::Threads;
 use std::time::{Clock, CpuClock, Duration};
 
-/// There are fewer looks than calls in a round, since a look has pauses.
+/// How many calls count as one look. A round has fewer looks than calls, since a look has pauses.
 const CALLS_OF_LOOK: u64 = 10;
 
-/// About how many locks by one thread take as long as a round trip, and the fewest round trips of a round.
+/// About how many locks by one thread take as long as a round trip. The next constant is the fewest round trips of a round.
 const CALLS_OF_TRIP: u64 = 100;
 
 const FEWEST_TRIPS: u64 = 20;
 
-/// The same of a broadcast.
+/// The same two numbers for a broadcast.
 const CALLS_OF_BROADCAST: u64 = 5_000;
 
 const FEWEST_BROADCASTS: u64 = 4;
 
-/// The same of a number that goes through a queue, and the fewest of a thread.
+/// The same for a number that goes through a queue; the fewest are those of one thread.
 const CALLS_OF_NUMBER: u64 = 10;
 
 const FEWEST_NUMBERS: u64 = 20;
 
-/// The peers that are measured, and how much.
+/// The peers that are measured, and the amount of work.
 #[derive(Drop)]
 pub struct Bench<'a> {
-    /// The peers that are measured by what one thread does. The others are made in each round.
+    /// The peers that are measured by the calls of one thread. The others are made in each round.
     pub peers: Peers<'a>,
     pub plan: Plan,
 }

@@ -1,7 +1,7 @@
-//! The program `lfm_bench`: it measures the running mutex next to the bare atomic steps of its calls and to std's mutex, and
-//! the running condvar next to std's, and prints tables of medians.
+//! The program `lfm_bench` compares the running mutex with the bare atomic steps of its calls and with std's mutex, and the
+//! running condvar with std's. It prints tables of medians.
 //!
-//! It tells how fast they are on one machine. No proof says anything about time.
+//! It measures how fast they are on one machine. Nothing is proved about time.
 #![tactic(auto)]
 
 mod bench;

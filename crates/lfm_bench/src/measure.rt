@@ -1,8 +1,8 @@
-//! How something is measured: the plan of a run, samples and the medians of their figures, what threads that contend came
-//! to, how long they waited, work that takes time, a gate for threads, clocks, and rows that are printed. The bare atomic steps
-//! of a mutex's calls are here too, since they are what the calls are compared with.
+//! The means of measuring: the plan of a run, samples and the medians of their figures, the results of threads that contend,
+//! how long they waited, work that takes time, a gate for threads, clocks, and rows that are printed. The bare atomic steps of
+//! a mutex's calls are here too, since the calls are compared with them.
 //!
-//! Nothing here uses a mutex of ours. No proof says anything about time.
+//! Nothing here uses our mutex. Nothing is proved about time.
 mod bare;
 mod busy;
 pub mod clocks;

@@ -1,4 +1,4 @@
-//! The tables of the program: what is measured, and what is shown of it.
+//! The tables of the program: what is measured, and which figures are shown.
 use crate::bench::Bench;
 use crate::measure::{
     Column, Line, Measure, Mode, Peer, Plan, Row, StepTime, Steps, Watching, bare_table,
@@ -45,8 +45,8 @@ const CONDITIONS: [Shape; 5] = [
     ("bounded queue, 4 to 4", Workload::Queue(4)),
 ];
 
-/// What several threads do: each work has a row for each number of threads. They have no bare steps, since what they do is no
-/// fixed chain of them.
+/// The work of several threads. Each work has a row for each number of threads. There are no bare steps for them, since the
+/// steps of contending threads are no fixed sequence.
 const WORKS: [Work; 3] = [
     Work {
         name: "short section",
@@ -65,10 +65,10 @@ const WORKS: [Work; 3] = [
     },
 ];
 
-/// How many threads there are.
+/// The numbers of threads.
 const THREADS: [u64; 3] = [2, 4, 8];
 
-/// What is shown of some rows.
+/// A view of some rows: which figures are shown.
 struct View<'a> {
     /// What the figures are.
     head: &'a str,
@@ -91,7 +91,7 @@ const VIEWS_ALONE: [View<'static>; 1] = [View {
     ],
 }];
 
-/// What is shown of each measure of several threads.
+/// The columns of each measure of several threads.
 const IN_BOTH_WAYS: [Column; 8] = [
     Column::Median(Peer::InOrder),
     Column::Spread(Peer::InOrder),
@@ -103,7 +103,7 @@ const IN_BOTH_WAYS: [Column; 8] = [
     Column::Spread(Peer::Standard),
 ];
 
-/// What is shown of the fairness. A ratio would say nothing there.
+/// The columns of the fairness. A ratio would have no meaning there.
 const FAIRNESS_IN_BOTH_WAYS: [Column; 3] = [
     Column::Median(Peer::InOrder),
     Column::Median(Peer::Barging),
@@ -185,7 +185,7 @@ fn measure_all<R: Threads + Sync + Wait + Clock + CpuClock + AllocGlobal + Print
     )
 }
 
-/// Rows without a figure.
+/// Rows without figures.
 fn rows_of(alloc: Global, shapes: &[Shape]) -> Result<Vec<Row>, AllocError> {
     let mut rows = Vec::new(alloc);
     for (name, workload) in shapes {
@@ -195,7 +195,7 @@ fn rows_of(alloc: Global, shapes: &[Shape]) -> Result<Vec<Row>, AllocError> {
     Ok(rows)
 }
 
-/// Rows of several threads, without a figure.
+/// Rows of several threads, without figures.
 fn rows_together(alloc: Global, watching: Watching) -> Result<Vec<Row>, AllocError> {
     let watched = match watching {
         Watching::Nothing => "",
@@ -216,7 +216,7 @@ fn rows_together(alloc: Global, watching: Watching) -> Result<Vec<Row>, AllocErr
     Ok(rows)
 }
 
-/// Makes all rounds, each of which measures every row once, and prints what came of them.
+/// Makes all rounds, each of which measures every row once, and prints the results.
 fn measure_rows<R: Threads + Sync + Wait + Clock + CpuClock + AllocGlobal + Print>(
     rt: &R,
     bench: &mut Bench,

@@ -51,14 +51,14 @@ pub enum Calls {
     BargingPairs,
     /// It adds 1 by `with`.
     Additions,
-    /// It locks and unlocks within a hold.
+    /// It locks and unlocks while it already holds.
     Recursive,
-    /// It gains the mutex by try_lock, and unlocks.
+    /// It acquires the mutex by try_lock, and unlocks.
     Hits,
-    /// It tries to gain a mutex that is held, and fails.
+    /// It tries to acquire a mutex that is held, and fails.
     Misses,
     /// It passes the mutex from one seat to another.
     Handoffs,
-    /// A seat that sleeps looks whether it was granted the mutex.
+    /// A sleeping seat loads its wake word to see whether it was granted the mutex.
     Looks,
 }

@@ -3,7 +3,7 @@ use lfm_core::ReplayFault;
 use lfm_explanation::explain;
 use lfm_test_tools::devices::{FailingReader, FailingWriter, Failure};
 
-/// A lock of a free mutex, and a second lock that begins.
+/// A lock of a free mutex, and the start of a second lock.
 const INPUT: &[u8; 25] = b"seats 1\n1 lock\n1 *\n1 lock";
 
 /// Its explanation.

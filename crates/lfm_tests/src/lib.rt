@@ -1,9 +1,9 @@
-//! Tests by one thread: worked examples on the public calls, scripts of workers, devices that fail, and memory that runs out.
-//! Tests with threads, and those of the condition variable and the monitor, are in `lfm_thread_tests`. Schedules with their
-//! traces are data, in the folder of examples.
+//! Tests with one thread: worked examples of the public calls, scripts of workers, devices that fail, and memory that runs out.
+//! Tests with several threads, and those of the condition variable and the monitor, are in `lfm_thread_tests`. Schedules with
+//! their traces are data in the folder `examples`.
 //!
-//! Many tests are lists of steps, each with what it must answer, since the proof of a test grows with each call in it. How the
-//! library is used is better read in the programs `example_..`, in `rust/tests/threads.rs` and in `c_tests/bounded_buffer.c`.
+//! Many tests are lists of steps with their expected answers, since the proof of a test grows with each call in it. To see how
+//! the library is used, read the programs `example_..`, in `rust/tests/threads.rs` and in `c_tests/bounded_buffer.c`.
 #![tactic(auto)]
 
 #[cfg(test)]

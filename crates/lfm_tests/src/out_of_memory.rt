@@ -1,6 +1,6 @@
-//! The calls that ask for memory. Each test whose name contains `memory` passes also if a request was refused: it then checks
-//! that nothing was changed or written, and says that memory was refused. A script lets each single request of these tests fail
-//! in turn.
+//! The calls that ask for memory. Each test whose name contains `memory` also passes if a request was refused: it then checks
+//! that nothing was changed or written, and prints that memory was refused. A script makes each request of these tests fail in
+//! turn.
 ghost use Rattle.std.specs.Prelude.{All, IfSome};
 ghost use Rattle.lfm_core.specs.text.Grammar.{HasFewSteps};
 
@@ -43,10 +43,10 @@ fn schedule_and_memory(rt: HostRuntime) {
     }
 }
 
-/// What two seats do once there is a post and a record: the locker takes the post over, and owns.
+/// What two seats do after there is a post and a record: the locker takes the post over and becomes the owner.
 const REST: &[u8; 26] = b"seats 2 1\n1 .\n2 +2\n1 *\n2 *";
 
-/// Checks that a call of a seat begins.
+/// Checks that a call of a seat starts.
 fn begins<R: Abort>(rt: &R, state: &mut State, seat: u64, call: Call) {
     sees(rt, "a begin", &state.begin(seat, call), &Turn::Open);
 }
@@ -61,7 +61,7 @@ fn ends<R: Abort>(rt: &R, state: &mut State, seat: u64, turn: Turn) {
     sees(rt, "an end", &state.steps(seat, 9), &turn);
 }
 
-/// Brings a state of two seats so far that seat 1 has posted and seat 2 has queued, each in a call.
+/// Brings a state of two seats to the point at which seat 1 has posted and seat 2 has queued, each within a call.
 fn post_beside_a_record<R: Abort>(rt: &R, state: &mut State) {
     let held = Turn::Ended(Answer::Asked(Asked::Held(How::Free)));
     begins(rt, state, 1, Call::Lock);
@@ -69,7 +69,7 @@ fn post_beside_a_record<R: Abort>(rt: &R, state: &mut State) {
     begins(rt, state, 2, Call::Lock);
     goes_on(rt, state, 2, 1);
     begins(rt, state, 1, Call::Unlock);
-    // seat 1 finds nobody queued, and carries the responsibility
+    // seat 1 finds no record queued, and carries the responsibility
     goes_on(rt, state, 1, 3);
     goes_on(rt, state, 2, 4);
     goes_on(rt, state, 1, 1);
@@ -85,7 +85,7 @@ fn sees_seat<R: Abort>(rt: &R, state: &State, seat: u64, wanted: (u64, u64, u64)
     sees(rt, "a seat", &found, &wanted);
 }
 
-/// Checks that the readers of a state tell of that post and of that record.
+/// Checks that the functions that read a state show that post and that record.
 fn sees_post_beside_a_record<R: Abort>(rt: &R, state: &State) {
     let posted = Handoff { seat: 1, post: 1 };
     let record = Some((SeatNo::known(2), 1));
@@ -107,7 +107,7 @@ fn sees_rest<R: Abort>(rt: &R, turns: &[Turn]) {
     assert_eq!(*rt; turns, [Turn::Open, Turn::Open, taken, held].as_slice());
 }
 
-/// The lines that come after, and a state of two seats. If memory is refused, this says so, and there are none.
+/// The schedule of the lines that follow, and a state of two seats. If memory is refused, prints so and returns None.
 fn rest_and_state<R: Abort + Print>(rt: &R, alloc: Global) -> Option<(Schedule, State)>
     ensures { IfSome result (λ r. All (λ l. HasFewSteps l.act) r.0.lines.items) }
 {
@@ -145,7 +145,7 @@ fn run_and_memory(rt: HostRuntime) {
     }
 }
 
-/// What a replay of the schedule ends with, and how much room is left of 512 bytes.
+/// The result of a replay of the schedule, and how much room is left of 512 bytes.
 fn replayed(alloc: Global) -> (Result<bool, ReplayFault>, usize) {
     let mut written = [0; 512];
     let mut writer = written.as_mut_slice();
@@ -186,7 +186,7 @@ fn entry(seat: SeatNo, what: What<TotalOp>) -> Entry<TotalOp> {
     Entry { seat, what }
 }
 
-/// The journal of a monitor that two seats took in turn.
+/// The journal of a monitor that two seats took in turns.
 fn journal() -> [Entry<TotalOp>; 6] {
     let first = SeatNo::known(1);
     let second = SeatNo::known(2);

@@ -39,7 +39,7 @@ fn packing_of_the_largest(rt: HostRuntime) {
     sees(&rt, "its post", &handoff.post, &68_719_476_736);
 }
 
-/// The number of a seat that is made of this one.
+/// The number of the seat that is made from this number.
 fn number_of(number: u64) -> Option<u64> {
     let seat = SeatNo::new(number)?;
     Some(seat.get())
@@ -53,7 +53,7 @@ fn seat_numbers(rt: HostRuntime) {
     sees(&rt, "seat 65535", &number_of(65_535), &Some(65_535));
 }
 
-/// Adds two to an empty list, and takes both.
+/// Adds two seats to an empty list, and takes both.
 fn adds_and_takes<R: Abort>(rt: &R, list: &mut PopList)
     requires empty { list.old.records ≡ [] }
     requires room { list.old.room ≡ 3 }

@@ -17,7 +17,7 @@ const INPUT: &[u8; 46] = b"seats 2\n1 lock\n1 *\n2 lock\n2 .\n1 unlock\n1 *\n2 *
 const OUTPUT: &[u8; 252] =
     b"1 seats 2 | 0 0 0 free -\n2 1 begins | 0 0 0 free -\n3 1 ends Held Free | 1 1 0 owner.1 -\n4 2 begins | 1 1 0 owner.1 -\n5 2 goes on | 2 1 0 owner.1 -\n6 1 begins | 2 1 0 owner.1 -\n7 1 ends Posted | 1 0 1.1 posted -\n8 2 ends Held Queued 1 | 1 2 0 owner.2 -\n";
 
-/// What a replay ends with.
+/// The result of a replay.
 fn outcome<R: Read, W: Write>(
     alloc: Global,
     reader: &mut R,
@@ -31,7 +31,7 @@ fn sees_bytes<A: Abort>(rt: &A, written: &[u8], wanted: &[u8]) {
     assert_eq!(rt; written, wanted);
 }
 
-/// Checks that a replay of what this reader gives ends with this outcome, and that it writes these bytes.
+/// Checks that a replay from this reader ends with this result and writes these bytes.
 fn replays_as<A: Abort, R: Read>(
     rt: &A,
     alloc: Global,
@@ -82,7 +82,8 @@ fn fails_at_each_read(rt: HostRuntime) {
     }
 }
 
-/// Checks that a replay fails by a writer that fails in this way once it has `room` bytes, which are the first of the trace.
+/// Checks that a replay fails if its writer fails in this way after `room` bytes, and that these are the first bytes of the
+/// trace.
 fn fails_after<A: Abort>(rt: &A, alloc: Global, failure: Failure, room: usize, trace: &[u8]) {
     let mut reader = INPUT.as_slice();
     let mut writer = FailingWriter {
@@ -115,7 +116,8 @@ fn fails_flushed<A: Abort>(rt: &A, alloc: Global, input: &[u8], output: &[u8]) {
     sees_bytes(rt, writer.bytes.as_slice(), output);
 }
 
-/// No contract can say that a writer was flushed: one that holds its bytes back has them either way.
+/// No contract can state that a writer was flushed: a writer that buffers its bytes has the same contents either way. So it is
+/// tested.
 #[test]
 fn fails_at_the_flush(rt: HostRuntime) {
     fails_flushed(&rt, rt.alloc(), INPUT, OUTPUT);
@@ -136,7 +138,7 @@ fn ends_an_endless_input(rt: HostRuntime) {
     }
 }
 
-/// Checks that a replay makes this number of reads of these bytes, which go past a limit, and that a byte less is within it.
+/// Checks that a replay makes this number of reads of these bytes, which are past a limit, and that one byte less is within it.
 fn ends_past_a_limit<A: Abort>(rt: &A, alloc: Global, line_feeds: u64, reads: u64)
     requires { 0 < reads }
 {
@@ -150,7 +152,7 @@ fn ends_past_a_limit<A: Abort>(rt: &A, alloc: Global, line_feeds: u64, reads: u6
         &Err(ReplayFault::Limit),
     );
     sees(rt, "the reads that were not made", &reader.reads, &0);
-    // one byte less is within the limits, so the next read is made, and it fails
+    // one byte less is within the limits, so the next read is made and fails
     let mut reader = SingleBytes {
         line_feeds,
         reads: reads - 1,
@@ -159,10 +161,10 @@ fn ends_past_a_limit<A: Abort>(rt: &A, alloc: Global, line_feeds: u64, reads: u6
     sees(rt, "the outcome within it", &ended, &Err(ReplayFault::Read));
 }
 
-/// The reader fails at the read after the first byte that is past a limit, so no such read may be made.
+/// The reader fails at the read after the first byte past a limit, so the replay must not make that read.
 #[test]
 fn reads_no_byte_after_the_first_past_a_limit(rt: HostRuntime) {
-    // 65,536 lines and one line feed more, the same and a byte of a line more, and a byte too many
+    // 65,536 lines and one more line feed, the same with a byte of one more line, and one byte too many
     ends_past_a_limit(&rt, rt.alloc(), 65_537, 65_537);
     ends_past_a_limit(&rt, rt.alloc(), 65_536, 65_537);
     ends_past_a_limit(&rt, rt.alloc(), 0, 1_048_577);

@@ -11,7 +11,7 @@ fn again(depth: u32) -> Turn {
     Turn::Ended(Answer::Asked(Asked::Again(depth)))
 }
 
-/// Checks what a state is after one seat gained it by two turns.
+/// Checks the state after one seat acquired the mutex by two turns.
 fn sees_a_hold<R: Abort>(rt: &R, state: &State, turns: &[Turn]) {
     let held = Turn::Ended(Answer::Asked(Asked::Held(How::Free)));
     sees(rt, "two turns", &turns.len(), &2);
@@ -81,7 +81,7 @@ fn limits(rt: HostRuntime) {
     );
 }
 
-/// Checks what a state of three seats is after seat 1 served seat 2 and queued behind seat 3.
+/// Checks a state of three seats after seat 1 served seat 2 and queued behind seat 3.
 fn sees_a_queue<R: Abort>(rt: &R, state: &State, turns: &[Turn]) {
     let granted = Turn::Ended(Answer::Unlocked(Unlocked::Granted(SeatNo::known(2))));
     sees(
@@ -125,13 +125,13 @@ fn a_queue(rt: HostRuntime) -> Result<(), Fail> {
     Ok(())
 }
 
-/// Checks that a lock by seat 1 begins, and ends with this turn.
+/// Checks that a lock by seat 1 starts, and ends with this turn.
 fn locks<R: Abort>(rt: &R, state: &mut State, ended: Turn) {
     sees(rt, "lock begins", &state.begin(1, Call::Lock), &Turn::Open);
     sees(rt, "lock ends", &state.steps(1, 9), &ended);
 }
 
-/// Checks that no seat deepens a hold that is as deep as it may be.
+/// Checks that no seat deepens a hold of the greatest depth.
 fn sees_full<R: Abort>(rt: &R, state: &mut State) {
     let full = Turn::Refused(Why::By(Refusal::DepthFull));
     sees(rt, "lock", &state.begin(1, Call::Lock), &full);

@@ -1,12 +1,12 @@
-//! The bare atomic steps of the mutex's calls, over a table whose rule says nothing: what the steps alone cost, with no
-//! mutex and no promise.
+//! The bare atomic steps of the mutex's calls, on a table whose rule allows everything: what the steps alone cost, without a
+//! mutex and without guarantees.
 ghost use Rattle.std.specs.Prelude.{◌≡◌, ◌≤◌, ◌<◌, IfOk};
 
 use atomic_table::{Play, Seat, Shared, Table, TableRule};
 use std::alloc::{AllocError, Global};
 use std::hint::spin_loop;
 
-/// The rule that says nothing.
+/// The rule that allows everything.
 pub struct Anything;
 
 impl<S> TableRule<S, (), ()> for Anything {
@@ -22,15 +22,15 @@ impl<S> Play<S, ()> for Anything {
 /// Who holds a mutex when the calls of a workload start.
 #[derive(Clone, Copy)]
 pub enum Start {
-    /// Nobody.
+    /// No seat.
     Free,
-    /// The one who makes the calls.
+    /// The seat that makes the calls.
     Held,
-    /// Another.
+    /// Another seat.
     HeldByOther,
 }
 
-/// The words of no mutex.
+/// A table of words that is not a mutex.
 pub type BareTable = Table<u8, (), (), Anything, Global>;
 
 /// A seat of such a table.
@@ -50,7 +50,7 @@ const LINK: usize = 5;
 /// Its wake word.
 const WAKE: usize = 7;
 
-/// The wake word of a seat that was granted the mutex when nobody was queued: the least grant.
+/// The wake word of a seat that was granted the mutex when no seat was queued: the least grant.
 const GRANT: u64 = 3;
 
 /// The bits of a word that hold a seat.
@@ -62,7 +62,7 @@ const SELF: u64 = 1;
 /// The number of another seat.
 const OTHER: u64 = 2;
 
-/// How many pauses a seat that waits makes before it looks at its wake word.
+/// How many pauses a waiting seat makes before each load of its wake word.
 const PAUSES_OF_LOOK: u32 = 4;
 
 /// As many words as a mutex of two seats has.
@@ -91,7 +91,7 @@ impl<'a> Steps<'a> {
         Steps { table, seat }
     }
 
-    /// A lock and an unlock that meet nobody: add, store, store, subtract. Returns whether the count was as they leave it.
+    /// A lock and an unlock without contention: add, store, store, subtract. Returns whether the count was as expected.
     #[inline(always)]
     pub fn pair(&mut self) -> bool {
         if self.add(COUNT) != 0 {
@@ -102,8 +102,8 @@ impl<'a> Steps<'a> {
         self.subtract(COUNT) == 1
     }
 
-    /// A try_lock that gains the mutex, and its unlock: compare-exchange, store, store, subtract. Returns whether the count
-    /// was as they leave it.
+    /// A try_lock that acquires the mutex, and its unlock: compare-exchange, store, store, subtract. Returns whether the count
+    /// was as expected.
     #[inline(always)]
     pub fn hit(&mut self) -> bool {
         if self.exchange(COUNT, 0, 1) != 0 {
@@ -125,8 +125,8 @@ impl<'a> Steps<'a> {
         owner == SELF
     }
 
-    /// A try_lock while another seat holds: a compare-exchange that fails, and two loads. Returns whether another seat was
-    /// the owner and no handoff was posted.
+    /// A try_lock while another seat holds: a compare-exchange that fails, and two loads. Returns whether another seat was the
+    /// owner and no hand-off was posted.
     #[inline(always)]
     pub fn miss(&mut self) -> bool {
         if self.exchange(COUNT, 0, 1) == 0 {
@@ -139,14 +139,14 @@ impl<'a> Steps<'a> {
 
     /// The lock of a seat that queues while another holds, the unlock that grants it the mutex and wakes it, and its receive:
     /// add, load, load, store, compare-exchange, load; store, subtract, and, load, store, wake-up call; load, store, store.
-    /// Returns whether the words were as these steps leave them.
+    /// Returns whether the words were as expected.
     #[inline(always)]
     pub fn handoff(&mut self) -> bool {
         self.queue() && self.serve() && self.receive()
     }
 
-    /// A look of a seat that waits for a grant: some pauses, and a load, which is no step of the seat. Returns whether the word
-    /// was no grant.
+    /// A look of a seat that waits for a grant: some pauses and a load of the wake word. The load does not count as a step of
+    /// the seat. Returns whether the word was no grant.
     #[inline(always)]
     pub fn look(&self) -> bool {
         for _ in 0..PAUSES_OF_LOOK {
@@ -191,7 +191,7 @@ impl<'a> Steps<'a> {
         wake == GRANT
     }
 
-    /// Sets the words as they are when calls start so.
+    /// Sets the words as they are at this start of the calls.
     pub fn begin(&mut self, start: Start) {
         let (count, owner) = match start {
             Start::Free => (0, 0),
@@ -218,7 +218,7 @@ impl<'a> Steps<'a> {
         self.table.store::<Anything>(&mut self.seat, word, value);
     }
 
-    /// Adds 1. Returns what was there before.
+    /// Adds 1. Returns the value that was there before.
     #[inline(always)]
     fn add(&mut self, word: usize) -> u64
         requires { word < 8 }
@@ -226,7 +226,7 @@ impl<'a> Steps<'a> {
         self.table.fetch_add::<Anything>(&mut self.seat, word, 1)
     }
 
-    /// Subtracts 1. Returns what was there before.
+    /// Subtracts 1. Returns the value that was there before.
     #[inline(always)]
     fn subtract(&mut self, word: usize) -> u64
         requires { word < 8 }
@@ -234,7 +234,7 @@ impl<'a> Steps<'a> {
         self.table.fetch_sub::<Anything>(&mut self.seat, word, 1)
     }
 
-    /// Compare-and-exchange of `old`, which is to be there, for `new`. Returns what was there before.
+    /// Compare-and-exchange of `old`, the expected value, with `new`. Returns the value that was there before.
     #[inline(always)]
     fn exchange(&mut self, word: usize, old: u64, new: u64) -> u64
         requires { word < 8 }

@@ -1,10 +1,10 @@
-//! Work that takes time and does nothing else.
+//! Work that only takes time.
 
 use crate::measure::figures::{Series, Stopwatch, per};
 use std::io;
 use std::time::CpuClock;
 
-/// How many steps are timed to tell how long one takes.
+/// How many steps are timed to compute how long one takes.
 const TIMED_STEPS: u64 = 20_000;
 
 /// How often they are timed.
@@ -34,8 +34,8 @@ impl Busy {
         self.state = state;
     }
 
-    /// Whether the number is not 0. Steps never make it 0, and since this is asked at the end, the compiler can leave none
-    /// of them out.
+    /// Whether the number is not 0. Steps never make it 0. Since this is called at the end, the compiler cannot remove the
+    /// steps.
     pub fn is_sound(&self) -> bool {
         self.state != 0
     }
@@ -48,7 +48,8 @@ pub struct StepTime {
 }
 
 impl StepTime {
-    /// Times some steps a few times, and takes the median. The clock of a thread's processor time may err now and then.
+    /// Times some steps several times, and takes the median, since the clock of a thread's processor time may sometimes be
+    /// wrong.
     pub fn measure<R: CpuClock + AllocGlobal>(rt: &R) -> io::Result<StepTime> {
         let mut busy = Busy::new();
         let mut costs = Series::new(rt.alloc());
@@ -62,7 +63,7 @@ impl StepTime {
         })
     }
 
-    /// How many steps take about this time.
+    /// The number of steps that take about this time.
     pub fn steps(&self, nanoseconds: u64) -> u64 {
         per(nanoseconds.saturating_mul(1_000), self.picoseconds)
     }

@@ -1,4 +1,4 @@
-//! Time by the wall clock, for threads that sleep, and the processor time that they use.
+//! The time of the wall clock, for threads that sleep, and the processor time that threads use.
 
 use std::time::{Clock, CpuClock, Instant};
 

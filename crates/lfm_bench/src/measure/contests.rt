@@ -1,4 +1,4 @@
-//! What came of a round in which several threads took turns at one mutex.
+//! The sample of a round in which several threads took turns at one mutex.
 ghost use Rattle.std.specs.Prelude.{◌≡◌, Some, true};
 
 use crate::measure::figures::{Contest, Sample, hundredths};
@@ -9,7 +9,7 @@ use crate::measure::waits::Waits;
 pub struct Turns {
     /// How often it acquired the mutex.
     pub acquisitions: u64,
-    /// For how many nanoseconds it took turns.
+    /// How long it took turns, in nanoseconds.
     pub nanoseconds: u64,
     /// How much processor time it used for that, in nanoseconds.
     pub processor_nanoseconds: u64,
@@ -19,8 +19,9 @@ pub struct Turns {
     pub waits: Waits,
 }
 
-/// What these threads did in a round. The value was 0 before it, and is this after it. A call is an acquisition by any of them.
-/// It is exact if the value is the number of acquisitions. `waits` are none, to which those of all threads are added.
+/// The sample of what these threads did in a round. `value` is the value after the round; it was 0 before. A call is an
+/// acquisition by any of the threads. The sample is exact if the value is the number of acquisitions. `waits` has no waits yet;
+/// those of all threads are added to it.
 pub fn contest(turns: &[Turns], mut waits: Waits, value: Option<u64>) -> Sample
     ensures { result.exact ≡ true → value ≡ Some result.calls }
 {

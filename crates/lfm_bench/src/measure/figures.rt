@@ -1,4 +1,4 @@
-//! What is measured: samples, and the medians of their figures with how far these spread.
+//! Samples, and the medians of their figures with their spread.
 ghost use Rattle.std.specs.Prelude.{◌≡◌, ◌*◌, ◌-◌, ◌/◌, ◌<◌, ◌^◌, ◌++◌, ◌∷◌, ◌&&◌, ◌==◌, [], length, vec_len, true};
 ghost use Rattle.std.specs.Prelude.{IfSome, IfNone, IfOk, OnOk};
 ghost use Rattle.lfm_bench.specs.Quartiles.{AreQuartiles, StandIn};
@@ -10,17 +10,17 @@ use std::time::{CpuClock, Duration};
 /// One round of a measurement.
 #[derive(Clone, Copy)]
 pub struct Sample {
-    /// How much time the calls took together.
+    /// How much time all calls took together, in nanoseconds.
     pub nanoseconds: u64,
     /// How many calls there were.
     pub calls: u64,
     /// Whether each call did what it was to do.
     pub exact: bool,
-    /// What it tells of threads that contend, and nothing of others.
+    /// The figures of threads that contend. `NONE` if no threads contended.
     pub contest: Contest,
 }
 
-/// What a sample tells of threads that contend.
+/// The figures of threads that contend.
 #[derive(Clone, Copy)]
 pub struct Contest {
     /// The most calls of a thread, in hundredths of the fewest, or of 1 if those are 0.
@@ -40,7 +40,7 @@ pub struct WaitTimes {
 }
 
 impl Contest {
-    /// Nobody contended.
+    /// No threads contended.
     pub const NONE: Contest = Contest {
         fairness: 100,
         processor_nanoseconds: 0,
@@ -52,7 +52,7 @@ impl Contest {
 }
 
 impl Sample {
-    /// A sample, of no contest, of this number of calls that took this time together.
+    /// A sample without a contest, of this number of calls that took this time together.
     pub fn of_calls(nanoseconds: u64, calls: u64, exact: bool) -> Sample
         ensures calls { result.calls ≡ calls }
         ensures exact { result.exact ≡ exact }
@@ -65,7 +65,7 @@ impl Sample {
         }
     }
 
-    /// The same sample, exact only if this holds as well.
+    /// The same sample. It is exact only if `holds` is true as well.
     pub fn provided(self, holds: bool) -> Sample
         ensures { result ≡ record self { exact = self.exact && holds } }
     {
@@ -81,7 +81,7 @@ impl Sample {
     }
 }
 
-/// Measures how much processor time this thread uses, so that the time in which other programs run is not counted.
+/// Measures how much processor time this thread uses. The time in which other programs run is not counted.
 #[derive(Clone, Copy)]
 pub struct Stopwatch {
     start: Duration,
@@ -105,7 +105,7 @@ impl Stopwatch {
     }
 }
 
-/// How much of a total each part has, rounded down. 0 if there are no parts.
+/// The total divided by the number of parts, rounded down. 0 if there are no parts.
 pub fn per(total: u64, parts: u64) -> u64
     ensures share { 0 < parts → result ≡ total / parts }
     ensures none { parts ≡ 0 → result ≡ 0 }
@@ -113,7 +113,7 @@ pub fn per(total: u64, parts: u64) -> u64
     if parts == 0 { 0 } else { total / parts }
 }
 
-/// How many picoseconds of these nanoseconds each call has.
+/// These nanoseconds divided by the number of calls, in picoseconds.
 fn picoseconds_per(nanoseconds: u64, calls: u64) -> u64 {
     per(nanoseconds.saturating_mul(1_000), calls)
 }
@@ -129,7 +129,7 @@ pub fn hundredths(amount: u64, base: u64) -> u64
 /// The quartiles of a sorted series: half of all figures lie between the lower and the upper one.
 #[derive(Clone, Copy)]
 pub struct Quartiles {
-    /// As many figures stand before this one as stand after the upper one: a quarter of all, rounded down.
+    /// As many figures are before this one as are after the upper one: a quarter of all, rounded down.
     pub lower: u64,
     /// The figure in the middle, the upper of two if their number is even.
     pub median: u64,
@@ -137,7 +137,7 @@ pub struct Quartiles {
 }
 
 impl Quartiles {
-    /// How far apart the lower and the upper one are, in hundredths of the median, rounded down. 0 if the median is 0.
+    /// The distance of the lower and the upper quartile, in hundredths of the median, rounded down. 0 if the median is 0.
     pub fn spread(self) -> u64
         ensures share { 0 < self.median → (self.upper - self.lower) * 100 < 2 ^ 64 → result ≡ (self.upper - self.lower) * 100 / self.median }
         ensures none { self.median ≡ 0 → result ≡ 0 }
@@ -153,7 +153,7 @@ pub struct Series {
 }
 
 impl Series {
-    /// A series without a figure.
+    /// A series without figures.
     pub fn new(alloc: Global) -> Series
         ensures { result.values.items ≡ [] }
     {
@@ -170,7 +170,7 @@ impl Series {
         Ok(())
     }
 
-    /// The quartiles of all figures. None if there is none.
+    /// The quartiles of all figures. None if there are no figures.
     pub fn quartiles(&mut self) -> Option<Quartiles>
         ensures places { IfSome result (λ q. AreQuartiles q self.old.values.items) }
         ensures none { IfNone result (vec_len self.old.values ≡ 0) }
@@ -180,7 +180,7 @@ impl Series {
         Some(quartiles)
     }
 
-    /// The median of all figures. 0 if there is none.
+    /// The median of all figures. 0 if there are no figures.
     pub fn median(&mut self) -> u64 {
         match self.quartiles() {
             Some(quartiles) => quartiles.median,
@@ -189,7 +189,7 @@ impl Series {
     }
 }
 
-/// The quartiles of figures that are in order. None if there is none.
+/// The quartiles of figures in ascending order. None if there are no figures.
 fn quartiles_in_order(figures: &[u64]) -> Option<Quartiles>
     ensures places { IfSome result (λ q. StandIn q figures.now) }
     ensures none { IfNone result (length figures.now ≡ 0) }
@@ -209,19 +209,19 @@ fn quartiles_in_order(figures: &[u64]) -> Option<Quartiles>
 /// What is measured in a round.
 #[derive(Clone, Copy)]
 pub enum Measure {
-    /// What a call took on average, in picoseconds.
+    /// The time that a call took on average, in picoseconds.
     Cost,
     /// The most calls of a thread, in hundredths of the fewest.
     Fairness,
-    /// What processor time a call used on average, in picoseconds.
+    /// The processor time that a call used on average, in picoseconds.
     ProcessorTime,
-    /// What 999 of 1,000 waits took at most, in nanoseconds.
+    /// How long 999 of 1,000 waits took at most, in nanoseconds.
     LongWait,
-    /// What the longest wait took, in nanoseconds.
+    /// How long the longest wait took, in nanoseconds.
     LongestWait,
 }
 
-/// The figures of a peer that is measured by a workload.
+/// The figures of a peer for a workload.
 #[derive(Drop)]
 pub struct Figures {
     costs: Series,

@@ -1,20 +1,20 @@
-//! What starts threads together, and stops them.
+//! A gate that starts threads together and stops them.
 
 use std::sync::atomic::{AtomicBool, AtomicU64, Ordering};
 use std::thread;
 use std::thread::yield_now;
 use std::time::{Clock, Duration};
 
-/// How often a thread looks whether the others are there, before it goes on without them.
+/// How often a thread checks whether the others have arrived, before it goes on without them.
 const LOOKS: u64 = 100_000;
 
-/// How often the thread that shuts the gate looks whether all have passed, before it goes on without them.
+/// How often the thread that shuts the gate checks whether all have passed, before it goes on without them.
 const GLANCES: u64 = 1_000;
 
-/// How long it sleeps between two of its looks, in microseconds.
+/// How long it sleeps between two of these checks, in microseconds.
 const GLANCE: u64 = 50;
 
-/// A gate that a number of threads pass together, and that is shut once. Nobody waits at it forever.
+/// A gate that a number of threads pass together, and that is shut once. No thread waits at it forever.
 #[derive(Drop)]
 pub struct Gate {
     expected: u64,
@@ -32,7 +32,7 @@ impl Gate {
         }
     }
 
-    /// Looks until all threads are here, but no more often than `LOOKS` times.
+    /// Waits until all threads have arrived, but checks this at most `LOOKS` times.
     pub fn pass(&self) {
         self.ready.fetch_add(1, Ordering::SeqCst);
         for _ in 0..LOOKS {

@@ -12,7 +12,7 @@ pub struct Line {
 }
 
 impl Line {
-    /// A line with this name and no cell.
+    /// A line with this name and no cells.
     pub fn new(alloc: Global, name: &str) -> Result<Line, AllocError> {
         let text = format!(in alloc; "{name:<32}")?;
         Ok(Line { alloc, text })
@@ -24,8 +24,8 @@ impl Line {
         self.text.push_str(&cell)
     }
 
-    /// Adds the median of a measure: hundredths as a number with two decimals; a time in nanoseconds, or of a wait in
-    /// microseconds, with one decimal, rounded down. None if nobody was measured.
+    /// Adds the median of a measure. Hundredths are printed with two decimals. Times are printed with one decimal, rounded
+    /// down: those of waits in microseconds, others in nanoseconds. `quartiles` is None if the peer was not measured.
     pub fn add_median(
         &mut self,
         measure: Measure,
@@ -37,13 +37,13 @@ impl Line {
         if matches!(measure, Measure::Fairness) {
             return self.add_hundredths(quartiles.median);
         }
-        // a thousand of what the series has, picoseconds or nanoseconds of a wait, are one of what is shown
+        // the series has picoseconds, or nanoseconds for waits; a thousand of them are one unit of what is shown
         let (whole, tenths) = (quartiles.median / 1_000, quartiles.median % 1_000 / 100);
         let text = format!(in self.alloc; "{whole}.{tenths}")?;
         self.add(&text)
     }
 
-    /// Adds how far figures spread, in percent. None if nobody was measured.
+    /// Adds the spread of figures, in percent. `quartiles` is None if the peer was not measured.
     pub fn add_spread(&mut self, quartiles: Option<Quartiles>) -> Result<(), AllocError> {
         let Some(quartiles) = quartiles else {
             return self.add("-");
@@ -52,7 +52,7 @@ impl Line {
         self.add(&percent)
     }
 
-    /// Adds hundredths, as a number with two decimals.
+    /// Adds hundredths as a number with two decimals.
     pub fn add_hundredths(&mut self, hundredths: u64) -> Result<(), AllocError> {
         let text = format!(in self.alloc; "{}.{:02}", hundredths / 100, hundredths % 100)?;
         self.add(&text)

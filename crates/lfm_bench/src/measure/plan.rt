@@ -1,4 +1,4 @@
-//! How much is measured, as the arguments of the program say.
+//! How much is measured, by the arguments of the program.
 use std::rt::Env;
 use std::{env, io};
 
@@ -7,7 +7,7 @@ use std::{env, io};
 pub enum Mode {
     /// The medians of the times.
     Times,
-    /// The names of the rows and whether each call did what it was to do: the same text in each run.
+    /// The names of the rows, and whether each call did what it should. This text is the same in each run.
     Check,
 }
 
@@ -16,7 +16,7 @@ pub enum Mode {
 pub struct Plan {
     /// What is printed.
     pub mode: Mode,
-    /// How many rounds there are. Each measures everything once.
+    /// The number of rounds. Each round measures everything once.
     pub rounds: u64,
     /// How many calls one thread makes in a round of one measurement.
     pub calls: u64,
@@ -25,7 +25,7 @@ pub struct Plan {
 }
 
 impl Plan {
-    /// What is measured if no argument says otherwise: about 25 seconds.
+    /// The plan if there are no arguments. It takes about 25 seconds.
     const USUAL: Plan = Plan {
         mode: Mode::Times,
         rounds: 15,
@@ -33,7 +33,7 @@ impl Plan {
         milliseconds: 50,
     };
 
-    /// As little as shows that each measurement runs.
+    /// The least that shows that each measurement runs.
     const LEAST: Plan = Plan {
         mode: Mode::Check,
         rounds: 3,
@@ -41,8 +41,8 @@ impl Plan {
         milliseconds: 1,
     };
 
-    /// The plan of the program's arguments: `check` alone, or up to three numbers, which are the rounds, the calls and the
-    /// milliseconds. Words beyond these, and words that are no numbers, change nothing.
+    /// The plan of the program's arguments: only `check`, or up to three numbers, which are the rounds, the calls and the
+    /// milliseconds. Further words, and words that are not numbers, are ignored.
     pub fn from_arguments<R: Env + Alloc>(rt: &R) -> io::Result<Plan> {
         let mut plan = Plan::USUAL;
         for (place, word) in env::args(rt)?.enumerate() {

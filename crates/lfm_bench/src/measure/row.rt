@@ -1,5 +1,4 @@
-//! A row of a table: a workload with the figures of the peers that are measured by it, and the columns in which they are
-//! printed.
+//! A row of a table: a workload with the figures of its peers, and the columns in which they are printed.
 
 use crate::measure::figures::{Figures, Measure, Quartiles, Sample, hundredths};
 use crate::measure::line::Line;
@@ -35,14 +34,14 @@ impl Peer {
     }
 }
 
-/// What is shown of each row.
+/// A column of a table.
 #[derive(Clone, Copy)]
 pub enum Column {
     /// The median of this peer.
     Median(Peer),
-    /// How far its rounds spread.
+    /// The spread of the rounds of this peer.
     Spread(Peer),
-    /// How many times the median of the second peer that of the first is.
+    /// The median of the first peer divided by that of the second.
     Ratio(Peer, Peer),
 }
 
@@ -57,7 +56,7 @@ impl Column {
     }
 }
 
-/// What one round of a workload gave. A peer without such a call has no sample.
+/// The samples of one round of a workload. A peer without such a call has no sample.
 #[derive(Clone, Copy)]
 pub struct Round {
     pub ours: Option<Sample>,
@@ -68,7 +67,7 @@ pub struct Round {
 }
 
 impl Round {
-    /// Nobody has such a call.
+    /// No peer has a sample.
     pub const NONE: Round = Round {
         ours: None,
         in_order: None,
@@ -78,7 +77,7 @@ impl Round {
     };
 }
 
-/// A workload, and the figures of the peers that are measured by it. A peer without such a call has figures of no round.
+/// A workload, and the figures of its peers. A peer without such a call has no figures.
 #[derive(Drop)]
 pub struct Row {
     name: String,
@@ -92,7 +91,7 @@ pub struct Row {
 }
 
 impl Row {
-    /// A row without a figure.
+    /// A row without figures.
     pub fn new(alloc: Global, name: String, workload: Workload) -> Row {
         Row {
             name,
@@ -105,7 +104,7 @@ impl Row {
         }
     }
 
-    /// Adds what a round gave.
+    /// Adds the samples of a round.
     pub fn add(&mut self, round: Round) -> Result<(), AllocError> {
         self.ours.add_if_any(round.ours)?;
         self.in_order.add_if_any(round.in_order)?;
@@ -114,7 +113,7 @@ impl Row {
         self.standard.add_if_any(round.standard)
     }
 
-    /// Prints the name, and whether each call did what it was to do.
+    /// Prints the name, and whether each call did what it should.
     pub fn print_check<R: Print>(&self, rt: &R) -> io::Result<()> {
         let exact = self.ours.is_exact()
             && self.in_order.is_exact()

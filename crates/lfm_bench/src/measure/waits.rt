@@ -1,4 +1,4 @@
-//! How long the waits of a thread were: how many took about as long, by eighths of the powers of two.
+//! The lengths of waits: how many waits fall into each class of lengths. Each power of two has eight classes.
 
 use crate::measure::clocks::{now, since};
 use crate::measure::figures::WaitTimes;
@@ -11,7 +11,7 @@ const PARTS: u64 = 8;
 /// How many classes there are: one for each time below 8 nanoseconds, and 8 for each of 61 powers of two.
 const CLASSES: usize = 496;
 
-/// The time of most waits leaves out the longest ones, one in this many.
+/// The time of most waits leaves out the longest one of this many waits.
 const MANY: u64 = 1_000;
 
 /// Whether the waits of a workload are timed.
@@ -21,16 +21,16 @@ pub enum Watching {
     Waits,
 }
 
-/// The waits of some threads that have ended. Of a workload whose waits are not timed there are none.
+/// The waits of some threads that have ended. There are none if the waits of the workload are not timed.
 #[derive(Drop)]
 pub struct Waits {
-    /// How many there were of each class. Empty if they are not timed.
+    /// How many waits there were of each class. Empty if they are not timed.
     counts: Vec<u64>,
     longest: u64,
 }
 
 impl Waits {
-    /// No waits. It takes memory if they are timed.
+    /// No waits. It allocates memory if they are timed.
     pub fn new(alloc: Global, watching: Watching) -> Result<Waits, AllocError> {
         let counts = match watching {
             Watching::Nothing => Vec::new(alloc),
@@ -39,7 +39,7 @@ impl Waits {
         Ok(Waits { counts, longest: 0 })
     }
 
-    /// When a wait begins. None if it is not timed.
+    /// The time at which a wait starts. None if it is not timed.
     #[inline(always)]
     pub fn begin<R: Clock>(&self, rt: &R) -> Option<Instant> {
         if self.counts.is_empty() {
@@ -49,7 +49,7 @@ impl Waits {
         }
     }
 
-    /// Counts a wait that began then and is over.
+    /// Counts a wait that started at this time and ends now.
     #[inline(always)]
     pub fn end<R: Clock>(&mut self, rt: &R, begin: Option<Instant>) {
         if begin.is_some() {
@@ -73,7 +73,7 @@ impl Waits {
         }
     }
 
-    /// What 999 of 1,000 took at most, to an eighth, and what the longest took.
+    /// How long 999 of 1,000 waits took at most, to an eighth, and how long the longest took.
     pub fn times(&self) -> WaitTimes {
         let mut all = 0u64;
         for count in &self.counts {
@@ -95,8 +95,7 @@ impl Waits {
     }
 }
 
-/// The class of a wait of this number of nanoseconds: its first four bits, after 8 classes for each of the bits that follow
-/// them.
+/// The class of a wait of this number of nanoseconds: the value of its first four bits, plus 8 for each bit after them.
 fn class_of(nanoseconds: u64) -> usize {
     let following = 60u32.saturating_sub(nanoseconds.leading_zeros());
     let first = nanoseconds.wrapping_shr(following);

@@ -1,4 +1,4 @@
-//! What a mutex guards whose threads wait on condvars: a number that they count up, and a bounded queue of numbers.
+//! The value of a mutex whose threads wait on condvars: a number that they count up, and a bounded queue of numbers.
 
 use lfm_mutex::Kept;
 
@@ -9,14 +9,14 @@ const ROOM: u64 = 16;
 #[derive(Drop)]
 pub struct Queue {
     slots: [u64; 16],
-    /// How many numbers were put in so far. The next one goes to the slot with this number, less all multiples of the room.
+    /// How many numbers were put in so far. The next one goes to the slot with this number modulo the room.
     put: u64,
     /// How many were taken out.
     taken: u64,
 }
 
 impl Queue {
-    /// A queue with nothing in it.
+    /// An empty queue.
     pub fn new() -> Queue {
         Queue {
             slots: [0; 16],
@@ -25,7 +25,7 @@ impl Queue {
         }
     }
 
-    /// Puts this number in. Returns it, or None if there is no room.
+    /// Puts this number in. Returns the number, or None if there is no room.
     #[inline(always)]
     pub fn put(&mut self, number: u64) -> Option<u64> {
         if self.put.wrapping_sub(self.taken) >= ROOM {
@@ -36,7 +36,7 @@ impl Queue {
         Some(number)
     }
 
-    /// Takes the number out that was put in first of those that are there. None if nothing is there.
+    /// Takes the oldest number out. None if the queue is empty.
     #[inline(always)]
     pub fn take(&mut self) -> Option<u64> {
         if self.put == self.taken {
@@ -55,28 +55,28 @@ pub struct Guarded {
     queue: Queue,
 }
 
-/// A thread may leave anything in it.
+/// A thread may leave any value.
 impl Kept for Guarded {
     ghost fits = { λ _ _. Unit {0} };
 
     ghost follows = { λ _ _ _. Unit {0} };
 }
 
-/// What a thread does that holds the mutex.
+/// What a thread does while it holds the mutex.
 #[derive(Clone, Copy)]
 pub enum Operation {
-    /// Reads the number, once it is at least this.
+    /// Reads the number as soon as it is at least this.
     ReadFrom(u64),
-    /// Adds 1 to the number, once it is at least this, and reads it then.
+    /// Adds 1 to the number as soon as it is at least this, and reads the sum.
     AddOneTo(u64),
-    /// Puts this number into the queue, once there is room.
+    /// Puts this number into the queue as soon as there is room.
     Put(u64),
-    /// Takes a number out of the queue, once there is one.
+    /// Takes a number out of the queue as soon as there is one.
     Take,
 }
 
 impl Guarded {
-    /// The number is 0, and the queue has nothing in it.
+    /// The number 0 and an empty queue.
     pub fn new() -> Guarded {
         Guarded {
             number: 0,

@@ -13,10 +13,10 @@ use std::sync::Wait;
 use std::thread::Threads;
 use std::time::Clock;
 
-/// How many takes each seat may make: more than any run asks for.
+/// The budget of each seat: more takes than any run needs.
 pub const BUDGET: u64 = 1 << 36;
 
-/// A mutex round this value with this number of seats, of the pace of this machine. It takes memory.
+/// A mutex that guards this value, with this number of seats and the pace of this machine. It allocates memory.
 pub fn new_mutex<R: Threads + Clock + AllocGlobal, T: Kept>(
     rt: &R,
     seats: u64,
@@ -59,21 +59,21 @@ impl<'a> User<'a> {
         User { mutex, seat }
     }
 
-    /// `lock`. Returns whether the mutex was gained, and not held before.
+    /// `lock`. Returns whether the seat acquired the mutex and did not hold it before.
     #[inline(always)]
     pub fn lock<R: Wait>(&mut self, rt: &R) -> bool {
         let locked = self.mutex.lock(rt, &mut self.seat);
         matches!(locked, Ok(Locked::Held(_)))
     }
 
-    /// `lock_barging`. Returns whether the mutex was gained, and not held before.
+    /// `lock_barging`. Returns whether the seat acquired the mutex and did not hold it before.
     #[inline(always)]
     pub fn lock_barging<R: Wait>(&mut self, rt: &R) -> bool {
         let locked = self.mutex.lock_barging(rt, &mut self.seat);
         matches!(locked, Ok(Locked::Held(_)))
     }
 
-    /// Locks in this way. Returns whether the mutex was gained, and not held before.
+    /// Locks in this way. Returns whether the seat acquired the mutex and did not hold it before.
     #[inline(always)]
     pub fn lock_by<R: Wait>(&mut self, rt: &R, locking: Locking) -> bool {
         match locking {
@@ -91,42 +91,42 @@ impl<'a> User<'a> {
         added.is_ok()
     }
 
-    /// `lock` of a seat that is to hold already. Returns whether its hold was deepened.
+    /// `lock` of a seat that should hold already. Returns whether its hold was deepened.
     #[inline(always)]
     pub fn lock_again<R: Wait>(&mut self, rt: &R) -> bool {
         let locked = self.mutex.lock(rt, &mut self.seat);
         matches!(locked, Ok(Locked::Again(_)))
     }
 
-    /// `try_lock`. Returns whether the mutex was gained, and not held before.
+    /// `try_lock`. Returns whether the seat acquired the mutex and did not hold it before.
     #[inline(always)]
     pub fn try_lock(&mut self) -> bool {
         let locked = self.mutex.try_lock(&mut self.seat);
         matches!(locked, Ok(Locked::Held(_)))
     }
 
-    /// `try_lock` while another seat is to hold. Returns whether it was refused for that.
+    /// `try_lock` while another seat should hold. Returns whether it was refused for that reason.
     #[inline(always)]
     pub fn miss(&mut self) -> bool {
         let locked = self.mutex.try_lock(&mut self.seat);
         matches!(locked, Err(Refusal::Busy))
     }
 
-    /// `ask` while another seat is to hold. Returns whether the seat was queued, and sleeps.
+    /// `ask` while another seat should hold. Returns whether the seat was queued and sleeps.
     #[inline(always)]
     pub fn queue(&mut self) -> bool {
         let asked = self.mutex.ask(&mut self.seat);
         matches!(asked, Ok(Asked::Asleep))
     }
 
-    /// `try_receive` of a seat that sleeps. Returns whether it came to hold.
+    /// `try_receive` of a seat that sleeps. Returns whether it acquired the mutex.
     #[inline(always)]
     pub fn receive(&mut self) -> bool {
         let received = self.mutex.try_receive(&mut self.seat);
         matches!(received, Ok(Some(_)))
     }
 
-    /// `receive_lock_within` of a seat that sleeps. Returns whether it came to hold.
+    /// `receive_lock_within` of a seat that sleeps. Returns whether it acquired the mutex.
     pub fn receive_within<R: Wait>(&mut self, rt: &R, looks: u32) -> bool {
         self.mutex
             .receive_lock_within(rt, &mut self.seat, looks)
@@ -147,7 +147,7 @@ impl<'a> User<'a> {
         }
     }
 
-    /// The value under the mutex, which the user locks and unlocks. None if it does not gain the mutex.
+    /// The value of the mutex, which the user locks and unlocks to read it. None if it does not acquire the mutex.
     pub fn final_value<R: Wait>(&mut self, rt: &R) -> Option<u64> {
         if !self.lock(rt) {
             return None;
@@ -158,12 +158,12 @@ impl<'a> User<'a> {
     }
 }
 
-/// What a measurement ends with that finds fewer seats than it asked for.
+/// The error of a measurement that finds fewer seats than it needs.
 pub fn no_seat() -> io::Error {
     io::ErrorKind::NotFound.into()
 }
 
-/// A mutex, with its seats that no thread has yet.
+/// A mutex, with those of its seats that no thread has yet.
 #[derive(Drop)]
 pub struct FreeSeats<'a> {
     mutex: &'a Mutex<u64>,
@@ -202,13 +202,13 @@ pub fn last_seat<T: Kept>(mutex: &Mutex<T>, seats: &mut Vec<Seat<T>>) -> Option<
 /// Two users of one mutex.
 #[derive(Drop)]
 pub struct Users<'a> {
-    /// The one who makes the calls.
+    /// The user that makes the calls.
     pub user: User<'a>,
     pub other: User<'a>,
 }
 
 impl Users<'_> {
-    /// Locks if somebody holds when the calls start. Returns whether the mutex is as it is to be.
+    /// Locks if a seat is to hold when the calls start. Returns whether the mutex is in the required state.
     pub fn begin<R: Wait>(&mut self, rt: &R, start: Start) -> bool {
         match start {
             Start::Free => true,

@@ -1,5 +1,5 @@
-//! Our mutex with two condvars on it, as several threads use them. Each thread waits on one of the condvars, and wakes those
-//! that wait on the other.
+//! Our mutex with two condvars, used by several threads. Each thread waits on one of the condvars, and wakes the threads that
+//! wait on the other.
 ghost use Rattle.std.specs.Prelude.{◌≡◌, ◌≤◌, ℕ, IfOk, IfSome};
 ghost use Rattle.lfm_mutex.specs.Belongs.{OfMutex, limits_of};
 ghost use Rattle.lfm_condvar.specs.Belongs.{OfCondvar, cond_limits};
@@ -17,7 +17,7 @@ use std::sync::Wait;
 use std::thread::Threads;
 use std::time::Clock;
 
-/// A condvar with this number of seats, of this pace. It takes memory.
+/// A condvar with this number of seats and this pace. It allocates memory.
 fn new_condvar(
     alloc: Global,
     seats: u64,
@@ -33,7 +33,7 @@ fn new_condvar(
     Ok((condvar, cond_seats))
 }
 
-/// A mutex, and two condvars on it.
+/// A mutex and two condvars.
 #[derive(Drop)]
 pub struct Shared {
     mutex: Mutex<Guarded>,
@@ -51,7 +51,7 @@ pub struct SeatsOfShared {
 }
 
 impl Shared {
-    /// A mutex and two condvars for this number of threads, of the pace of this machine. It takes memory.
+    /// A mutex and two condvars for this number of threads, with the pace of this machine. It allocates memory.
     pub fn new<R: Threads + Clock + AllocGlobal>(
         rt: &R,
         threads: u64,
@@ -112,7 +112,7 @@ impl<'a> Places<'a> {
         }
     }
 
-    /// One more thread, which waits on this condvar. An error if there is no seat left.
+    /// The seats of one more thread, which waits on this condvar. An error if there is no seat left.
     pub fn next(&mut self, waits_on: Side) -> io::Result<Participant<'a>> {
         let seat = last_seat(&self.shared.mutex, &mut self.seats);
         let first_seat = last_cond_seat(&self.shared.first, &mut self.first_seats);
@@ -150,7 +150,7 @@ pub enum Side {
     Second,
 }
 
-/// A thread's seats. It waits on one of the condvars, and wakes those that wait on the other.
+/// The seats of a thread. It waits on one of the condvars, and wakes the threads that wait on the other.
 #[derive(Drop)]
 pub struct Participant<'a> {
     shared: &'a Shared,
@@ -165,7 +165,7 @@ pub struct Participant<'a> {
 }
 
 impl<'a> Participant<'a> {
-    /// Locks in its way. Returns whether the mutex was gained, and not held before.
+    /// Locks in its way. Returns whether the seat acquired the mutex and did not hold it before.
     pub fn lock<R: Wait>(&mut self, rt: &R) -> bool {
         let mutex = &self.shared.mutex;
         let locked = match self.locking {
@@ -194,7 +194,7 @@ impl<'a> Participant<'a> {
         None
     }
 
-    /// In one hold of the mutex it waits until the operation is possible, makes it, and wakes one that waits on the other
+    /// In one hold of the mutex, waits until the operation is possible, makes it, and wakes one thread that waits on the other
     /// condvar. Returns the operation's number, or None if a call was refused.
     pub fn lock_and_apply<R: Wait>(&mut self, rt: &R, operation: Operation) -> Option<u64> {
         if !self.lock(rt) {
@@ -257,7 +257,7 @@ impl<'a> Participant<'a> {
         woken.unwrap_or(0)
     }
 
-    /// Makes the operation on what the mutex guards. Returns its number, or None if it isn't possible yet or the seat doesn't
+    /// Makes the operation on the value of the mutex. Returns its number, or None if it isn't possible yet or the seat doesn't
     /// hold.
     pub fn apply(&mut self, operation: Operation) -> Option<u64> {
         match self.seat.value_mut() {

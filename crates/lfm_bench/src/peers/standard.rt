@@ -1,4 +1,4 @@
-//! Std's condvars, as a thread waits on them.
+//! How a thread waits on std's condvars.
 
 use std::sync::{Condvar, MutexGuard, Wait};
 

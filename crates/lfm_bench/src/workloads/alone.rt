@@ -1,5 +1,5 @@
-//! What the workloads of one thread have in common: a number of calls in a row is made and timed, by our mutex, by its bare
-//! steps, and by std's mutex if it has such calls.
+//! The common part of the workloads of one thread. A number of calls in a row is made and timed: on our mutex, by its bare
+//! steps, and on std's mutex if it has such calls.
 
 use crate::measure::{Round, Sample, Start, Steps, Stopwatch};
 use crate::peers::ours::Users;
@@ -7,12 +7,12 @@ use std::io;
 use std::sync::{Mutex, Wait};
 use std::time::CpuClock;
 
-/// One call, which is made again and again. Each returns whether it did what it was to do.
+/// One call, which is made repeatedly. Each method returns whether the call did what it should.
 pub trait Call {
     /// The call of our mutex.
     fn ours<R: Wait>(rt: &R, users: &mut Users) -> bool;
 
-    /// The bare steps of it.
+    /// Its bare steps.
     fn bare(steps: &mut Steps) -> bool;
 }
 
@@ -22,7 +22,7 @@ pub trait StandardCall {
     fn standard<R: Wait>(rt: &R, mutex: &Mutex<u64>) -> bool;
 }
 
-/// Those who make the calls.
+/// The users that make the calls.
 #[derive(Drop)]
 pub struct Peers<'a> {
     pub users: Users<'a>,
@@ -64,7 +64,7 @@ pub fn round<R: Wait + CpuClock, C: Call>(
     })
 }
 
-/// Makes the calls of our mutex, timed. Out of line, so that each workload is one loop of its own.
+/// Makes the calls of our mutex, timed. It is not inlined, so that each workload is a separate loop.
 #[inline(never)]
 fn our_calls<R: Wait + CpuClock, C: Call>(
     rt: &R,

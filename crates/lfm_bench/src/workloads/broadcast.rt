@@ -1,7 +1,8 @@
-//! Several threads wait on one condvar, and another wakes them all, again and again. Whoever holds the mutex and goes on adds
-//! 1 to the number under it: the threads once as they come, then the caller before each broadcast, and each thread once it
-//! was woken. So with n threads broadcast b was made when the number is b (n + 1), and all have held since when it is n more.
-//! The last of them notes the time, and wakes the caller, who waits on a condvar of its own.
+//! Several threads wait on one condvar, and another thread, the caller, repeatedly wakes them all. Each thread that acquires
+//! the mutex and goes on adds 1 to the number under it: the threads once at their start, the caller before each broadcast, and
+//! each thread after it was woken. So with n threads, broadcast b is made when the number is b (n + 1), and all have held the
+//! mutex since then when the number is n greater. The last thread notes the time, and wakes the caller, which waits on its own
+//! condvar.
 ghost use Rattle.std.specs.Prelude.{◌≡◌, ◌*◌, ◌%◌, ◌^◌, Some, IfSome, true};
 ghost use Rattle.lfm_bench.specs.Broadcasts.{made, ended};
 
@@ -18,10 +19,10 @@ use std::thread::{Threads, join, map_indices};
 use std::time::{Clock, Duration, Instant};
 use std::{io, thread};
 
-/// How long the caller sleeps before a broadcast, so that all that wait are asleep, in microseconds.
+/// How long the caller sleeps before a broadcast, in microseconds, so that all waiting threads are asleep.
 const SETTLING: u64 = 50;
 
-/// How much is done.
+/// The amount of work.
 #[derive(Clone, Copy)]
 pub struct Load {
     /// How many threads wait.
@@ -31,7 +32,7 @@ pub struct Load {
 }
 
 impl Load {
-    /// The number when this broadcast was made. Threads that come are as if woken by broadcast 0.
+    /// The number when this broadcast is made. The start of the threads counts as broadcast 0.
     fn made(self, broadcast: u64) -> u64
         ensures { result ≡ made self broadcast }
     {
@@ -55,7 +56,7 @@ struct Times {
 }
 
 impl Times {
-    /// Times that begin now.
+    /// Times that start now.
     fn new<R: Clock>(rt: &R) -> Times {
         Times {
             begin: now(rt),
@@ -68,7 +69,7 @@ impl Times {
         since(rt, self.begin)
     }
 
-    /// All have held since a broadcast.
+    /// Notes that all have held since a broadcast.
     fn end<R: Clock>(&self, rt: &R) {
         self.ended.store(self.now(rt), Ordering::SeqCst);
     }
@@ -83,14 +84,14 @@ impl Times {
 #[derive(Clone, Copy)]
 struct Calls {
     nanoseconds: u64,
-    /// How many were woken, if the condvar says so.
+    /// How many were woken, if the condvar reports it.
     woken: Option<u64>,
-    /// The number after all.
+    /// The number at the end.
     number: Option<u64>,
 }
 
-/// What the caller and the threads did; `holds` says how often each thread held. It is exact if each held once for each
-/// broadcast and once before, the number is right, and as many were woken.
+/// The sample of what the caller and the threads did. `holds` has how often each thread held the mutex. The sample is exact if
+/// each held it once for each broadcast and once before, the number is right, and so is how many were woken.
 fn sample(load: Load, calls: Calls, holds: &[u64]) -> Sample
     ensures number { result.exact ≡ true → calls.number ≡ Some (ended load load.broadcasts) }
     ensures woken { result.exact ≡ true → IfSome calls.woken (λ w. w ≡ load.broadcasts * load.threads % 2 ^ 64) }
@@ -129,7 +130,7 @@ fn ours<R: Threads + Sync + Wait + Clock + AllocGlobal>(
     Ok(our_round(rt, load, caller, places)?)
 }
 
-/// The caller, and the threads that take the other places.
+/// A round of the caller and the threads that take the other places.
 fn our_round<R: Threads + Sync + Wait + Clock + AllocGlobal>(
     rt: &R,
     load: Load,
@@ -162,7 +163,7 @@ fn all_our_holds<R: Threads + Sync + Wait + Clock + AllocGlobal>(
     )
 }
 
-/// How often one thread held, which takes its place first.
+/// Takes the place of one thread. Returns how often the thread held.
 fn our_part<R: Wait + Clock>(rt: &R, load: Load, times: &Times, places: &Mutex<Places>) -> u64 {
     let taken = places.lock(rt).next(Side::First);
     match taken {

@@ -1,5 +1,5 @@
-//! Several threads take turns at one mutex for a fixed time. In a turn a thread gains the mutex, adds 1 to the value under
-//! it, works for a while, unlocks, and works for a while outside.
+//! Several threads take turns at one mutex for a fixed time. In a turn a thread acquires the mutex, adds 1 to its value, works
+//! for a while, unlocks, and works for a while outside.
 
 use crate::measure::clocks::{now, processor_time, since};
 use crate::measure::{Busy, Gate, Round, Sample, Turns, Waits, Watching, contest};
@@ -22,7 +22,7 @@ pub struct Load {
     pub inside: u64,
     /// How many it makes between two holds.
     pub outside: u64,
-    /// For how long turns are taken.
+    /// How long turns are taken.
     pub window: Duration,
     /// Whether waits for the mutex are timed.
     pub watching: Watching,
@@ -39,7 +39,7 @@ struct Holds {
 
 /// A thread that takes turns at a mutex.
 trait Contender {
-    /// Gains the mutex, adds 1 to the value, works, and unlocks. Returns whether it gained the mutex.
+    /// Acquires the mutex, adds 1 to the value, works, and unlocks. Returns whether it acquired the mutex.
     fn hold<R: Wait + Clock>(&mut self, rt: &R, holds: &mut Holds) -> bool;
 }
 
@@ -51,7 +51,7 @@ struct OurThread<'a> {
 }
 
 impl Contender for OurThread<'_> {
-    /// Gains our mutex in this thread's way.
+    /// Acquires our mutex in this thread's way.
     #[inline(always)]
     fn hold<R: Wait + Clock>(&mut self, rt: &R, holds: &mut Holds) -> bool {
         let begin = holds.waits.begin(rt);
@@ -73,7 +73,7 @@ struct StandardThread<'a> {
 }
 
 impl Contender for StandardThread<'_> {
-    /// Gains std's mutex.
+    /// Acquires std's mutex.
     #[inline(always)]
     fn hold<R: Wait + Clock>(&mut self, rt: &R, holds: &mut Holds) -> bool {
         let begin = holds.waits.begin(rt);

@@ -1,5 +1,5 @@
-//! One thread passes a mutex from one seat to another and back: each time the other seat queues, the holder grants it the
-//! mutex and makes the wake-up call, and the other takes it up. std's mutex has no such calls.
+//! One thread passes a mutex from one seat to another and back. Each time the other seat queues, the holder grants it the mutex
+//! and makes the wake-up call, and the other seat takes the grant up. std's mutex has no such calls.
 
 use crate::measure::{Round, Sample, Start, Steps};
 use crate::peers::ours::{User, Users};
@@ -31,7 +31,7 @@ fn pass(holder: &mut User, next: &mut User) -> bool {
     next.queue() && holder.unlock() && next.receive()
 }
 
-/// A round of this number of hand-offs, or one less if that is an odd number. A call is one hand-off.
+/// A round of this number of hand-offs, or of one less if the number is odd. A call is one hand-off.
 pub fn round_of_handoffs<R: Wait + CpuClock>(
     rt: &R,
     peers: &mut Peers,

@@ -1,4 +1,4 @@
-//! One thread gains a mutex that nobody else uses by try_lock, and unlocks it.
+//! One thread acquires a mutex that no other thread uses by try_lock, and unlocks it.
 
 use crate::measure::Steps;
 use crate::peers::ours::Users;
@@ -15,7 +15,7 @@ impl Call for Hit {
         users.user.try_lock() && users.user.unlock()
     }
 
-    /// The steps of a try_lock that gains the mutex, and of its unlock.
+    /// The steps of a try_lock that acquires the mutex, and of its unlock.
     #[inline(always)]
     fn bare(steps: &mut Steps) -> bool {
         steps.hit()

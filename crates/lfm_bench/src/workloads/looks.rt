@@ -1,6 +1,6 @@
-//! A seat that sleeps looks a number of times whether it was granted the mutex, which it was not. Then it parks, until the
-//! thread of another seat grants it the mutex. A call is one look. What is measured is the processor time of its thread, of
-//! which parking takes almost nothing. std's mutex has no such call.
+//! A sleeping seat loads its wake word a number of times, with pauses, and finds no grant. Then it parks until the thread of
+//! another seat grants it the mutex. A call is one such load with its pauses, a look. The processor time of the thread is
+//! measured, of which parking takes almost nothing. std's mutex has no such call.
 
 use crate::measure::{Gate, Round, Sample, Start, Steps, Stopwatch};
 use crate::peers::ours::{FreeSeats, User, new_mutex};
@@ -9,8 +9,8 @@ use std::thread::{Threads, join};
 use std::time::{Clock, CpuClock, Duration};
 use std::{io, thread};
 
-/// The seat that looks is granted the mutex after `LOOKING` times the time of its bare looks and `STARTING` nanoseconds, which
-/// cover the start of a thread.
+/// The seat that looks is granted the mutex after `LOOKING` times the time of the bare looks, plus `STARTING` nanoseconds for
+/// the start of a thread.
 const LOOKING: u64 = 8;
 
 const STARTING: u64 = 1_000_000;
@@ -45,7 +45,7 @@ fn ours<R: Threads + Sync + Wait + Clock + CpuClock + AllocGlobal>(
     our_round(rt, looks, longest, holder, sleeper)
 }
 
-/// The looks of the sleeper, which is granted the mutex this long after it began to look.
+/// The looks of the sleeper, which is granted the mutex this long after it started to look.
 fn our_round<R: Threads + Sync + Wait + Clock + CpuClock>(
     rt: &R,
     looks: u32,
@@ -56,7 +56,7 @@ fn our_round<R: Threads + Sync + Wait + Clock + CpuClock>(
     let begun = holder.lock(rt) && sleeper.queue();
     let gate = Gate::new(2);
     let start = &gate;
-    // if no thread can be started, the grant comes first, and nobody waits for ever
+    // if no thread can be started, the grant is made first, and no thread waits forever
     let (sample, granted) = join(
         rt,
         move || our_looks(rt, start, looks, sleeper),
@@ -80,14 +80,14 @@ fn our_looks<R: Wait + CpuClock>(
     Ok(sample.provided(received && left))
 }
 
-/// The holder's unlock, this long after the other began to look. Returns whether it held.
+/// The holder's unlock, this long after the other seat started to look. Returns whether the holder held the mutex.
 fn grant_after<R: Clock>(rt: &R, gate: &Gate, wait: Duration, mut holder: User) -> bool {
     gate.pass();
     thread::sleep(rt, wait);
     holder.unlock()
 }
 
-/// The bare loads of them, with their pauses.
+/// The bare loads of the looks, with their pauses.
 #[inline(never)]
 fn bare<R: CpuClock>(rt: &R, steps: &mut Steps, looks: u32) -> io::Result<Sample> {
     steps.begin(Start::HeldByOther);

@@ -1,4 +1,4 @@
-//! One thread tries to gain a mutex that is held, and fails.
+//! One thread tries to acquire a mutex that is held, and fails.
 
 use crate::measure::Steps;
 use crate::peers::ours::Users;

@@ -1,4 +1,4 @@
-//! One thread locks and unlocks a mutex that nobody else uses: in each way, and round an addition to its value.
+//! One thread locks and unlocks a mutex that no other thread uses: in each way, and with an addition to its value in between.
 
 use crate::measure::Steps;
 use crate::peers::ours::Users;
@@ -48,11 +48,11 @@ impl Call for BargingPair {
     }
 }
 
-/// `with`, and std's mutex round the same addition.
+/// `with` an addition, and std's mutex with the same addition.
 pub struct Addition;
 
 impl Call for Addition {
-    /// `with`, round an addition.
+    /// `with` an addition.
     #[inline(always)]
     fn ours<R: Wait>(rt: &R, users: &mut Users) -> bool {
         users.user.add_one_within(rt)

@@ -1,5 +1,5 @@
-//! Two threads take turns at one mutex, each with a condvar of its own. In a turn a thread gains the mutex, waits until the
-//! other has had its turn, adds 1 to the number under the mutex, wakes the other, and unlocks.
+//! Two threads take turns at one mutex, each with its own condvar. In a turn a thread acquires the mutex, waits until the other
+//! has had its turn, adds 1 to the number under the mutex, wakes the other, and unlocks.
 ghost use Rattle.std.specs.Prelude.{◌≡◌, ◌*◌, ◌%◌, ◌^◌, Some, true};
 
 use crate::measure::clocks::{now, since};
@@ -20,8 +20,8 @@ struct TurnsTaken {
     nanoseconds: u64,
 }
 
-/// What two threads did that were each to take `turns` turns. The number was 0 before them, and is this after them. A call is a
-/// turn of each. It is exact if each took its turns, and the number is how many there were.
+/// The sample of two threads, each of which was to take `turns` turns. `number` is the number after them; it was 0 before. A
+/// call is one turn of each thread. The sample is exact if each took its turns and the number is how many there were.
 fn sample(first: TurnsTaken, second: TurnsTaken, turns: u64, number: Option<u64>) -> Sample
     ensures made { result.exact ≡ true → (first.made ≡ turns) × (second.made ≡ turns) }
     ensures number { result.exact ≡ true → number ≡ Some (turns * 2 % 2 ^ 64) }
@@ -45,7 +45,7 @@ pub fn round<R: Threads + Sync + Wait + Clock + AllocGlobal>(
     })
 }
 
-/// Our mutex and condvars, with this number of turns of each thread, and a look at the number after them.
+/// Our mutex and condvars, with this number of turns of each thread. The number is read after them.
 fn ours<R: Threads + Sync + Wait + Clock + AllocGlobal>(
     rt: &R,
     turns: u64,
@@ -61,7 +61,7 @@ fn ours<R: Threads + Sync + Wait + Clock + AllocGlobal>(
     Ok(sample(ping, pong, turns, number))
 }
 
-/// The turns of two participants, of which the first begins.
+/// The turns of two participants. The first participant takes the first turn.
 fn our_pair<R: Threads + Sync + Wait + Clock>(
     rt: &R,
     turns: u64,
@@ -77,7 +77,7 @@ fn our_pair<R: Threads + Sync + Wait + Clock>(
     )
 }
 
-/// The turns of one participant, the first of them when the number is this.
+/// The turns of one participant, of which it takes the first when the number is this.
 fn our_turns<R: Wait + Clock>(
     rt: &R,
     gate: &Gate,
@@ -127,7 +127,7 @@ fn standard_pair<R: Threads + Sync + Wait + Clock>(
     )
 }
 
-/// The turns of one thread at std's mutex, the first of them when the number is this. It waits on its own condvar.
+/// The turns of one thread at std's mutex, of which it takes the first when the number is this. It waits on its own condvar.
 fn standard_turns<R: Wait + Clock>(
     rt: &R,
     gate: &Gate,

@@ -1,6 +1,6 @@
-//! As many threads put numbers into a bounded queue as take them out. A mutex guards the queue, with two condvars: a thread
-//! that finds it full waits on the first, and one that finds it empty on the second. Each number that goes in is to come out
-//! once.
+//! Some threads put numbers into a bounded queue, and as many other threads take them out. A mutex guards the queue, with two
+//! condvars: a thread that finds the queue full waits on the first, and one that finds it empty on the second. Each number that
+//! is put in must be taken out once.
 ghost use Rattle.std.specs.Prelude.{◌≡◌, true};
 ghost use Rattle.lfm_bench.specs.Deliveries.{CountUp, IsEachOnce};
 
@@ -15,7 +15,7 @@ use std::sync::{Condvar, Mutex, Wait};
 use std::thread::{Threads, map_vec};
 use std::time::Clock;
 
-/// How much is done.
+/// The amount of work.
 #[derive(Clone, Copy)]
 pub struct Load {
     /// How many threads put numbers in, and as many take them out.
@@ -67,7 +67,7 @@ impl Mover for &StandardQueue {
         true
     }
 
-    /// Waits on std's condvar while nothing is there.
+    /// Waits on std's condvar while the queue is empty.
     fn take<R: Wait>(&mut self, rt: &R) -> Option<u64> {
         let mut queue = self.queue.lock(rt);
         for _ in rt.forever() {
@@ -81,14 +81,14 @@ impl Mover for &StandardQueue {
     }
 }
 
-/// What one thread does: it puts in the numbers from `first` on, or takes as many out.
+/// The work of one thread: it puts in the numbers from `first` on, or takes as many out.
 #[derive(Clone, Copy)]
 enum Task {
     Put { first: u64 },
     Take,
 }
 
-/// The numbers that a thread took out, and for how many nanoseconds it worked.
+/// The numbers that a thread took out, and how long it worked, in nanoseconds.
 #[derive(Drop)]
 struct Delivery {
     numbers: Vec<u64>,
@@ -144,7 +144,7 @@ fn standard<R: Threads + Sync + Wait + Clock + AllocGlobal>(
     Ok(moved(rt, load, movers)?)
 }
 
-/// What these threads move together.
+/// The sample of what these threads move together.
 fn moved<R: Threads + Sync + Wait + Clock + AllocGlobal, M: Mover + Send + Drop>(
     rt: &R,
     load: Load,
@@ -168,7 +168,7 @@ fn moved<R: Threads + Sync + Wait + Clock + AllocGlobal, M: Mover + Send + Drop>
     Ok(sample(load, nanoseconds, &mut numbers))
 }
 
-/// What one thread does, and the numbers that it took out.
+/// Does the work of one thread. Returns the numbers that it took out.
 fn work<R: Wait + Clock, M: Mover + Drop>(
     rt: &R,
     alloc: Global,
@@ -198,8 +198,8 @@ fn work<R: Wait + Clock, M: Mover + Drop>(
     })
 }
 
-/// What came of a round in which these numbers were taken out. A call is a number that is moved. It is exact if all numbers
-/// that went in came out, each once.
+/// The sample of a round in which these numbers were taken out. A call is a number that is moved. The sample is exact if all
+/// numbers that were put in were taken out, each once.
 fn sample(load: Load, nanoseconds: u64, numbers: &mut Vec<u64>) -> Sample
     ensures { result.exact ≡ true → IsEachOnce numbers.old.items }
 {
@@ -209,7 +209,7 @@ fn sample(load: Load, nanoseconds: u64, numbers: &mut Vec<u64>) -> Sample
     Sample::of_calls(nanoseconds, calls, exact)
 }
 
-/// Whether these numbers are 0, 1, 2 and on.
+/// Whether these numbers are 0, 1, 2 and so on.
 fn are_in_turn(numbers: &[u64]) -> bool
     ensures { result ≡ true → CountUp numbers.now }
 {

@@ -1,4 +1,4 @@
-//! One thread that holds a mutex locks and unlocks it once more. std's mutex has no such call.
+//! One thread that already holds a mutex locks and unlocks it once more. std's mutex has no such call.
 
 use crate::measure::Steps;
 use crate::peers::ours::Users;

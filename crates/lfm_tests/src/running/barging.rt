@@ -1,4 +1,4 @@
-//! Seats of one thread that lock by `lock_barging`: what they gain, what it costs them, and what they are refused.
+//! Seats of one thread that lock by `lock_barging`: what they acquire, how many takes it costs, and how they are refused.
 use crate::running::seats::{alone, closed_alone, pair_with};
 use crate::seeing::sees;
 use lfm_model::{Asked, How, Locked, Refusal, SeatNo, Unlocked};
@@ -22,7 +22,7 @@ fn barging_gains_a_free_mutex_and_deepens_a_hold(rt: HostRuntime) -> Result<(), 
     Ok(())
 }
 
-/// Seat 2 sleeps, and its one take is charged: the sleep is what it is refused for, before and after the grant.
+/// Seat 2 sleeps, and its only take is charged. It is refused as Asleep, before and after the grant.
 #[test]
 fn barging_of_a_seat_that_sleeps(rt: HostRuntime) -> Result<(), Fail> {
     let (mutex, mut first, mut second) = pair_with(rt.alloc(), 1)?;

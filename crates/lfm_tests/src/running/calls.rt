@@ -1,4 +1,4 @@
-//! Calls of seats of a running mutex, each with what it must answer, made in order. No test stands here.
+//! Makes calls of seats of a running mutex in order, each with its expected answer. This module has no test.
 ghost use Rattle.lfm_mutex.specs.Belongs.{Beside, OfMutex};
 
 use lfm_core::{Call, Turn};
@@ -8,7 +8,7 @@ use lfm_mutex::{Mutex, Seat};
 use std::fmt::Debug;
 use std::process::Abort;
 
-/// A call of a seat, and what it must answer.
+/// A call of a seat with its expected answer.
 #[derive(Clone, Copy)]
 pub enum Step {
     Ask(Result<Asked, Refusal>),
@@ -22,11 +22,11 @@ pub enum Step {
     Takes(u64),
     /// The value in hand.
     Value(Option<u64>),
-    /// Sets the value in hand, which answers nothing.
+    /// Sets the value in hand, which has no answer.
     Set(u64),
-    /// Begins a call that is made step by step.
+    /// Starts a call that is made step by step.
     Start(Call, Turn),
-    /// The next step of it.
+    /// The next step of such a call.
     Next(Turn),
 }
 
@@ -37,12 +37,12 @@ pub enum By {
     Second,
 }
 
-/// Checks that the step with this place among the steps answers as it must.
+/// Checks that the step with this index has the expected answer.
 fn answers<R: Abort, T: PartialEq + Debug>(rt: &R, at: usize, answer: &T, wanted: &T) {
     assert_eq!(rt; *answer, *wanted, "step {at}");
 }
 
-/// Makes a step with this place among the steps, and checks that it answers as it must.
+/// Makes a step, and checks that it has the expected answer. `at` is its index among the steps.
 pub fn make<R: Abort>(rt: &R, mutex: &Mutex<u64>, seat: &mut Seat<u64>, at: usize, step: Step)
     requires { OfMutex seat.old mutex.now }
     ensures { OfMutex seat.new mutex.now }

@@ -1,4 +1,4 @@
-//! A seat that is dropped while it holds or sleeps: what it kept, nobody else gains.
+//! A seat that is dropped while it holds or sleeps. No other seat can acquire what it held or was granted.
 ghost use Rattle.lfm_mutex.specs.Belongs.{OfMutex};
 
 use crate::running::calls::{Step, make, make_alone};
@@ -8,7 +8,7 @@ use lfm_mutex::{Mutex, Seat};
 use std::process::Abort;
 use std::test::Fail;
 
-/// Receives a thousand times for a seat that sleeps, which may not come to hold.
+/// Receives a thousand times for a seat that sleeps. Checks that it does not acquire the mutex.
 fn sleeps_on<R: Abort>(rt: &R, mutex: &Mutex<u64>, seat: &mut Seat<u64>)
     requires { OfMutex seat.old mutex.now }
     ensures { OfMutex seat.new mutex.now }

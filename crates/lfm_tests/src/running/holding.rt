@@ -1,4 +1,4 @@
-//! How the mutex is held and given on between two seats of one thread, call by call.
+//! How two seats of one thread hold the mutex and pass it on, call by call.
 use crate::running::calls::{By, Step, make_all, make_alone};
 use crate::running::seats::{alone, closed, closed_alone, lacks_the_second, pair, stays_open};
 use crate::seeing::sees;

@@ -1,10 +1,11 @@
-//! What a pace says: how often a seat spins and naps before it queues, and how often it then looks.
+//! The numbers of a pace: how often a seat spins and naps before it queues, and how often it then loads its wake word before it
+//! parks.
 use crate::running::seats::alone;
 use crate::seeing::{holds, sees};
 use lfm_mutex::Pace;
 use std::test::Fail;
 
-/// The looks of a pace, how many seats are near, its spins and its naps.
+/// The numbers of a pace: its looks, how many seats are near, its spins and its naps.
 fn numbers(pace: Pace) -> (u32, u64, u32, u32) {
     (pace.looks(), pace.near(), pace.spins(), pace.naps())
 }

@@ -1,4 +1,4 @@
-//! Limits past which no mutex is made and the value is dropped, and what a seat is refused at each depth of its hold.
+//! Limits past which no mutex is made and the value is dropped, and the refusals of a seat at each depth of its hold.
 ghost use Rattle.lfm_mutex.specs.Belongs.{OfMutex};
 
 use crate::running::calls::{Step, make_alone};
@@ -55,7 +55,7 @@ fn deepen<R: Abort>(rt: &R, mutex: &Mutex<u64>, seat: &mut Seat<u64>)
     }
 }
 
-/// Leaves a hold of the greatest depth, up to depth 1.
+/// Unlocks a hold of the greatest depth until its depth is 1.
 fn leave<R: Abort>(rt: &R, mutex: &Mutex<u64>, seat: &mut Seat<u64>)
     requires { OfMutex seat.old mutex.now }
     ensures { OfMutex seat.new mutex.now }
@@ -70,7 +70,7 @@ fn leave<R: Abort>(rt: &R, mutex: &Mutex<u64>, seat: &mut Seat<u64>)
     }
 }
 
-/// Makes all holds that one seat with one take may make, and what is refused at each depth.
+/// Makes all holds that one seat with one take can make, and checks the refusals at each depth.
 fn refuses_in_order<R: Abort + Wait>(rt: &R, mutex: &Mutex<u64>, seat: &mut Seat<u64>)
     requires { OfMutex seat.old mutex.now }
 {

@@ -1,4 +1,4 @@
-//! A running mutex with its one or two seats, and how they are handed back to close it. No test stands here.
+//! A running mutex with its one or two seats, and how they are handed back to close it. This module has no test.
 ghost use Rattle.lfm_mutex.specs.Belongs.{OfMutex};
 ghost use Rattle.std.specs.Prelude.{◌≡◌, ℕ, [], IfOk, IfSome};
 ghost use mathlib.Core.Option.{some};
@@ -50,7 +50,7 @@ pub fn pair_with(alloc: Global, budget: u64) -> Result<(Mutex<u64>, Seat<u64>, S
     Ok((mutex, first, second))
 }
 
-/// A mutex of one seat round this value, with a budget of one take, and its seat.
+/// A mutex of one seat that guards this value, with a budget of one take, and its seat.
 pub fn alone(alloc: Global, value: u64) -> Result<(Mutex<u64>, Seat<u64>), Fail>
     ensures { IfOk result (λ r. OfMutex r.1 r.0) }
 {
@@ -61,7 +61,7 @@ pub fn alone(alloc: Global, value: u64) -> Result<(Mutex<u64>, Seat<u64>), Fail>
     Ok((mutex, seat))
 }
 
-/// Hands both seats back, which must not close the mutex yet: returns what is missing, and all three again.
+/// Hands both seats back, which must not close the mutex yet. Returns what is missing, and all three again.
 fn kept(
     mutex: Mutex<u64>,
     first: Seat<u64>,
@@ -82,7 +82,7 @@ fn kept(
     Some((mutex, first, second, missing))
 }
 
-/// Hands both seats back, which must not close the mutex yet, since this is missing. Returns all three again.
+/// Hands both seats back, and checks that the mutex is not closed because this is missing. Returns all three again.
 pub fn stays_open<R: Abort>(
     rt: &R,
     mutex: Mutex<u64>,
@@ -104,7 +104,7 @@ pub fn stays_open<R: Abort>(
     (mutex, first, second)
 }
 
-/// Hands one seat back, which must not close the mutex yet: returns what is missing, and both again.
+/// Hands one seat back, which must not close the mutex yet. Returns what is missing, and both again.
 fn kept_alone(
     mutex: Mutex<u64>,
     seat: Seat<u64>,
@@ -123,7 +123,7 @@ fn kept_alone(
     Some((mutex, seat, missing))
 }
 
-/// Hands seat 1 back alone, which must not close the mutex, since seat 2 is missing. Returns both again.
+/// Hands only seat 1 back, and checks that the mutex is not closed because seat 2 is missing. Returns both again.
 pub fn lacks_the_second<R: Abort>(
     rt: &R,
     mutex: Mutex<u64>,
@@ -143,7 +143,7 @@ pub fn lacks_the_second<R: Abort>(
     (mutex, first)
 }
 
-/// Hands both seats back, which must close the mutex: returns its value.
+/// Hands both seats back, which must close the mutex. Returns its value.
 pub fn closed(
     mutex: Mutex<u64>,
     first: Seat<u64>,
@@ -159,7 +159,7 @@ pub fn closed(
     mutex.close(room).ok()
 }
 
-/// Hands the one seat back, which must close the mutex: returns its value.
+/// Hands the only seat back, which must close the mutex. Returns its value.
 pub fn closed_alone(mutex: Mutex<u64>, seat: Seat<u64>, mut room: Vec<Seat<u64>>) -> Option<u64>
     requires seat { OfMutex seat mutex }
     requires empty { room.items ≡ [] }

@@ -1,4 +1,4 @@
-//! Sections of one thread: what they answer and leave, early returns, refusals, and sections inside of others.
+//! Sections of one thread: what they answer and leave, early returns, refusals, and nested sections.
 use crate::running::seats::{alone, closed, closed_alone, pair};
 use crate::seeing::sees;
 use lfm_model::{How, Locked, Refusal, Unlocked};

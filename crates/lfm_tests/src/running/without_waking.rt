@@ -1,4 +1,4 @@
-//! The calls that hand their wake-up to the caller, made in one thread: which seat each of them names.
+//! The calls that return their wake-up to the caller, made in one thread: which seat each wake-up names.
 use crate::running::seats::pair;
 use crate::seeing::sees;
 use lfm_model::{Asked, How, SeatNo, Unlocked};

@@ -1,4 +1,4 @@
-//! Texts that are no scripts: which fault is answered.
+//! Texts that are not scripts, and the fault that is answered for each.
 use lfm_script::{WorkFault, read_script};
 use std::alloc::{AllocError, Global};
 use std::process::Abort;
@@ -8,7 +8,7 @@ fn fault_of(alloc: Global, text: &[u8]) -> Option<WorkFault> {
     read_script(alloc, text).err()
 }
 
-/// Checks that each of these texts has this fault, or that none has one.
+/// Checks that each of these texts has this fault, or no fault if `wanted` is None.
 fn each_has<R: AllocGlobal + Abort>(rt: &R, texts: &[&[u8]], wanted: Option<WorkFault>) {
     for (index, text) in texts.iter().enumerate() {
         assert_eq!(*rt; fault_of(rt.alloc(), text), wanted, "text {index}");
@@ -86,7 +86,7 @@ fn later_lines(rt: HostRuntime) {
         b"workers 1 1\n1  add 1",
         b"workers 1 1\nadd 1 1",
         b"workers 1 1\nworkers 1 1",
-        // a fault of syntax comes before a limit, and the first before others
+        // a fault of syntax is answered before a limit, and the first fault of syntax before others
         b"workers 0 99\n1 add\n1 ad 1\n",
     ];
     each_has(&rt, &texts, Some(WorkFault::Syntax(2)));

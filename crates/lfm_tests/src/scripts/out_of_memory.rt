@@ -1,11 +1,11 @@
-//! The calls that ask for memory. Each test whose name contains `memory` passes also if a request was refused, and then says
-//! so. A script lets each single request of these tests fail in turn.
+//! The calls that ask for memory. Each test whose name contains `memory` also passes if a request was refused, and then prints
+//! so. A script makes each request of these tests fail in turn.
 use crate::refused_memory::sees_memory;
 use lfm_script::{Command, Script, ScriptLine, WorkFault, commands_by_worker, read_script};
 use std::alloc::Global;
 use std::process::Abort;
 
-/// `read_script`, with nothing of its contract: the test sees what it answers.
+/// `read_script` without its contract, so that the proof of a test knows nothing of the answer and the test checks it.
 fn read(alloc: Global, text: &[u8]) -> Result<Script, WorkFault> {
     read_script(alloc, text)
 }

@@ -1,4 +1,4 @@
-//! Scripts that are made by chance, written and read back.
+//! Pseudorandom scripts that are written and read back.
 ghost use Rattle.std.specs.Prelude.{◌<◌};
 
 use lfm_script::{
@@ -12,21 +12,21 @@ const WORKERS: u64 = 7;
 
 const CONDITIONS: u64 = 3;
 
-/// The number after this one in a sequence that looks like chance.
+/// The number after this one in a pseudorandom sequence.
 fn after(number: u64) -> u64 {
     number
         .wrapping_mul(6_364_136_223_846_793_005)
         .wrapping_add(1_442_695_040_888_963_407)
 }
 
-/// The number from 1 to `many` that these bits pick.
+/// The number from 1 to `many` that these bits select.
 fn one_of(bits: u64, many: u64) -> u64
     requires { 0 < many }
 {
     bits % many + 1
 }
 
-/// The line that a number picks.
+/// The line that a number selects.
 fn picked(number: u64) -> ScriptLine {
     let condition = one_of(number >> 40, CONDITIONS);
     let amount = (number >> 33) % (MAX_NUMBER + 1);
@@ -41,7 +41,7 @@ fn picked(number: u64) -> ScriptLine {
     }
 }
 
-/// A line as a script has it.
+/// The text of a line.
 fn spelled(alloc: Global, line: &ScriptLine) -> Result<String, AllocError> {
     let worker = line.worker;
     match line.command {
@@ -54,7 +54,7 @@ fn spelled(alloc: Global, line: &ScriptLine) -> Result<String, AllocError> {
     }
 }
 
-/// This number of lines by chance, and their text.
+/// This number of pseudorandom lines, and their text.
 fn script_by_chance(
     alloc: Global,
     seed: u64,
@@ -83,12 +83,12 @@ fn are_of_worker(commands: &[Command], worker: u64, lines: &[ScriptLine]) -> boo
     rest.next().is_none()
 }
 
-/// `read_script`, with nothing of its contract: the test sees what it answers.
+/// `read_script` without its contract, so that the proof of a test knows nothing of the answer and the test checks it.
 fn read(alloc: Global, text: &str) -> Result<Script, WorkFault> {
     read_script(alloc, text.as_bytes())
 }
 
-/// Checks that a script is the one by chance that has these lines.
+/// Checks that a script is the pseudorandom one with these lines.
 fn sees_lines<R: Abort>(rt: &R, script: &Script, lines: &[ScriptLine], seed: u64) {
     assert_eq!(*rt; (script.workers, script.conditions), (WORKERS, CONDITIONS));
     assert_eq!(*rt; script.lines.as_slice(), lines, "seed {seed}");
@@ -122,7 +122,7 @@ fn sees_commands<R: Abort>(
 fn each_worker_has_its_commands(rt: HostRuntime) -> Result<(), Fail> {
     for seed in 0..40 {
         let (lines, _) = script_by_chance(rt.alloc(), seed, seed * 3)?;
-        // one worker fewer than there are: the lines of the last are nobody's
+        // with one worker fewer than there are, the lines of the last belong to no worker
         for workers in [WORKERS, WORKERS - 1, 0] {
             let commands = commands_by_worker(rt.alloc(), workers, &lines)?;
             sees_commands(&rt, &commands, workers, &lines, seed);

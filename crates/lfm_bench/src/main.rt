@@ -13,7 +13,7 @@ mod workloads;
 use crate::measure::Plan;
 use std::io;
 
-/// Measures as the arguments say, and prints.
+/// Measures by the plan of the arguments, and prints the tables.
 fn main(rt: HostRuntime) -> io::Result<()> {
     let plan = Plan::from_arguments(&rt)?;
     tables::measure(&rt, plan)

@@ -191,7 +191,7 @@ impl<'a> Steps<'a> {
         wake == GRANT
     }
 
-    /// Sets the words as they are at this start of the calls.
+    /// Sets the words to the values that they have at the start of the calls.
     pub fn begin(&mut self, start: Start) {
         let (count, owner) = match start {
             Start::Free => (0, 0),

@@ -14,7 +14,7 @@ pub struct Sample {
     pub nanoseconds: u64,
     /// How many calls there were.
     pub calls: u64,
-    /// Whether each call did what it was to do.
+    /// Whether each call did what it should.
     pub exact: bool,
     /// The figures of threads that contend. `NONE` if no threads contended.
     pub contest: Contest,
@@ -268,7 +268,7 @@ impl Figures {
         }
     }
 
-    /// Whether each call of each round did what it was to do.
+    /// Whether each call of each round did what it should.
     pub fn is_exact(&self) -> bool
         ensures { result ≡ self.now.exact }
     {

@@ -1,5 +1,6 @@
-# Turns what lfm_bench prints in two runs or more into lines of docs/benchmarks.rows: see scripts/bench_mutex. `kind` is `quiet`, and
-# then all is shown; else only what several threads do is, in a chart of this name. `place` says where the threads run.
+# Turns the output of two or more runs of lfm_bench into lines of docs/benchmarks.rows: see scripts/bench_mutex. If `kind` is
+# `quiet`, all is shown. Otherwise only the figures of several threads are shown, in a chart of this name. `place` says on which
+# processors the threads run.
 
 # ---- reading
 
@@ -13,7 +14,7 @@ function trimmed(text) {
   cells = substr($0, 33)
 }
 
-# the head of a table: its titles have cells of ten places, and the first of each peer is that of its medians
+# the head of a table: the titles have cells of ten characters, and the first title of each peer is that of its medians
 cells ~ /^ +(ours|in order) / {
   table = name
   titles = 0
@@ -35,7 +36,7 @@ function mean(table, name, peer,    run, sum) {
   return sum / runs[table, name]
 }
 
-# three figures or so
+# about three significant digits
 function rounded(figure) {
   return sprintf(figure < 2 ? "%.2f" : figure < 100 ? "%.1f" : "%.0f", figure)
 }
@@ -47,7 +48,7 @@ function ratios(table, name, peer, other,    run, text) {
   return text
 }
 
-# the rows of a table whose names fit, in `order`; those first in which barging does worst beside std
+# the rows of a table whose names match, in `order`, beginning with those in which barging is worst compared with std
 function sort_rows(table, fits,    i, j, name) {
   many = 0
   for (i = 1; i <= rows[table]; i++) if (row[table, i] ~ fits) {
@@ -58,7 +59,7 @@ function sort_rows(table, fits,    i, j, name) {
   }
 }
 
-# a chart of both ways of locking beside std's; its figures are those of the program divided by `unit`
+# prints a chart of both ways of locking and of std's mutex; its figures are those of the program divided by `unit`
 function chart(name, head, table, fits, unit, fairness,    i, greatest) {
   sort_rows(table, fits)
   for (i = 1; i <= many; i++) {
@@ -91,7 +92,7 @@ function chart_of_one_thread(table,    i, name) {
 
 END {
   if (kind == "quiet") chart_of_one_thread("nanoseconds a call")
-  # on one processor a window may end before each thread has had its turn there
+  # on one processor a measurement may end before each thread has had its turn
   chart(kind == "quiet" ? "several_threads" : kind, place ": nanoseconds an acquisition", "nanoseconds an acquisition", "", 1, kind == "one_processor" ? "" : "most over fewest")
   if (kind == "quiet") {
     chart("condition_variables", "Condition variables: microseconds", "nanoseconds", "^(ping-pong|wake_all)", 1000, "")

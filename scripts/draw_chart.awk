@@ -40,7 +40,7 @@ what == "row" && wanted {
 
 # ---- drawing
 
-# the last series is striped, and what is neither solid nor striped is hollow
+# the last series is striped, and a series that is neither solid nor striped is hollow
 function draw_bar(x, y, length_of, i) {
   printf "<rect x=\"%d\" y=\"%d\" width=\"%.1f\" height=\"12\" %s/>\n", x, y, length_of, i == solid ? "class=\"own\"" : i == series ? "fill=\"url(#stripes)\" class=\"edge\"" : "class=\"box plain\""
 }
@@ -71,7 +71,7 @@ END {
   if (!longest) longest = greatest
   left = 250
   across = 360
-  # beside the longest bar stand its number and a note
+  # after the longest bar come its number and a note
   width = left + across + (longest_note > 14 ? 72 + longest_note * 7 : 170)
   height = 56
   for (r = 1; r <= rows; r++) height += height_of(r)

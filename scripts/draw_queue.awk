@@ -1,9 +1,9 @@
-# Turns what `lfm_explain` prints into a picture of the queue: see scripts/draw_queue. `title` is what stands above it, `schedule`
+# Turns the output of `lfm_explain` into a picture of the queue: see scripts/draw_queue. `title` is the heading, `schedule` is
 # the file whose lines are named, and `moments` has a line for each moment with its caption. It needs scripts/picture.awk.
 
 # ---- reading: the push word, the links and the pop list, step by step
 
-# a pair such as (3, 4) or (3, none) as its stamp and its seat, where 0 is none
+# reads a pair such as (3, 4) or (3, none) as its stamp and its seat; none is 0
 function read_pair(pair,    parts) {
   gsub(/[()]/, "", pair)
   split(pair, parts, ", ")
@@ -11,7 +11,7 @@ function read_pair(pair,    parts) {
   pair_seat = parts[2] == "none" ? 0 : parts[2]
 }
 
-# what stands behind the arrow, or all that was found if nothing was written
+# the text after the arrow, or all of it if nothing was written
 function last_pair(text,    at) {
   at = index(text, " -> ")
   if (at) text = substr(text, at + 4)
@@ -52,7 +52,7 @@ function see_step(rest, seat) {
   if (rest ~ /, serve/) if (!sub(/^[^,]*,/, "", pop)) pop = ""
 }
 
-# keeps the queue of this moment, if it is one of those that are wanted
+# keeps the queue of this moment, if it is a wanted one
 function keep(moment,    i, seat) {
   for (i = 1; i <= panels; i++) if (wanted[i] == moment) {
     seen[i] = 1
@@ -63,7 +63,7 @@ function keep(moment,    i, seat) {
   }
 }
 
-# the records of a list from this seat on, by their links
+# the records of a list, from this seat on, along the links
 function chain(seat,    text) {
   for (; seat; seat = link_seat[seat]) text = text (text == "" ? "" : ",") seat " " link_stamp[seat] " " link_seat[seat]
   return text
@@ -113,7 +113,7 @@ function box(x, y, wide, class, first, second) {
 
 function none_or_seat(seat) { return seat > 0 ? "seat " seat : "none" }
 
-# a list of links, each behind an arrow, from x on
+# draws a list of links, each after an arrow, from x on
 function draw_links(x, y, items, from, many, class,    i, parts) {
   for (i = from; i <= many; i++) {
     split(items[i], parts, " ")
@@ -154,7 +154,7 @@ function draw_pop_list(i, y,    parts, many, items, j) {
   }
 }
 
-# draws one moment from y on, and answers where the next begins
+# draws one moment from y on, and returns where the next begins
 function draw_panel(i, y,    parts, moment) {
   split(wanted[i], parts, ".")
   moment = parts[2] ? "in line " parts[1] ", " schedule_line[parts[1]] ", after " step_name[parts[1] "." parts[2]] : "after line " parts[1] ", " schedule_line[parts[1]]

@@ -1,4 +1,4 @@
-# Turns a file of rows into a picture of two threads beside one word: see scripts/draw_sleep. It needs scripts/picture.awk.
+# Turns a file of rows into a picture of two threads and one word: see scripts/draw_sleep. It needs scripts/picture.awk.
 
 # ---- reading
 
@@ -60,7 +60,7 @@ function draw_row(row,    x, y) {
   label(x + (side[row] == "left" ? -14 : 14), y + 4, "ink", side[row] == "left" ? "end" : "", escape(text[row]))
 }
 
-# the value of the word, in a box as long as it stays
+# the value of the word, in a box from the store of the value to the next store
 function draw_value(value, from, to) {
   printf "<rect x=\"%d\" y=\"%d\" width=\"%d\" height=\"%d\" rx=\"3\" class=\"box %s\"/>\n", middle - half, from, 2 * half, to - from, value ~ /^GRANT/ ? "grant" : "plain"
   label(middle, from + 15, value ~ /^GRANT/ ? "ink bold" : "soft", "middle", escape(value))

@@ -1,6 +1,6 @@
-# Writes docs/LAWS.md with each row of a law as the comment of its function says it: see scripts/laws. The files of the laws
-# come first, and the page last. A row is known by the link in its first cell. With `report` it prints, in place of the page,
-# `pass` for each law whose row is as it should be, and `fail` with the reason for each other one.
+# Writes docs/LAWS.md with the row of each law made from the comment of its function: see scripts/laws. The arguments are the
+# files of the laws, and then the page. A row is known by the link in its first cell. With `report` it does not print the page,
+# but `pass` for each law whose row is up to date, and `fail` with the reason for each other one.
 
 function trim(text) {
   gsub(/^[ \t]+|[ \t]+$/, "", text)
@@ -39,9 +39,9 @@ function fault(text) {
   faults[++fault_count] = text
 }
 
-# The links of one half of a comment's last paragraph. A name in backquotes stands in the file that is named next; a file
-# without a name before it is linked by its own name. A file is one of the law's crate if its path does not begin with
-# crates/. The file with the proofs of all forms for schedules is linked once, in the head of the page.
+# The links of one half of a comment's last paragraph. A name in backquotes is declared in the next file that is named. A file
+# without a name before it is linked by its own name. A file belongs to the crate of the law unless its path begins with
+# crates/. The file with the proofs of all forms for schedules is linked only once, in the head of the page.
 function links_of(text, crate, name_of_law,    list, part, count, parts, i, pending, names, file, base, at) {
   list = ""
   pending = 0
@@ -64,7 +64,7 @@ function links_of(text, crate, name_of_law,    list, part, count, parts, i, pend
   return list
 }
 
-# The row of the law that begins at line `number` of `file`
+# The row of the law that begins at line `number` of `file`.
 function row_of(name, file, number,    at, definitions, proofs, crate, answers) {
   crate = crate_of(file)
   at = index(sources, "Proof")

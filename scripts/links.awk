@@ -1,7 +1,7 @@
-# Lists what the pages say of each other: see scripts/links. It prints `anchor PAGE NAME` for each heading, as GitHub names it,
-# and `link PAGE LINE TARGET` for each link and picture. Code in the text is no link and no heading.
+# Lists the headings and links of the pages: see scripts/links. It prints `anchor PAGE NAME` for each heading, as GitHub names
+# it, and `link PAGE LINE TARGET` for each link and picture. Code in the text is neither a link nor a heading.
 
-# The name of a heading: small letters, hyphens for spaces, and no other mark. A second one of the same name gets -1
+# The name of a heading: lower case, with hyphens for spaces and no other punctuation. A second one of the same name gets -1.
 function name_of(heading,    name) {
   name = tolower(heading)
   gsub(/[^a-z0-9 _-]/, "", name)
@@ -9,7 +9,7 @@ function name_of(heading,    name) {
   return seen[FILENAME, name]++ ? name "-" (seen[FILENAME, name] - 1) : name
 }
 
-# What a line says outside of code in backquotes, which may go on from the line before
+# The text of a line outside of code in backquotes, which may have started on an earlier line.
 function plain(text,    count, parts, i, kept) {
   kept = ""
   count = split(text, parts, "`")
@@ -21,7 +21,7 @@ function plain(text,    count, parts, i, kept) {
 }
 
 FNR == 1 { in_code = 0 }
-# no code goes on from one row of a table, heading or item of a list into the next
+# code in backquotes ends at the latest with its row of a table, heading or item of a list
 FNR == 1 || /^ *($|\||#|[-*+] |[0-9]+\. )/ { in_span = 0 }
 
 /^ *(```|~~~)/ { in_code = !in_code; next }

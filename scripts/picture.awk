@@ -1,4 +1,4 @@
-# What all pictures have alike: texts, the two sets of colours, and the head of a picture.
+# The common parts of all pictures: texts, the two sets of colours, and the head of a picture.
 
 function escape(text) {
   gsub(/&/, "\\&amp;", text)
@@ -7,7 +7,7 @@ function escape(text) {
   return text
 }
 
-# two sets of colours: the second for readers who want a dark page
+# a set of colours; there are two, the second for readers who prefer a dark page
 function colours(back, ink, soft, faint, own, carry, sleep, post, grant) {
   printf ".back{fill:%s}.ink{fill:%s}.soft{fill:%s}.halo{stroke:%s}", back, ink, soft, back
   printf ".box{fill:%s;stroke:%s}.plain{stroke:%s}.plainhead{fill:%s}", back, soft, soft, soft
@@ -21,7 +21,7 @@ function label(x, y, class, anchor, text) {
   printf "<text x=\"%d\" y=\"%d\" class=\"%s\"%s>%s</text>\n", x, y, class, anchor == "" ? "" : " text-anchor=\"" anchor "\"", text
 }
 
-# begins a picture of this size, with its styles and its background
+# prints the start of a picture of this size, with its styles and its background
 function open_picture(title, width, height) {
   printf "<svg xmlns=\"http://www.w3.org/2000/svg\" viewBox=\"0 0 %d %d\" width=\"%d\" height=\"%d\" role=\"img\">\n", width, height, width, height
   printf "<title>%s</title>\n<style>\n", escape(title)

@@ -1,7 +1,7 @@
 # shellcheck shell=bash
-# Chooses the processors that a script runs on, and starts busy programs: sourced by the scripts that measure or stress.
+# Chooses the processors that a script runs on, and starts busy programs. The scripts that measure or stress source this file.
 
-# first_processors COUNT   the first COUNT of the processors that this script may run on, with commas between them
+# first_processors COUNT   prints the first COUNT of the processors that this script may run on, separated by commas
 first_processors() {
   local from to
   taskset -cp "$$" | sed 's/.*: *//' | tr ',' '\n' | while IFS=- read -r from to; do
@@ -9,7 +9,7 @@ first_processors() {
   done | head -n "$1" | paste -sd,
 }
 
-# busy_programs COUNT COMMAND..   starts COUNT programs that do nothing but compute, each by the command, and keeps their
+# busy_programs COUNT COMMAND..   starts COUNT programs that only compute, each by the command, and keeps their process
 # numbers in `busy`
 busy_programs() {
   local started
@@ -20,7 +20,7 @@ busy_programs() {
   done
 }
 
-# end_busy_programs   ends those programs
+# end_busy_programs   ends these programs
 end_busy_programs() {
   if [ "${#busy[@]}" != 0 ]; then
     kill -- "${busy[@]}"

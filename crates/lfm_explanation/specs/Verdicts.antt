@@ -14,6 +14,6 @@ AnswersVerdict (Err Read) verdict old new = Keeps old new
 AnswersVerdict (Err Write) verdict old new = ⊤
 AnswersVerdict (Err Memory) verdict old new = Keeps old new
 
--- the verdict of a replay of the input
+-- the result is the verdict of a replay of the input
 abbrev pub Judges : Result Bool ReplayFault → List ℕ → Option (List ℕ) → Option (List ℕ) → Type 0
 Judges result input old new = AnswersVerdict result (verdict_of input) old new

@@ -18,7 +18,7 @@ use Rattle.lfm_program.specs.Works.{SomeWork, TellsWork, Works}
 use Rattle.lfm_script.proofs.RunReports.{script_told}
 use Rattle.lfm_script.proofs.scripts.Plans.{plan_only}
 
--- bytes that have not changed are kept
+-- Keeps is reflexive
 pub keeps_same : (a : Option (List ℕ)) → Keeps a a
 keeps_same None = tt
 keeps_same (Some x) = refl

@@ -1,6 +1,6 @@
 //! The line at which workers wait until all of them have been started.
 //!
-//! It is made of std's `Mutex` and `Condvar`, which `lfm work` has to use here. `StartLatch` of `lfm_threads` does the same for
+//! It uses std's `Mutex` and `Condvar`, which `lfm work` has to use here. `StartLatch` of `lfm_threads` does the same for
 //! `share`, and it is also proved there that all threads find the same decision.
 
 use std::sync::{Condvar, Mutex, Wait};
@@ -40,12 +40,12 @@ impl StartingLine {
         *start == Start::Go
     }
 
-    /// Lets all workers start: those that sleep here, which it wakes, and those that come later.
+    /// Lets all workers start: those that sleep here, which it wakes, and those that call `wait` later.
     pub fn let_go<R: Wait>(&self, rt: &R) {
         self.open(rt, Start::Go);
     }
 
-    /// Calls the start off: those that sleep here, or come later, have nothing to do. It wakes those that sleep here.
+    /// Calls the start off: those that sleep here, or call `wait` later, have nothing to do. It wakes those that sleep here.
     pub fn call_off<R: Wait>(&self, rt: &R) {
         self.open(rt, Start::CalledOff);
     }

@@ -80,7 +80,7 @@ fn work_input<R: Threads + Wait + Sync, G: Gate, W: Write>(
     }
 }
 
-/// Reads a script, runs its workers on one monitor, each in its own thread, and writes the report of the run. Returns true if
+/// Reads a script, runs its workers on one monitor, each in its own thread, and writes the report of the run. Returns whether
 /// the journal is lawful, which it always is, and no worker was refused. Each of N workers may write 1,048,576 / N entries,
 /// rounded down. It sleeps until all workers have ended.
 ///
@@ -108,7 +108,7 @@ pub fn work<R: Threads + Wait + Sync, G: Gate, I: Read, W: Write>(
     // If no worker was refused, the text that is written is a function of the script.
     ensures script { IfSome (I.remaining reader.old) (λ input. (p : Plan) → script_in input ≡ Ok p → result ≡ Ok true →
         Appends (W.contents writer.old) (W.contents writer.new) (script_text p)) }
-    // Stuck is answered only if the gate stops some worker before one of its commands.
+    // Stuck is answered only with a gate that may stop some worker before one of its commands.
     ensures stuck { result ≡ Err WorkFault.Stuck → (p : Plan) × StopsIn (G.stops gate.now) p }
 {
     let input = read_input(alloc, reader)?;

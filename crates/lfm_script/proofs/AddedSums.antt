@@ -43,7 +43,7 @@ share_within a k (suc n) p h = dite (ℕ_discrete k (suc n))
     (λ e. let rest = share_past a k n (omega arith) in let here = share_same a k (suc n) e in omega arith)
     (λ ne. let rest = share_within a k n p (omega arith) in let here = share_other a k (suc n) ne in omega arith)
 
--- a more at k makes the sum larger by a
+-- if g is greater than f by a at k and equal elsewhere, its sum is greater by a
 one_more : (n k a : ℕ) (f g : ℕ → ℕ) → 0 < k → k ≤ n → ((s : ℕ) → g s ≡ share_at a k s + f s) → sum_to g n ≡ a + sum_to f n
 one_more n k a f g above within splits =
     let all = sum_ext g (λ s. share_at a k s + f s) n splits in
@@ -68,7 +68,7 @@ own_commands : (b : Bool) (m : Command) (ms : List Command) → sum (all_adds (i
 own_commands true m ms = sum-append (command_adds m) (all_adds ms)
 own_commands false m ms = omega arith
 
--- a line whose worker exists, in front of such lines
+-- an allowed line, in front of allowed lines
 record Allowed (n c : ℕ) (l : ScriptLine) (ls : List ScriptLine) : Type 0 where
   above : 0 < l.worker
   within : l.worker ≤ n

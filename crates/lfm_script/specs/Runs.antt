@@ -58,7 +58,7 @@ RefusedAt conditions ms i r = (c : Command) × (get_elem? ms i ≡ some c) × Ma
 
 -- The text is the report of a run in which each worker made its first commands: all of them if it was not refused, and
 -- otherwise those before the refused one. There is a lawful journal of exactly these adds. All its entries are by the workers,
--- and no worker has more than its share. If the verdict is true, no worker was refused.
+-- and no worker has more than its share. The verdict is true exactly if no worker was refused.
 pub record IsReport (p : Plan) (text : List ℕ) (verdict : Bool) : Type 0 where
   pub made : ℕ → ℕ
   pub refused : ℕ → Option Refusal

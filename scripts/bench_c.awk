@@ -1,8 +1,8 @@
-# Makes the tables of scripts/bench_c of its programs' lines, ROW|LOCK|MEDIAN|LEAST|GREATEST: a column for each lock, with the
-# medians, and after each lock of ours its ratio to the other lock of its language. If `form` is `page`, it makes the table of a
-# page, which has the ratios alone, with the greatest first; if it is `rows`, the lines of a chart.
+# Makes the tables of scripts/bench_c from the lines of its programs, ROW|LOCK|MEDIAN|LEAST|GREATEST: a column for each lock, with
+# the medians, and after each lock of ours its ratio to the other lock of its language. If `form` is `page`, it makes the table of a
+# page, which has only the ratios, with the greatest first; if it is `rows`, the lines of a chart.
 
-# A lock, and the lock beside which it is measured, if it is ours.
+# Adds the column of a lock; `other` is the lock that it is compared with, if it is ours.
 function column(lock, heading, other) {
   locks[++count] = lock
   headings[lock] = heading
@@ -22,7 +22,7 @@ BEGIN {
   column("parking_lot, fair", "fair")
 }
 
-# Of a row of costs the name is `SEATS seats: WHAT`.
+# The name of a row of costs is `SEATS seats: WHAT`.
 / seats: / {
   split($1, part, " seats: ")
   if (!((part[1], "open") in cost)) seats[++kinds] = part[1]
@@ -47,7 +47,7 @@ function ratio(value, other) {
   return sprintf(value < 10 ? "%.2f" : value < 100 ? "%.1f" : "%.0f", value)
 }
 
-# The table of the rows whose names end in this, or if it is empty, of the others, with ratios.
+# Prints the table, with ratios, of the rows whose names end in `end`, or of the other rows if it is empty.
 function table(what, end,    at, row, name, line, lock) {
   line = sprintf("%-25s", what)
   for (at = 1; at <= count; at++)

@@ -1,5 +1,5 @@
-# Turns what `lfm_explain` prints into a picture: see scripts/draw. `title` is what stands above it, and `schedule` the
-# file whose lines stand at its left. It needs scripts/picture.awk.
+# Turns the output of `lfm_explain` into a picture: see scripts/draw. `title` is the heading, and `schedule` is the file whose
+# lines are shown at the left. It needs scripts/picture.awk.
 
 # ---- reading: one row for each start of a call, step and answer
 
@@ -15,7 +15,7 @@ function add_row(seat, kind, name, detail) {
   }
 }
 
-# the values at the side after this row
+# sets the values at the side after this row
 function set_side() {
   side_count[rows] = count
   side_owner[rows] = owner
@@ -23,7 +23,7 @@ function set_side() {
   side_queue[rows] = queue
 }
 
-# the responsibility leaves where it was, and is at a place from this row on
+# the responsibility leaves its place, and is at the new place from this row on
 function go_to(place, seat,    parts) {
   if (at == "owner" || at == "carried") add_bar(at, at_seat, at_row, rows)
   if (at == "posted" && place ~ /^carried/) add_arrow("post", at_seat, at_row, seat, rows)
@@ -52,7 +52,7 @@ function add_arrow(kind, from_seat, from, to_seat, to) {
   arrow_to[arrows] = to
 }
 
-# a pair such as (1, 2) without its space, so that a comma with a space ends a part of the line
+# removes the space from a pair such as (1, 2), so that a comma with a space ends a part of the line
 function close_pairs(text) {
   while (match(text, /\([0-9]+, /)) text = substr(text, 1, RSTART + RLENGTH - 2) substr(text, RSTART + RLENGTH)
   return text
@@ -63,7 +63,7 @@ function open_pairs(text) {
   return text
 }
 
-# the queue after a record was pushed, or after the oldest one left
+# updates the queue after a record was pushed, or after the oldest one left
 function push_record(pair,    parts) {
   gsub(/[()]/, "", pair)
   split(pair, parts, ",")
@@ -207,7 +207,7 @@ function draw_bar(kind, seat, from, to,    x, y, height) {
   }
 }
 
-# where the label of a row ends: seven units for each letter are more than the letters of the font take on average
+# where the label of a row ends; seven units a letter are more than the average width of the letters of the font
 function label_end(row,    text) {
   text = row_name[row] (wide && row_detail[row] != "" ? " " row_detail[row] : "")
   gsub(/\342\206\222/, ">", text)
@@ -261,9 +261,9 @@ function draw_side(row, before,    y) {
   draw_value(side + 152, y, side_queue[row], side_queue[before])
 }
 
-# ---- the legend: what the picture has, one entry after another, in rows no wider than the picture
+# ---- the legend: the signs that the picture has, in rows no wider than the picture
 
-# the place of the next entry, which is as wide as its sign and its text
+# moves to the place of the next entry, which is as wide as its sign and its text
 function next_entry(text,    wanted) {
   wanted = 46 + length(text) * 7
   if (legend_x + wanted > width - 16 && legend_x > gutter + 20) {
@@ -296,7 +296,7 @@ function arrow_entry(text, kind) {
   label(entry_x + 32, legend_y + 4, "soft", "", text)
 }
 
-# goes through the entries from this height on, and draws them if `draws` is 1
+# places the entries from this height on, and draws them if `draws` is 1
 function legend(y, draws) {
   legend_x = gutter + 20
   legend_y = y

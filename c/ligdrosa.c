@@ -293,16 +293,18 @@ struct lfm_core {
   uint64_t budget;
   uint64_t left;     /* how many takes the seats had left, each when it was last taken or given back */
   struct spent_seat *spent;
+  lfm_seat *passed;  /* seats that were given back while queued, and have been passed by since */
   uint32_t seats;
   uint32_t most;     /* the greatest number of a seat that was ever taken */
   uint32_t references;
   uint32_t in_hand;  /* how many seats of lfm_seat_take are not given back */
   uint32_t guard;    /* of the handle, `left`, `in_hand` and `spent` */
-  uint32_t queued;   /* how many seats are queued by locks */
+  uint32_t queued;   /* how many seats are queued by locks that have not returned */
+  int32_t orphans;   /* how many seats that were given back are still queued */
   uint32_t near;     /* a seat spins only if at most this number are queued: the number of processors, or 0 if there is one */
   uint32_t is_ended; /* the lfm_mutex is closed */
   pid_t process;     /* in which it was opened */
-  uint32_t *bells[] __attribute__((aligned(LINE))); /* of the seats that are taken, by their numbers */
+  uintptr_t places[] __attribute__((aligned(LINE))); /* of the seats that are taken, from seat 1 on */
 } __attribute__((aligned(LINE)));
 
 static uint32_t count_up(uint32_t *count) { return __atomic_add_fetch(count, 1, __ATOMIC_RELAXED); }
@@ -329,7 +331,7 @@ static struct lfm_core *new_core(uint64_t seats, uint64_t budget, lfm_status *ca
   bool is_known = is_known_library();
   *cause = is_known ? LFM_LIMIT : LFM_OTHER_HEADER;
   if (!is_known || seats == 0 || seats > LFM_MOST_SEATS) return NULL;
-  struct lfm_core *core = (struct lfm_core *)new_lines(sizeof *core + (seats + 1) * sizeof core->bells[0]);
+  struct lfm_core *core = (struct lfm_core *)new_lines(sizeof *core + seats * sizeof core->places[0]);
   *cause = LFM_NO_MEMORY;
   if (!core) return NULL;
   lfm_c_blank_mutex(core->handle);
@@ -362,12 +364,30 @@ static void sort_seats(struct lfm_core *core) {
   free(seats);
 }
 
+/* Takes back the seats that were given back while queued and have been passed by since. The guard is held. */
+SELDOM void take_back(struct lfm_core *core) {
+  lfm_seat *seat = __atomic_exchange_n(&core->passed, NULL, __ATOMIC_ACQUIRE), *next;
+  for (; seat; seat = next) {
+    next = (lfm_seat *)(uintptr_t)seat->kept;
+    core->left -= seat->left - lfm_c_left(seat->handle);
+    lfm_c_give_seat(core->handle, seat->handle);
+    free(seat);
+  }
+}
+
+/* Enters the guard, and leaves nothing to be taken back. */
+static void enter_seats(struct lfm_core *core) {
+  enter(&core->guard);
+  if (UNLIKELY(__atomic_load_n(&core->passed, __ATOMIC_RELAXED))) take_back(core);
+}
+
 /* Gives up a reference. With the last, all seats are back but those that were exchanged. ThreadSanitizer is told that the last
  * comes after all others: it sees the memory being freed. */
 static void drop(struct lfm_core *core) {
   if (__tsan_release) __tsan_release(&core->references);
   if (count_down(&core->references) != 0) return;
   if (__tsan_acquire) __tsan_acquire(&core->references);
+  take_back(core);
   for (struct spent_seat *seat = core->spent, *next; seat; seat = next) {
     next = seat->next;
     lfm_c_give_seat(core->handle, seat->handle);
@@ -415,8 +435,9 @@ lfm_status lfm_mutex_open(lfm_mutex *mutex, uint64_t seats, uint64_t budget, int
 }
 
 /* What is done at each call of a seat besides: IS_CHECKED tests that it is in no other call, IS_WATCHED tells tools, and
- * IS_LATE gives the seat back after the call, since its thread ends. */
-enum { IS_CHECKED = 1, IS_WATCHED = 2, IS_LATE = 4 };
+ * IS_LATE gives the seat back after the call, since its thread ends. HAS_LEFT is set from the end of a timed lock that left its
+ * seat in the queue until a call of the seat finds that its place was passed by. */
+enum { IS_CHECKED = 1, IS_WATCHED = 2, IS_LATE = 4, HAS_LEFT = 8 };
 
 static uint32_t watched(void) { return __tsan_acquire || IS_IN_VALGRIND ? IS_WATCHED : 0; }
 
@@ -452,6 +473,63 @@ MOSTLY lfm_status end_call(lfm_seat *seat, lfm_status status) {
 
 MOSTLY bool is_taken(const lfm_seat *seat) { return seat && seat->core; }
 
+/* Places in the queue
+ *
+ * Each seat has a place: a word of the core with the address of the lfm_seat, and one of these states in its low bits.
+ *   WAITS      the seat is not queued, or a lock without a time limit waits at its bell
+ *   TIMED      a lock with a time limit waits at its bell
+ *   ABANDONED  the time of that lock was over, and it has returned; the seat is still queued
+ *   PASSING    the seat was granted the mutex, and the thread that has to wake it gives the mutex up in its stead
+ *   AWAITED    the same, and a call of the seat sleeps at the bell until that is done
+ *   ORPHANED   as ABANDONED, but the seat was given back; the lfm_seat is memory of the library
+ * The seat's own thread sets TIMED before it asks. Its lock leaves by TIMED -> ABANDONED. Its next lock takes the place up again
+ * by ABANDONED -> TIMED, and keeps its place in the queue. A give goes on from there by TIMED -> ORPHANED. The thread that has
+ * to wake the seat makes TIMED -> WAITS and then rings, or ABANDONED -> PASSING, or takes an ORPHANED one out. PASSING and
+ * AWAITED end in WAITS. Each of these steps is a compare-and-exchange, unless no other thread may change the place.
+ *
+ * Each grant is received by one thread. One answer of the library names the seat that it granted the mutex, so one thread has
+ * to wake it. The steps by which it does so and those of the seat's own thread exclude each other. If the waker makes
+ * TIMED -> WAITS, the lock's step to ABANDONED fails, and the lock waits for the ring and receives. If the waker makes
+ * ABANDONED -> PASSING or takes an orphan out, the seat's thread can no longer take the place up, and the waker receives.
+ *
+ * No wake-up is lost. The waker tries until one of its steps succeeds. A step fails only if the seat's thread has made one, and
+ * a place that it has left to ORPHANED it changes no more. After it has received, the waker unlocks at once by the same seat.
+ * That answer may name the next seat, which it wakes too. So an unlock wakes a seat that waits, or leaves the mutex free or to
+ * a thread that has begun to ask, however many places were abandoned.
+ *
+ * Nothing is touched after its end. The waker touches the core, which its own seat keeps. It touches an lfm_seat to ring, and
+ * then the seat's thread waits for that ring; in the states PASSING and AWAITED, and a give waits until they are over; and an
+ * orphan, which is its own. The exchange PASSING -> WAITS is the last that touches the seat. If it fails, the seat's thread
+ * waits for a ring, which is the last then. */
+enum { WAITS, TIMED, ABANDONED, PASSING, AWAITED, ORPHANED, STATES = 7 };
+_Static_assert(_Alignof(lfm_seat) > STATES, "a state fits below the address of a seat");
+
+static uintptr_t place_word(const lfm_seat *seat, uintptr_t state) { return (uintptr_t)seat | state; }
+static lfm_seat *seat_at(uintptr_t word) { return (lfm_seat *)(word & ~(uintptr_t)STATES); }
+static uintptr_t *place_of(const lfm_seat *seat) { return &seat->core->places[seat->number - 1]; }
+
+static void set_place(const lfm_seat *seat, uintptr_t state) {
+  __atomic_store_n(place_of(seat), place_word(seat, state), __ATOMIC_RELAXED);
+}
+
+static uintptr_t state_of(const lfm_seat *seat) { return __atomic_load_n(place_of(seat), __ATOMIC_ACQUIRE) & STATES; }
+
+/* Changes the place of a seat between two states, by its own thread. */
+static bool changes(const lfm_seat *seat, uintptr_t from, uintptr_t to) {
+  uintptr_t found = place_word(seat, from);
+  return __atomic_compare_exchange_n(place_of(seat), &found, place_word(seat, to), false, __ATOMIC_ACQ_REL, __ATOMIC_ACQUIRE);
+}
+
+/* Whether an abandoned place was passed by. Then the seat is free for any call. */
+SELDOM bool is_passed(lfm_seat *seat) {
+  if (state_of(seat) != WAITS) return false;
+  seat->flags &= (uint16_t)~HAS_LEFT;
+  return true;
+}
+
+/* Whether the seat is still queued for a lock that has returned, or is being passed by. Its handle is not to be touched then. */
+MOSTLY bool is_away(lfm_seat *seat) { return UNLIKELY(seat->flags & HAS_LEFT) && !is_passed(seat); }
+
 /* Takes a seat for this handle. The guard is held. */
 static lfm_status take_handle(struct lfm_core *core, void *handle) {
   lfm_status status = status_of(lfm_c_take_seat(core->handle, handle));
@@ -464,19 +542,20 @@ static lfm_status take_handle(struct lfm_core *core, void *handle) {
 static lfm_status take(struct lfm_core *core, lfm_seat *seat, uint32_t flags, uint32_t in_hand) {
   hide(seat, offsetof(lfm_seat, unused));
   lfm_c_blank_seat(seat->handle);
-  enter(&core->guard);
+  enter_seats(core);
   lfm_status status = take_handle(core, seat->handle);
   if (status == LFM_DONE) core->in_hand += in_hand;
   leave(&core->guard);
   if (status != LFM_DONE) return status;
   seat->core = core;
   seat->unrung = NULL;
-  seat->flags = flags | watched();
+  seat->flags = (uint16_t)(flags | watched());
+  seat->number = (uint16_t)lfm_c_number(seat->handle);
   seat->is_in_call = 0;
   seat->left = lfm_c_left(seat->handle);
   seat->bell = SILENT;
   seat->looks = seat->waits = 0;
-  core->bells[lfm_c_number(seat->handle)] = &seat->bell;
+  set_place(seat, WAITS);
   count_up(&core->references);
   return LFM_DONE;
 }
@@ -489,7 +568,7 @@ static lfm_status give(lfm_seat *seat, uint32_t in_hand) {
     return LFM_DONE;
   }
   uint64_t made = seat->left - lfm_c_left(seat->handle);
-  enter(&core->guard);
+  enter_seats(core);
   lfm_status status = status_of(lfm_c_give_seat(core->handle, seat->handle));
   if (status == LFM_DONE) {
     core->left -= made;
@@ -513,14 +592,18 @@ static lfm_status take_in_hand(lfm_mutex *mutex, lfm_seat *seat, uint32_t flags)
 lfm_status lfm_seat_take(lfm_mutex *mutex, lfm_seat *seat) { return take_in_hand(mutex, seat, 0); }
 lfm_status lfm_seat_take_checked(lfm_mutex *mutex, lfm_seat *seat) { return take_in_hand(mutex, seat, IS_CHECKED); }
 
-uint64_t lfm_number(lfm_seat *seat) { return is_taken(seat) ? lfm_c_number(seat->handle) : 0; }
-uint64_t lfm_depth(lfm_seat *seat) { return is_taken(seat) ? lfm_c_depth(seat->handle) : 0; }
-uint64_t lfm_left(lfm_seat *seat) { return is_taken(seat) ? lfm_c_left(seat->handle) : 0; }
+uint64_t lfm_number(lfm_seat *seat) { return is_taken(seat) ? seat->number : 0; }
+uint64_t lfm_depth(lfm_seat *seat) { return is_taken(seat) && !is_away(seat) ? lfm_c_depth(seat->handle) : 0; }
+
+uint64_t lfm_left(lfm_seat *seat) {
+  if (!is_taken(seat)) return 0;
+  return is_away(seat) ? seat->kept : lfm_c_left(seat->handle);
+}
 
 uint64_t lfm_takes_left(lfm_mutex *mutex) {
   struct lfm_core *core = mutex ? __atomic_load_n(&mutex->core, __ATOMIC_ACQUIRE) : NULL;
   if (!core) return mutex && mutex->version ? mutex->seats * LFM_MOST_TAKES : 0;
-  enter(&core->guard);
+  enter_seats(core);
   uint64_t left = core->left;
   leave(&core->guard);
   return left;
@@ -539,7 +622,7 @@ SELDOM struct spent_seat *reserve(struct lfm_core *core) {
     errno = before;
     if (!found) return NULL;
     lfm_c_blank_seat(found->handle);
-    enter(&core->guard);
+    enter_seats(core);
     bool is_there = take_handle(core, found->handle) == LFM_DONE;
     bool is_spent = is_there && lfm_c_left(found->handle) == 0;
     if (is_spent) {
@@ -566,7 +649,8 @@ SELDOM void exchange(lfm_seat *seat, struct spent_seat *reserved) {
   reserved->next = core->spent;
   core->spent = reserved;
   leave(&core->guard);
-  core->bells[lfm_c_number(seat->handle)] = &seat->bell;
+  seat->number = (uint16_t)lfm_c_number(seat->handle);
+  set_place(seat, WAITS);
   seat->left = lfm_c_left(seat->handle);
 }
 
@@ -580,38 +664,140 @@ SELDOM bool is_renewed(lfm_seat *seat) {
 /* Locks
  *
  * One call of the library grants the mutex to at most one seat, and its answer names that seat, which is proved. The thread
- * that made the call rings that seat's bell before it sleeps itself. So each grant is rung for, once.
+ * that made the call wakes that seat before it sleeps itself. So each grant is rung for, once, or the place is passed by.
  *
- * The place of a seat's bell in `bells`, and the SILENT in the bell, are plain words, which the seat's thread writes before its
- * ask. Another thread reads them only to ring, after it found that ask in the library's words. Those are atomic, and so they
- * order the two. ThreadSanitizer doesn't see them: if it watches this file, it reports a race at `told` and one at `ring`, and
- * neither is one. */
+ * The SILENT in a bell is a plain word, which the seat's thread writes before its ask. Another thread touches the bell only to
+ * ring, after it found that ask in the library's words. Those are atomic, and so they order the two. ThreadSanitizer doesn't
+ * see them: if it watches this file, it reports a race at `ring`, which is none. */
 
-/* Rings for the seat that an answer names, and returns the status. */
+/* Receives the grant of an abandoned seat and gives the mutex up: the number of the seat that is to be woken next, or 0. */
+static uint64_t receive_and_unlock(lfm_seat *seat) {
+  lfm_c_receive(seat->handle);
+  return lfm_c_unlock(seat->handle) >> 8;
+}
+
+/* Does the part of a seat whose place is PASSING, and makes it free for calls of its own thread. */
+static uint64_t pass(lfm_seat *seat, uintptr_t *place) {
+  uint64_t next = receive_and_unlock(seat);
+  uintptr_t found = place_word(seat, PASSING), waits = place_word(seat, WAITS);
+  if (__atomic_compare_exchange_n(place, &found, waits, false, __ATOMIC_ACQ_REL, __ATOMIC_ACQUIRE)) return next;
+  __atomic_store_n(place, waits, __ATOMIC_RELAXED);
+  ring(&seat->bell);
+  return next;
+}
+
+/* Does the part of an orphan, and leaves it to be taken back by the next thread that takes a seat or gives one: that may sleep,
+ * and the calling thread may not. A thread that gains the mutex later finds one orphan less. */
+static uint64_t pass_orphan(struct lfm_core *core, lfm_seat *seat) {
+  lfm_c_receive(seat->handle);
+  __atomic_sub_fetch(&core->orphans, 1, __ATOMIC_RELAXED);
+  uint64_t next = lfm_c_unlock(seat->handle) >> 8;
+  lfm_seat *top = __atomic_load_n(&core->passed, __ATOMIC_RELAXED);
+  do seat->kept = (uintptr_t)top;
+  while (!__atomic_compare_exchange_n(&core->passed, &top, seat, false, __ATOMIC_RELEASE, __ATOMIC_RELAXED));
+  drop(core); /* the seat's reference, which is not the last: the calling thread's seat has one */
+  return next;
+}
+
+/* Wakes a seat that was queued by a lock with a time limit, or passes it by: the number of the seat that is to be woken next,
+ * or 0. */
+SELDOM uint64_t wake_or_pass(struct lfm_core *core, uintptr_t *place, uintptr_t found) {
+  for (;;) {
+    lfm_seat *seat = seat_at(found);
+    uintptr_t state = found & STATES;
+    uintptr_t next = state == ORPHANED ? 0 : place_word(seat, state == TIMED ? WAITS : PASSING);
+    if (!__atomic_compare_exchange_n(place, &found, next, false, __ATOMIC_ACQ_REL, __ATOMIC_ACQUIRE)) continue;
+    if (state == ABANDONED) return pass(seat, place);
+    if (state == ORPHANED) return pass_orphan(core, seat);
+    ring(&seat->bell);
+    return 0;
+  }
+}
+
+/* Wakes the seat of this number, which a call of the calling thread has granted the mutex. If it is passed by, the same holds
+ * of the next. */
+static void wake_seat(struct lfm_core *core, uint64_t number) {
+  while (number) {
+    uintptr_t *place = &core->places[number - 1], found = __atomic_load_n(place, __ATOMIC_ACQUIRE);
+    if ((found & STATES) == WAITS) {
+      ring(&seat_at(found)->bell);
+      return;
+    }
+    number = wake_or_pass(core, place, found);
+  }
+}
+
+/* Wakes the seat that an answer names, and returns the status. */
 MOSTLY lfm_status told(struct lfm_core *core, uint64_t answer) {
-  if (UNLIKELY(answer > 255)) ring(core->bells[answer >> 8]);
+  if (UNLIKELY(answer > 255)) wake_seat(core, answer >> 8);
   return status_of(answer);
 }
 
-/* Sleeps until the seat, which is queued, is granted the mutex. It spins first, unless more than `near` seats are queued. Then
- * it would only keep a processor from them. */
-SELDOM lfm_status receive(lfm_seat *seat) {
-  struct lfm_core *core = seat->core;
-  bool is_near = count_up(&core->queued) <= core->near;
-  await(&seat->bell, is_near ? LFM_LOOK_NANOSECONDS : 0, NULL);
-  seat->bell = SILENT;
-  count_down(&core->queued);
-  return status_of(lfm_c_receive(seat->handle));
+/* Leaves the place of a seat whose time is over, unless it was granted the mutex before. */
+static bool abandons(lfm_seat *seat) {
+  seat->kept = lfm_c_left(seat->handle);
+  if (!changes(seat, TIMED, ABANDONED)) return false;
+  seat->flags |= HAS_LEFT;
+  return true;
 }
 
-/* Locks in order. */
-static lfm_status queue(lfm_seat *seat) {
+/* Waits until the seat, which is queued, is granted the mutex, at most until the time is over if there is one: then it leaves
+ * its place and is busy. It spins first, unless more than `near` seats are queued. Then it would only keep a processor from
+ * them. */
+SELDOM lfm_status receive(lfm_seat *seat, const struct limit *limit) {
+  struct lfm_core *core = seat->core;
+  uint64_t look = count_up(&core->queued) <= core->near ? LFM_LOOK_NANOSECONDS : 0;
+  if (limit && left_of(limit) < look) look = left_of(limit);
+  bool is_granted = await(&seat->bell, look, limit) || (!abandons(seat) && await(&seat->bell, 0, NULL));
+  seat->bell = SILENT;
+  count_down(&core->queued);
+  return is_granted ? status_of(lfm_c_receive(seat->handle)) : LFM_BUSY;
+}
+
+static lfm_status ask(lfm_seat *seat, const struct limit *limit) {
+  if (limit) set_place(seat, TIMED);
   lfm_status status = told(seat->core, lfm_c_ask(seat->handle));
-  if (UNLIKELY(status == LFM_SPENT) && is_renewed(seat)) status = told(seat->core, lfm_c_ask(seat->handle));
-  return status == LFM_ASLEEP ? receive(seat) : status;
+  if (limit && status != LFM_ASLEEP) set_place(seat, WAITS);
+  return status;
+}
+
+/* Locks in order, at most until the time is over if there is one. */
+static lfm_status queue(lfm_seat *seat, const struct limit *limit) {
+  lfm_status status = ask(seat, limit);
+  if (UNLIKELY(status == LFM_SPENT) && is_renewed(seat)) status = ask(seat, limit);
+  return status == LFM_ASLEEP ? receive(seat, limit) : status;
+}
+
+/* Waits until a seat is passed by whose place is no longer abandoned. That takes two calls of the library. */
+SELDOM void await_passed(lfm_seat *seat) {
+  for (int looks = 0; looks < 64 && !is_passed(seat); looks++) pause_for(PAUSES_PER_LOOK);
+  if (!(seat->flags & HAS_LEFT)) return;
+  if (changes(seat, PASSING, AWAITED)) {
+    await(&seat->bell, 0, NULL);
+    seat->bell = SILENT;
+  }
+  is_passed(seat);
+}
+
+/* Whether the seat has taken up the place that it abandoned: it waits there again. Otherwise it was passed by, and is free. */
+SELDOM bool is_back(lfm_seat *seat) {
+  if (changes(seat, ABANDONED, TIMED)) {
+    seat->flags &= (uint16_t)~HAS_LEFT;
+    return true;
+  }
+  await_passed(seat);
+  return false;
+}
+
+MOSTLY bool has_left(const lfm_seat *seat) { return UNLIKELY(seat->flags & HAS_LEFT); }
+
+/* Locks in order, from the place that the seat abandoned if it has one. */
+static lfm_status queue_again(lfm_seat *seat) {
+  return has_left(seat) && is_back(seat) ? receive(seat, NULL) : queue(seat, NULL);
 }
 
 static lfm_status try_once(lfm_seat *seat) {
+  if (is_away(seat)) return LFM_BUSY;
   lfm_status status = status_of(lfm_c_try_lock(seat->handle));
   return status == LFM_SPENT && is_renewed(seat) ? status_of(lfm_c_try_lock(seat->handle)) : status;
 }
@@ -655,7 +841,7 @@ SELDOM lfm_status lock_slowly(lfm_seat *seat, lfm_status status) {
   if (status == LFM_SPENT) status = try_once(seat);
   if (status == LFM_BUSY) status = spin(seat);
   if (status == LFM_BUSY) status = nap(seat);
-  return status == LFM_BUSY ? queue(seat) : status;
+  return status == LFM_BUSY ? queue(seat, NULL) : status;
 }
 
 MOSTLY lfm_status gained(lfm_seat *seat, lfm_status status) {
@@ -664,38 +850,70 @@ MOSTLY lfm_status gained(lfm_seat *seat, lfm_status status) {
 }
 
 MOSTLY lfm_status lock(lfm_seat *seat) {
+  if (has_left(seat) && is_back(seat)) return gained(seat, receive(seat, NULL));
   lfm_status status = status_of(lfm_c_try_lock(seat->handle));
   if (UNLIKELY(lfm_is_refused(status))) status = lock_slowly(seat, status);
   return gained(seat, status);
 }
 
-/* Locks until the time is over, and never queues, so it can give up. */
+/* Locks until the time is over. It tries as any lock, and naps only if it has the time; then it queues until its time is over,
+ * and leaves its place. */
 static lfm_status lock_until(lfm_seat *seat, const struct limit *limit) {
+  if (has_left(seat) && is_back(seat)) return gained(seat, receive(seat, limit));
   lfm_status status = try_once(seat);
-  if (status == LFM_BUSY) status = spin(seat);
-  uint64_t left, longest = NAP;
-  while (status == LFM_BUSY && (left = left_of(limit)) != 0) {
-    nap_for(left < longest ? left : longest);
-    status = try_if_free(seat, lfm_c_count(seat->handle));
-    longest = 2 * longest < LONGEST_NAP ? 2 * longest : LONGEST_NAP;
-  }
+  if (status == LFM_BUSY && left_of(limit) != 0) status = spin(seat);
+  if (status == LFM_BUSY && left_of(limit) >= 2 * NAPS * NAP) status = nap(seat);
+  if (status == LFM_BUSY && left_of(limit) != 0) status = queue(seat, limit);
   return gained(seat, status);
 }
 
 static void ring_unrung(lfm_seat *seat);
 
 MOSTLY lfm_status unlock(lfm_seat *seat) {
+  if (is_away(seat)) return LFM_NOT_OWNER;
   if (UNLIKELY(seat->flags & IS_WATCHED)) tell_giving_up(seat);
   lfm_status status = told(seat->core, lfm_c_unlock(seat->handle));
   if (UNLIKELY(seat->unrung) && status != LFM_STILL) ring_unrung(seat);
   return status;
 }
 
+/* Whether the seat, which its thread gives back, was still queued and is left to the thread that passes it by, with its
+ * reference, in this memory of the library. The giver touches the core by another reference until it is done. */
+static bool is_orphaned(lfm_seat *seat, lfm_seat *as, uint32_t in_hand) {
+  struct lfm_core *core = seat->core;
+  uintptr_t found = place_word(seat, TIMED), orphaned = place_word(as, ORPHANED);
+  count_up(&core->references);
+  bool is_left = __atomic_compare_exchange_n(place_of(seat), &found, orphaned, false, __ATOMIC_ACQ_REL, __ATOMIC_ACQUIRE);
+  if (is_left) {
+    enter(&core->guard);
+    __atomic_add_fetch(&core->orphans, 1, __ATOMIC_RELAXED);
+    core->in_hand -= in_hand;
+    if (as != seat) seat->is_in_call = 0, seat->core = NULL;
+    leave(&core->guard);
+  }
+  drop(core);
+  return is_left;
+}
+
+/* Gives up the place that the seat abandoned: whether it was left to the thread that passes it by. Otherwise the seat is free.
+ * A seat in hand lies in memory of the program, so a copy is left. Without memory for it, the seat waits until it is granted
+ * the mutex, and gives it up. */
+SELDOM bool is_left_behind(lfm_seat *seat, uint32_t in_hand) {
+  if (!is_back(seat)) return false;
+  lfm_seat *as = in_hand ? (lfm_seat *)new_lines(offsetof(lfm_seat, unused)) : seat;
+  if (as && as != seat) memcpy(as, seat, offsetof(lfm_seat, unused));
+  if (as && is_orphaned(seat, as, in_hand)) return true;
+  if (as != seat) free(as);
+  receive(seat, NULL);
+  unlock(seat);
+  return false;
+}
+
 /* Makes a call with a seat in hand. */
 #define CALL(seat, call) (is_taken(seat) ? (begin_call(seat), end_call(seat, call)) : LFM_BLANK)
 
 lfm_status lfm_lock(lfm_seat *seat) { return CALL(seat, lock(seat)); }
-lfm_status lfm_lock_in_order(lfm_seat *seat) { return CALL(seat, gained(seat, queue(seat))); }
+lfm_status lfm_lock_in_order(lfm_seat *seat) { return CALL(seat, gained(seat, queue_again(seat))); }
 lfm_status lfm_try_lock(lfm_seat *seat) { return CALL(seat, gained(seat, try_once(seat))); }
 lfm_status lfm_unlock(lfm_seat *seat) { return CALL(seat, unlock(seat)); }
 
@@ -703,6 +921,7 @@ lfm_status lfm_unlock(lfm_seat *seat) { return CALL(seat, unlock(seat)); }
 lfm_status lfm_seat_give(lfm_seat *seat) {
   if (!is_taken(seat)) return LFM_BLANK;
   begin_call(seat);
+  if (has_left(seat) && is_of_process(seat->core) && is_left_behind(seat, 1)) return LFM_DONE;
   lfm_status status = give(seat, 1);
   return status == LFM_DONE ? status : end_call(seat, status);
 }
@@ -784,9 +1003,15 @@ static void empty(size_t hole) {
 /* Gives back the seat at this place, unless it holds, and empties the place. */
 static bool give_back(size_t at) {
   lfm_seat *seat = own.places[at].seat;
-  if (is_of_process(seat->core)) ring_unrung(seat); /* a forked child doesn't have the threads that wait */
-  if (give(seat, 0) != LFM_DONE) return false;
-  free(seat);
+  bool is_left = false;
+  if (is_of_process(seat->core)) { /* a forked child doesn't have the threads that wait */
+    ring_unrung(seat);
+    is_left = has_left(seat) && is_left_behind(seat, 0);
+  }
+  if (!is_left) {
+    if (give(seat, 0) != LFM_DONE) return false;
+    free(seat);
+  }
   empty(at);
   return true;
 }
@@ -917,7 +1142,7 @@ MOSTLY lfm_status end_here(lfm_seat *seat, lfm_status status) {
   return seat ? end_here(seat, call) : cause
 
 lfm_status lfm_lock_here(lfm_mutex *mutex) { CALL_HERE(mutex, lock(seat)); }
-lfm_status lfm_lock_in_order_here(lfm_mutex *mutex) { CALL_HERE(mutex, gained(seat, queue(seat))); }
+lfm_status lfm_lock_in_order_here(lfm_mutex *mutex) { CALL_HERE(mutex, gained(seat, queue_again(seat))); }
 lfm_status lfm_try_lock_here(lfm_mutex *mutex) { CALL_HERE(mutex, gained(seat, try_once(seat))); }
 
 lfm_status lfm_try_lock_for_here(lfm_mutex *mutex, uint64_t nanoseconds) {
@@ -944,6 +1169,10 @@ uint64_t lfm_depth_here(lfm_mutex *mutex) { return lfm_depth(find_of(mutex)); }
  * there is none, it is not seen. */
 static bool is_in_use(struct lfm_core *core) {
   lfm_seat *seat = find(core), looks;
+  if (seat && is_away(seat)) {
+    if (state_of(seat) == ABANDONED) return true;
+    await_passed(seat);
+  }
   if (seat) return lfm_c_count(seat->handle) != 0;
   if (take(core, &looks, 0, 0) != LFM_DONE) return false;
   bool is_used = lfm_c_count(looks.handle) != 0;
@@ -959,7 +1188,7 @@ lfm_status lfm_mutex_close(lfm_mutex *mutex) {
     uint32_t in_hand = core->in_hand;
     leave(&core->guard);
     if (in_hand) return LFM_NOT_BACK;
-    if (is_in_use(core)) return LFM_HOLDING;
+    if (__atomic_load_n(&core->orphans, __ATOMIC_RELAXED) > 0 || is_in_use(core)) return LFM_HOLDING;
     __atomic_store_n(&core->is_ended, 1, __ATOMIC_RELEASE);
     for (size_t at = home_of(core); own.places[at].core; at = (at + 1) & own.last) {
       if (own.places[at].core != core) continue;
@@ -1004,7 +1233,8 @@ lfm_status lfm_after_fork(lfm_mutex *mutex, lfm_seat *seat) {
     lfm_c_blank_seat(looks.handle);
     if (lfm_c_take_seat(core->handle, looks.handle) == LFM_DONE) found = &looks;
   }
-  if (!found || (lfm_c_depth(found->handle) == 0 && lfm_c_count(found->handle) != 0)) return LFM_BUSY;
+  if (!found || (found != &looks && is_away(found))) return LFM_BUSY;
+  if (lfm_c_depth(found->handle) == 0 && lfm_c_count(found->handle) != 0) return LFM_BUSY;
   return make_new(mutex, found == &looks ? NULL : found, seat != NULL);
 }
 
@@ -1090,6 +1320,7 @@ static bool hears_soon(lfm_seat *seat, uint32_t *bell) {
 /* Why a wait of this seat is refused, or LFM_DONE. An unlock of a seat that doesn't hold is refused and says why. If the seat
  * has no take left for the gain after the wait, it is to be exchanged for the reserved one. */
 static lfm_status refuses_wait(lfm_seat *seat, struct spent_seat **reserved) {
+  if (is_away(seat)) return LFM_NOT_OWNER;
   uint64_t depth = lfm_c_depth(seat->handle);
   if (depth == 0) return status_of(lfm_c_unlock(seat->handle));
   if (depth > 1) return LFM_NESTED;
@@ -1114,7 +1345,7 @@ static lfm_status wait_until(lfm_condvar *condvar, lfm_seat *seat, const struct 
   bool is_done = (is_alone && hears_soon(seat, &waiter.bell)) || is_woken(condvar, &waiter, limit);
   if (limit && count_down(&condvar->inside) == IS_CLOSING) wake_sleeper(&condvar->inside);
   /* Of threads that are woken together each would nap while another holds. In order they go on one after another. */
-  status = is_done && waiter.is_one_of_many ? gained(seat, queue(seat)) : lock(seat);
+  status = is_done && waiter.is_one_of_many ? gained(seat, queue(seat, NULL)) : lock(seat);
   return is_done || lfm_is_refused(status) ? status : LFM_TIMED_OUT;
 }
 
@@ -1161,7 +1392,7 @@ static void ring_unrung(lfm_seat *seat) {
 /* Rings for a waiter that was taken out of its list, or puts it off. The caller's seat is this one, or else finds itself. */
 static void ring_for(struct lfm_waiter *waiter, lfm_seat *seat) {
   if (!seat || seat->core != waiter->core) seat = find(waiter->core);
-  if (waiter->is_timed || !seat || lfm_c_depth(seat->handle) == 0) {
+  if (waiter->is_timed || lfm_depth(seat) == 0) {
     ring(&waiter->bell);
     return;
   }

@@ -62,7 +62,8 @@ uint64_t stopped_ask(void *handle) {
   uint64_t number = answer >> 8;
   if (number != 0) {
     __atomic_fetch_add(&named, 1, __ATOMIC_SEQ_CST);
-    if (bell_of(mutex.core->bells[number]) == LISTENED) __atomic_fetch_add(&named_asleep, 1, __ATOMIC_SEQ_CST);
+    lfm_seat *granted = seat_at(mutex.core->places[number - 1]);
+    if (bell_of(&granted->bell) == LISTENED) __atomic_fetch_add(&named_asleep, 1, __ATOMIC_SEQ_CST);
   }
   return answer;
 }

@@ -20,7 +20,7 @@
  *
  * A thread calls a mutex through a seat. Calls whose names end in `here` find the calling thread's seat by themselves. The
  * others are given a seat (lfm_seat_take), for programs that want no thread-local memory. Then only lfm_mutex_new takes memory,
- * and a lock that exchanges a spent seat.
+ * a lock that exchanges a spent seat, and a give of a seat that a timed lock has left queued.
  *
  * Each call answers a status. Null, a mutex that is not open and a seat that is not taken are answered by LFM_BLANK. A call
  * that is refused has changed nothing, unless it says so. Only these may change errno: calls that open or close a mutex, or
@@ -146,15 +146,17 @@ typedef struct LFM_CAPABILITY lfm_mutex {
 typedef struct lfm_seat {
   struct lfm_core *core;
   struct lfm_waiter *unrung;
-  uint32_t flags;
+  uint16_t flags;
+  uint16_t number;
   uint32_t is_in_call;
   unsigned char handle[LFM_SEAT_BYTES];
   struct lfm_waiter *last_unrung;
   uint64_t left;
+  uint64_t kept;
   uint32_t bell;
-  uint32_t looks;
-  uint32_t waits;
-  uint32_t unused[17];
+  uint16_t looks;
+  uint16_t waits;
+  uint32_t unused[16];
 } __attribute__((aligned(16))) lfm_seat;
 
 /* A condition variable, of 32 bytes: those that wait, the oldest first. */
@@ -188,8 +190,8 @@ static inline lfm_status lfm_mutex_new(lfm_mutex *mutex, uint64_t seats, uint64_
  * lfm_seat_give, and then the memory of that lfm_seat may go too. The memory of the library itself goes back when no thread has
  * a seat: threads that found their seats by themselves give them back as they take others, or when they end. It may sleep until
  * a seat is taken or given back.
- * Refused: LFM_BLANK, LFM_NOT_BACK if a seat of lfm_seat_take is not given back, LFM_HOLDING. The last is not seen if all
- * seats are taken and the calling thread has none. */
+ * Refused: LFM_BLANK, LFM_NOT_BACK if a seat of lfm_seat_take is not given back, LFM_HOLDING, also if a timed lock has left
+ * its seat queued. The last is not seen if all seats are taken by living threads and the calling thread has none. */
 LFM_API lfm_status lfm_mutex_close(lfm_mutex *mutex);
 
 /* How many takes the seats of the mutex had left, each when it was last taken or given back: an upper bound, and exact while
@@ -214,8 +216,9 @@ LFM_API lfm_status lfm_seat_take_checked(lfm_mutex *mutex, lfm_seat *seat);
 #define lfm_seat_take lfm_seat_take_checked
 #endif
 
-/* Gives the seat back. It may sleep until another thread has taken or given one. Refused: LFM_BLANK, LFM_HOLDING,
- * LFM_SEAT_ASLEEP. */
+/* Gives the seat back. It may sleep until another thread has taken or given one. If a timed lock has left the seat queued, its
+ * place is left to the thread that passes it by, with a copy of some 200 bytes, and only then can it be taken anew. If memory
+ * for the copy is refused, the call sleeps until the seat's turn comes. Refused: LFM_BLANK, LFM_HOLDING, LFM_SEAT_ASLEEP. */
 LFM_API lfm_status lfm_seat_give(lfm_seat *seat);
 
 /* The seat's number, 1 and on, or 0 of a seat that is not taken. An exchange of a spent seat changes it. */
@@ -240,16 +243,20 @@ LFM_NODISCARD lfm_status lfm_lock_in_order(lfm_seat *seat);
  * Refused: LFM_BLANK, LFM_SEAT_ASLEEP, LFM_DEPTH_FULL, LFM_SPENT, and LFM_BUSY, which gives the take back. */
 LFM_NODISCARD lfm_status lfm_try_lock(lfm_seat *seat);
 
-/* The same, but tries until this many nanoseconds have passed, or until this time on this clock. It never queues: while others
- * hold, it sleeps and tries anew at least every millisecond. It gains the mutex only if it looks at a moment when nobody holds
- * or waits. While other threads queue, an unlock hands the mutex to the next of them. So the call may fail however long its
- * time is, and however short they hold. A thread that must have the mutex calls lfm_lock.
- * Refused besides: LFM_LIMIT (no such clock, or not 0 to 999,999,999 nanoseconds in `time`). LFM_BUSY tells that the time is
- * over. */
+/* Locks as lfm_lock does, but at most until this many nanoseconds have passed, or until this time on this clock. It queues, so
+ * other threads that queue don't keep it from its turn. If the time is over before it queues, LFM_BUSY gives the take back.
+ *
+ * If the time is over later, LFM_BUSY uses the take, and the seat stays queued. The seat's next lock, with a time limit or
+ * without, waits from the same place, for no other take. Until then another thread may pass the place by as its turn comes.
+ * Then the seat is free again, and its next lock begins anew. While the seat is queued, its other calls answer as for a seat
+ * that doesn't hold, lfm_try_lock answers LFM_BUSY, and lfm_mutex_close LFM_HOLDING. It may be given back.
+ * Refused: as lfm_lock, LFM_LIMIT (no such clock, or not 0 to 999,999,999 nanoseconds in `time`), and LFM_BUSY, which tells
+ * that the time is over. */
 LFM_NODISCARD lfm_status lfm_try_lock_for(lfm_seat *seat, uint64_t nanoseconds);
 LFM_NODISCARD lfm_status lfm_try_lock_until(lfm_seat *seat, int clock, const struct timespec *time);
 
-/* Gives one hold up: LFM_STILL if the seat still holds, else LFM_DONE, LFM_POSTED or LFM_GRANTED. It never sleeps.
+/* Gives one hold up: LFM_STILL if the seat still holds, else LFM_DONE, LFM_POSTED or LFM_GRANTED. It never sleeps. On its way
+ * to the next thread that waits, it passes by the seats that timed locks have left queued, and LFM_GRANTED counts these too.
  * Refused: LFM_BLANK, LFM_SEAT_ASLEEP, LFM_NOT_OWNER. */
 LFM_API lfm_status lfm_unlock(lfm_seat *seat);
 

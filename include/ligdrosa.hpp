@@ -168,8 +168,8 @@ public:
   // False if at some moment of the call another thread held the mutex, asked for it or was giving it up. Otherwise throws as
   // lfm_try_lock_here refuses.
   LFM_MUST_USE bool try_lock() LFM_CALL(try_acquire_capability(true)) { return has_gained(lfm_try_lock_here(&raw)); }
-  // The same, but tries until the time is over. It gains the mutex only if it looks at a moment when nobody holds or
-  // waits: while other threads queue, it may be false however long the time is. A thread that must have the mutex calls lock.
+  // Locks as lock does, but at most until the time is over. It queues, so other threads that queue don't keep it from its turn.
+  // After a false the thread may still be queued: its next lock waits from the same place, and try_lock is false until then.
   template <class Rep, class Period>
   LFM_MUST_USE bool try_lock_for(const std::chrono::duration<Rep, Period> &span) LFM_CALL(try_acquire_capability(true)) {
     return has_gained(lfm_try_lock_for_here(&raw, nanoseconds_of(span)));

@@ -119,9 +119,9 @@ impl<T: ?Sized> Mutex<T> {
         self.guard(self.raw.0.try_lock())
     }
 
-    /// The same, but tries until the time is over. It never queues: while others hold, it sleeps and tries anew at least every
-    /// millisecond. It gains the mutex only if it looks at a moment when nobody holds or waits: while other threads queue, it
-    /// may fail however long the time is. A thread that must have the mutex calls [`lock`](Mutex::lock).
+    /// Locks as [`lock`](Mutex::lock) does, but at most until the time is over. It queues, so other threads that queue don't
+    /// keep it from its turn. If it is refused, the thread may still be queued: its next lock waits from the same place, and
+    /// until then [`try_lock`](Mutex::try_lock) is busy.
     pub fn try_lock_for(&self, time: Duration) -> Result<MutexGuard<'_, T>, Refusal> {
         self.guard(self.raw.0.try_lock_for(nanoseconds(time)))
     }

@@ -95,7 +95,7 @@ impl<T: ?Sized> Seat<T> {
         self.guard(self.raw().try_lock())
     }
 
-    /// The same, but tries until the time is over, as [`Mutex::try_lock_for`].
+    /// Locks at most until the time is over, as [`Mutex::try_lock_for`].
     pub fn try_lock_for(&mut self, time: Duration) -> Result<Guard<'_, T>, Refusal> {
         self.guard(self.raw().try_lock_for(nanoseconds(time)))
     }

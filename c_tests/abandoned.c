@@ -1,0 +1,332 @@
+/* Timed locks whose time is over while they are queued: each leaves its place, and the thread that is to wake it passes it by.
+ * The seat locks again from its old place or anew, is given back meanwhile, or its thread ends. Each case is made step by step.
+ *
+ * The test has the C file of the library in it. It stops the unlock of a thread before or after the library's call, and refuses
+ * memory. */
+#define _GNU_SOURCE
+#define LFM_LOOK_NANOSECONDS 0
+#include <stdint.h>
+#include <stdlib.h>
+static void *seen_aligned_alloc(size_t alignment, size_t bytes);
+#define lfm_c_unlock stopped_unlock
+#define aligned_alloc seen_aligned_alloc
+#include "../c/ligdrosa.c"
+#undef aligned_alloc
+#undef lfm_c_unlock
+#include "expect.h"
+uint64_t lfm_c_unlock(void *seat);
+
+enum { SHORT = 1000000, LONG = 1000000000, SEATS = 4, TAKES = 100 };
+static lfm_mutex mutex;
+static lfm_condvar condvar;
+static lfm_seat a, b, c;
+static int step, is_stopped, refuses_memory;
+static _Thread_local int stop_after; /* after which call of the library's unlock from now on the thread stops, 0 for none */
+
+static int seen(int *word) { return __atomic_load_n(word, __ATOMIC_SEQ_CST); }
+static void set(int *word, int value) { __atomic_store_n(word, value, __ATOMIC_SEQ_CST); }
+
+static void *seen_aligned_alloc(size_t alignment, size_t bytes) {
+  return seen(&refuses_memory) ? NULL : aligned_alloc(alignment, bytes);
+}
+
+uint64_t stopped_unlock(void *handle) {
+  uint64_t answer = lfm_c_unlock(handle);
+  if (stop_after == 0 || --stop_after != 0) return answer;
+  set(&is_stopped, 1);
+  while (seen(&is_stopped)) sched_yield();
+  return answer;
+}
+
+static void unlock_it(lfm_seat *seat) { EXPECT(lfm_is_refused(lfm_unlock(seat)), false); }
+static void times_out(lfm_seat *seat) { EXPECT(lfm_try_lock_for(seat, SHORT), LFM_BUSY); }
+
+static void begin(void) {
+  EXPECT(lfm_mutex_new(&mutex, SEATS, TAKES), LFM_DONE);
+  EXPECT(lfm_seat_take(&mutex, &a), LFM_DONE);
+  EXPECT(lfm_seat_take(&mutex, &b), LFM_DONE);
+  EXPECT(lfm_seat_take(&mutex, &c), LFM_DONE);
+  EXPECT(lfm_lock(&a), LFM_DONE);
+}
+
+/* All seats are back or free, and the mutex as a new one. */
+static void end(void) {
+  lfm_seat *seats[] = {&a, &b, &c};
+  for (int i = 0; i < 3; i++) {
+    if (!seats[i]->core) continue;
+    EXPECT(lfm_c_count(seats[i]->handle), 0);
+    EXPECT(lfm_seat_give(seats[i]), LFM_DONE);
+  }
+  EXPECT(lfm_mutex_close(&mutex), LFM_DONE);
+  memset(&a, 0, sizeof a), memset(&b, 0, sizeof b), memset(&c, 0, sizeof c);
+}
+
+/* A thread that makes one call. */
+typedef struct call {
+  pthread_t thread;
+  lfm_seat *seat;
+  lfm_status (*make)(lfm_seat *);
+  int stop, is_done, order;
+} call;
+static int gains;
+
+static void *make_call(void *at) {
+  call *made = (call *)at;
+  stop_after = made->stop;
+  EXPECT(made->make(made->seat), LFM_DONE);
+  made->order = __atomic_add_fetch(&gains, 1, __ATOMIC_SEQ_CST);
+  set(&made->is_done, 1);
+  return NULL;
+}
+
+static void start(call *made, lfm_seat *seat, lfm_status (*make)(lfm_seat *), int stop) {
+  *made = (call){.seat = seat, .make = make, .stop = stop};
+  EXPECT(pthread_create(&made->thread, NULL, make_call, made), 0);
+}
+static void join(call *made) { EXPECT(pthread_join(made->thread, NULL), 0); }
+
+static void await_sleep(lfm_seat *seat) {
+  while (bell_of(&seat->bell) != LISTENED) sched_yield();
+}
+static void await_stop(void) {
+  while (!seen(&is_stopped)) sched_yield();
+}
+
+static lfm_status lock_and_unlock(lfm_seat *seat) {
+  lfm_status status = lfm_lock(seat);
+  unlock_it(seat);
+  return status;
+}
+static lfm_status lock_in_order(lfm_seat *seat) {
+  lfm_status status = lfm_lock_in_order(seat);
+  unlock_it(seat);
+  return status;
+}
+static lfm_status lock_long(lfm_seat *seat) {
+  lfm_status status = lfm_try_lock_for(seat, LONG);
+  unlock_it(seat);
+  return status;
+}
+static lfm_status unlock_only(lfm_seat *seat) { return lfm_is_refused(lfm_unlock(seat)) ? LFM_BLANK : LFM_DONE; }
+
+/* The seat gains before one that queued after it, and each place costs one take. */
+static void in_the_old_place(lfm_status (*again)(lfm_seat *)) {
+  call by_b, by_c;
+  begin();
+  times_out(&b);
+  times_out(&b); /* from its place */
+  start(&by_c, &c, lock_in_order, 0);
+  await_sleep(&c);
+  gains = 0;
+  start(&by_b, &b, again, 0);
+  await_sleep(&b);
+  unlock_it(&a);
+  join(&by_b), join(&by_c);
+  EXPECT(by_b.order < by_c.order, true);
+  EXPECT(lfm_left(&b), TAKES - 1);
+  end();
+}
+
+/* Both of two abandoned places are passed by, and the seat behind them is woken. */
+static void passed_by(void) {
+  call by_c;
+  begin();
+  lfm_seat d = {0};
+  EXPECT(lfm_seat_take(&mutex, &d), LFM_DONE);
+  times_out(&b);
+  times_out(&d);
+  start(&by_c, &c, lock_long, 0);
+  await_sleep(&c);
+  EXPECT(lfm_unlock(&a), LFM_GRANTED);
+  join(&by_c);
+  EXPECT(lfm_lock(&b), LFM_DONE);
+  EXPECT(lfm_left(&b), TAKES - 2);
+  EXPECT(lfm_try_lock(&d), LFM_BUSY);
+  unlock_it(&b);
+  EXPECT(lfm_try_lock(&d), LFM_DONE);
+  unlock_it(&d);
+  EXPECT(lfm_seat_give(&d), LFM_DONE);
+  end();
+}
+
+/* What other calls of such a seat tell. */
+static void other_calls(void) {
+  begin();
+  times_out(&b);
+  EXPECT(lfm_number(&b), 2);
+  EXPECT(lfm_depth(&b), 0);
+  EXPECT(lfm_left(&b), TAKES - 1);
+  EXPECT(lfm_try_lock(&b), LFM_BUSY);
+  EXPECT(lfm_try_lock_for(&b, 0), LFM_BUSY);
+  EXPECT(lfm_unlock(&b), LFM_NOT_OWNER);
+  EXPECT(lfm_wait(&condvar, &b), LFM_NOT_OWNER);
+  EXPECT(lfm_wait_for(&condvar, &b, SHORT), LFM_NOT_OWNER);
+  EXPECT(lfm_wake_all_by(&condvar, &b), LFM_NOBODY);
+  unlock_it(&a);
+  EXPECT(lfm_unlock(&b), LFM_NOT_OWNER);
+  EXPECT(lfm_depth(&b), 0);
+  EXPECT(lfm_left(&b), TAKES - 1);
+  end();
+}
+
+/* A seat is given back while queued, and its memory goes. It is free to be taken anew once it was passed by. */
+static void given_back(void) {
+  lfm_seat d = {0};
+  begin();
+  EXPECT(lfm_seat_take(&mutex, &d), LFM_DONE);
+  lfm_seat *gone = (lfm_seat *)calloc(1, sizeof *gone);
+  *gone = (lfm_seat){0};
+  EXPECT(lfm_seat_give(&d), LFM_DONE);
+  EXPECT(lfm_seat_take(&mutex, gone), LFM_DONE);
+  times_out(gone);
+  EXPECT(lfm_seat_give(gone), LFM_DONE);
+  EXPECT(lfm_depth(gone), 0);
+  memset(gone, 0x5A, sizeof *gone);
+  free(gone);
+  EXPECT(lfm_seat_take(&mutex, &d), LFM_NO_SEAT);
+  EXPECT(lfm_seat_give(&b), LFM_DONE);
+  EXPECT(lfm_seat_give(&c), LFM_DONE);
+  EXPECT(lfm_mutex_close(&mutex), LFM_NOT_BACK);
+  unlock_it(&a);
+  EXPECT(lfm_takes_left(&mutex), SEATS * TAKES - 1); /* of a seat in use: as it was taken */
+  EXPECT(lfm_seat_take(&mutex, &b), LFM_DONE);
+  EXPECT(lfm_seat_take(&mutex, &c), LFM_DONE);
+  EXPECT(lfm_seat_take(&mutex, &d), LFM_DONE);
+  EXPECT(lfm_seat_give(&d), LFM_DONE);
+  end();
+}
+
+/* A thread ends while its seat, which it found by itself, is queued. */
+static void *time_out_and_end(void *at) {
+  EXPECT(lfm_try_lock_for_here(&mutex, SHORT), LFM_BUSY);
+  EXPECT(lfm_depth_here(&mutex), 0);
+  EXPECT(lfm_unlock_here(&mutex), LFM_NOT_OWNER);
+  EXPECT(lfm_mutex_close(&mutex), at ? LFM_NOT_BACK : LFM_HOLDING);
+  return at;
+}
+
+static void thread_ends(void) {
+  pthread_t thread;
+  lfm_seat d = {0};
+  begin();
+  EXPECT(pthread_create(&thread, NULL, time_out_and_end, &a), 0);
+  EXPECT(pthread_join(thread, NULL), 0);
+  EXPECT(lfm_seat_take(&mutex, &d), LFM_NO_SEAT);
+  unlock_it(&a);
+  EXPECT(lfm_seat_take(&mutex, &d), LFM_DONE);
+  EXPECT(lfm_seat_give(&d), LFM_DONE);
+  end();
+}
+
+/* Only seats that find themselves: the mutex is not closed while one is queued, also if all are taken and the thread that
+ * closes has none. */
+static void *hold(void *at) {
+  EXPECT(lfm_lock_here(&mutex), LFM_DONE);
+  set(&step, 1);
+  while (seen(&step) == 1) sched_yield();
+  EXPECT(lfm_is_refused(lfm_unlock_here(&mutex)), false);
+  set(&step, 3);
+  while (seen(&step) == 3) sched_yield();
+  return at;
+}
+
+static void closed(void) {
+  pthread_t holder, thread;
+  step = 0;
+  EXPECT(lfm_mutex_new(&mutex, 2, TAKES), LFM_DONE);
+  EXPECT(pthread_create(&holder, NULL, hold, NULL), 0);
+  while (seen(&step) != 1) sched_yield();
+  EXPECT(pthread_create(&thread, NULL, time_out_and_end, NULL), 0);
+  EXPECT(pthread_join(thread, NULL), 0);
+  EXPECT(lfm_mutex_close(&mutex), LFM_HOLDING);
+  set(&step, 2);
+  while (seen(&step) != 3) sched_yield();
+  EXPECT(lfm_mutex_close(&mutex), LFM_DONE);
+  set(&step, 4);
+  EXPECT(pthread_join(holder, NULL), 0);
+}
+
+/* The unlock has granted the mutex and is stopped before it wakes the seat, which leaves its place, and takes it up again. */
+static void granted_and_abandoned(void) {
+  call by_a, by_b;
+  begin();
+  times_out(&b);
+  start(&by_a, &a, unlock_only, 1);
+  await_stop();
+  times_out(&b);
+  start(&by_b, &b, lock_and_unlock, 0);
+  await_sleep(&b);
+  set(&is_stopped, 0);
+  join(&by_a), join(&by_b);
+  EXPECT(lfm_left(&b), TAKES - 1);
+  end();
+}
+
+/* The same, and the seat is given back: the unlock finds an orphan. */
+static void granted_and_orphaned(void) {
+  call by_a;
+  begin();
+  times_out(&b);
+  start(&by_a, &a, unlock_only, 1);
+  await_stop();
+  EXPECT(lfm_seat_give(&b), LFM_DONE);
+  EXPECT(lfm_seat_give(&c), LFM_DONE);
+  set(&is_stopped, 0);
+  join(&by_a);
+  EXPECT(mutex.core->orphans, 0);
+  end();
+}
+
+/* The seat is being passed by when its thread calls: a lock waits until that is done, and others tell that it is busy. */
+static void called_while_passed(lfm_status (*make)(lfm_seat *)) {
+  call by_a, by_b;
+  begin();
+  times_out(&b);
+  start(&by_a, &a, unlock_only, 2);
+  await_stop();
+  EXPECT(state_of(&b), PASSING);
+  EXPECT(lfm_try_lock(&b), LFM_BUSY);
+  EXPECT(lfm_unlock(&b), LFM_NOT_OWNER);
+  EXPECT(lfm_depth(&b), 0);
+  EXPECT(lfm_left(&b), TAKES - 1);
+  start(&by_b, &b, make, 0);
+  await_sleep(&b);
+  EXPECT(state_of(&b), AWAITED);
+  EXPECT(seen(&by_b.is_done), 0);
+  set(&is_stopped, 0);
+  join(&by_a), join(&by_b);
+  end();
+}
+
+/* Without memory for the copy of the seat, a give waits until the seat is granted the mutex. */
+static void without_memory(void) {
+  call by_b;
+  begin();
+  times_out(&b);
+  set(&refuses_memory, 1);
+  start(&by_b, &b, lfm_seat_give, 0);
+  await_sleep(&b);
+  unlock_it(&a);
+  join(&by_b);
+  set(&refuses_memory, 0);
+  end();
+}
+
+int main(void) {
+  in_the_old_place(lock_and_unlock);
+  in_the_old_place(lock_in_order);
+  in_the_old_place(lock_long);
+  passed_by();
+  other_calls();
+  given_back();
+  thread_ends();
+  closed();
+  granted_and_abandoned();
+  granted_and_orphaned();
+  called_while_passed(lock_and_unlock);
+  called_while_passed(lock_in_order);
+  called_while_passed(lock_long);
+  called_while_passed(lfm_seat_give);
+  without_memory();
+  return 0;
+}

@@ -1,0 +1,35 @@
+/* Four threads queue for a mutex all the time. A timed lock of a fifth gains it meanwhile, in its turn, each time. */
+#define _GNU_SOURCE
+#include "expect.h"
+
+enum { QUEUERS = 4, ROUNDS = 50, SECOND = 1000000000, LIMIT = 10 };
+static lfm_mutex mutex = LFM_MUTEX_INIT;
+static int is_over;
+static uint64_t counter, queued[QUEUERS];
+
+static void work(unsigned thread) {
+  if (thread == 0) {
+    for (int i = 0; i < ROUNDS; i++) {
+      EXPECT(lfm_try_lock_for_here(&mutex, (uint64_t)LIMIT * SECOND), LFM_DONE);
+      counter++;
+      EXPECT(lfm_is_refused(lfm_unlock_here(&mutex)), false);
+    }
+    __atomic_store_n(&is_over, 1, __ATOMIC_SEQ_CST);
+    return;
+  }
+  while (!__atomic_load_n(&is_over, __ATOMIC_SEQ_CST)) {
+    EXPECT(lfm_lock_in_order_here(&mutex), LFM_DONE);
+    counter++;
+    queued[thread - 1]++;
+    EXPECT(lfm_is_refused(lfm_unlock_here(&mutex)), false);
+  }
+}
+
+int main(void) {
+  in_threads(QUEUERS + 1, work);
+  uint64_t all = ROUNDS;
+  for (int i = 0; i < QUEUERS; i++) all += queued[i];
+  EXPECT(counter, all);
+  EXPECT(lfm_mutex_close(&mutex), LFM_DONE);
+  return 0;
+}

@@ -45,6 +45,7 @@ uint64_t lfm_c_try_lock(void *seat);
 uint64_t lfm_c_unlock(void *seat);
 /* to here */
 
+#define LIKELY(condition) __builtin_expect(!!(condition), 1)
 #define UNLIKELY(condition) __builtin_expect(!!(condition), 0)
 /* A path that is seldom taken, out of line. */
 #define SELDOM __attribute__((noinline, cold)) static
@@ -482,9 +483,9 @@ MOSTLY bool is_taken(const lfm_seat *seat) { return seat && seat->core; }
  *   PASSING    the seat was granted the mutex, and the thread that has to wake it gives the mutex up in its stead
  *   AWAITED    the same, and a call of the seat sleeps at the bell until that is done
  *   ORPHANED   as ABANDONED, but the seat was given back; the lfm_seat is memory of the library
- * The seat's own thread sets TIMED before it asks. Its lock leaves by TIMED -> ABANDONED. Its next lock takes the place up again
- * by ABANDONED -> TIMED, and keeps its place in the queue. A give goes on from there by TIMED -> ORPHANED. The thread that has
- * to wake the seat makes TIMED -> WAITS and then rings, or ABANDONED -> PASSING, or takes an ORPHANED one out. PASSING and
+ * The seat's own thread sets TIMED before it asks. Its lock leaves by TIMED -> ABANDONED. Its next lock takes the place up
+ * again by ABANDONED -> TIMED, and keeps its place in the queue. A give goes on from there by TIMED -> ORPHANED. The thread that
+ * has to wake the seat makes TIMED -> WAITS and then rings, or ABANDONED -> PASSING, or takes an ORPHANED one out. PASSING and
  * AWAITED end in WAITS. Each of these steps is a compare-and-exchange, unless no other thread may change the place.
  *
  * Each grant is received by one thread. One answer of the library names the seat that it granted the mutex, so one thread has
@@ -527,7 +528,7 @@ SELDOM bool is_passed(lfm_seat *seat) {
   return true;
 }
 
-/* Whether the seat is still queued for a lock that has returned, or is being passed by. Its handle is not to be touched then. */
+/* Whether the seat is still queued for a lock that has returned, or is being passed by. Then its handle is not to be touched. */
 MOSTLY bool is_away(lfm_seat *seat) { return UNLIKELY(seat->flags & HAS_LEFT) && !is_passed(seat); }
 
 /* Takes a seat for this handle. The guard is held. */
@@ -912,10 +913,29 @@ SELDOM bool is_left_behind(lfm_seat *seat, uint32_t in_hand) {
 /* Makes a call with a seat in hand. */
 #define CALL(seat, call) (is_taken(seat) ? (begin_call(seat), end_call(seat, call)) : LFM_BLANK)
 
-lfm_status lfm_lock(lfm_seat *seat) { return CALL(seat, lock(seat)); }
+/* Whether a call of the seat has nothing to do besides. Most are so, and one look at the flags tells it. */
+MOSTLY bool is_plain(const lfm_seat *seat) { return LIKELY(is_taken(seat) && seat->flags == 0); }
+
+/* Locks by a plain seat. */
+MOSTLY lfm_status lock_plainly(lfm_seat *seat) {
+  lfm_status status = status_of(lfm_c_try_lock(seat->handle));
+  return LIKELY(!lfm_is_refused(status)) ? status : lock_slowly(seat, status);
+}
+
+/* Unlocks by a plain seat. */
+MOSTLY lfm_status unlock_plainly(lfm_seat *seat) {
+  lfm_status status = told(seat->core, lfm_c_unlock(seat->handle));
+  if (UNLIKELY(seat->unrung) && status != LFM_STILL) ring_unrung(seat);
+  return status;
+}
+
+SELDOM lfm_status lock_watched(lfm_seat *seat) { return CALL(seat, lock(seat)); }
+SELDOM lfm_status unlock_watched(lfm_seat *seat) { return CALL(seat, unlock(seat)); }
+
+lfm_status lfm_lock(lfm_seat *seat) { return is_plain(seat) ? lock_plainly(seat) : lock_watched(seat); }
 lfm_status lfm_lock_in_order(lfm_seat *seat) { return CALL(seat, gained(seat, queue_again(seat))); }
 lfm_status lfm_try_lock(lfm_seat *seat) { return CALL(seat, gained(seat, try_once(seat))); }
-lfm_status lfm_unlock(lfm_seat *seat) { return CALL(seat, unlock(seat)); }
+lfm_status lfm_unlock(lfm_seat *seat) { return is_plain(seat) ? unlock_plainly(seat) : unlock_watched(seat); }
 
 /* A seat that was given back is touched no more: its memory may be gone by then, with that of the mutex. */
 lfm_status lfm_seat_give(lfm_seat *seat) {
@@ -950,12 +970,13 @@ struct own_seat {
 static struct own_seat no_seats[1];
 
 static _Thread_local struct {
+  struct own_seat recent; /* which was found last, or null */
   struct own_seat *places;
   size_t last;    /* the number of places, which is a power of 2, less 1 */
   size_t count;   /* how many are not empty */
   size_t swept;   /* where the next search for ended mutexes begins */
   bool is_ending; /* the thread's seats were given back, as it ends */
-} own = {no_seats, 0, 0, 0, false};
+} own = {{NULL, NULL}, no_seats, 0, 0, 0, false};
 
 /* The key whose destructor gives a thread's seats back, which comes after the destructors of a thread's C++ objects. It is made
  * before a program's constructors run, and is there until after its destructors. If the system had none left then, it is tried
@@ -970,14 +991,22 @@ MOSTLY size_t home_of(const struct lfm_core *core) {
   return (size_t)(mixed >> 32) & own.last;
 }
 
-MOSTLY lfm_seat *find(const struct lfm_core *core) {
+/* The place of the core in the table, or an empty one. */
+static size_t place_in_table(const struct lfm_core *core) {
   size_t at = home_of(core);
-  while (own.places[at].core != core) {
-    if (!own.places[at].core) return NULL;
-    at = (at + 1) & own.last;
-  }
-  return own.places[at].seat;
+  while (own.places[at].core && own.places[at].core != core) at = (at + 1) & own.last;
+  return at;
 }
+
+static lfm_seat *search(const struct lfm_core *core) {
+  size_t at = place_in_table(core);
+  if (!own.places[at].core) return NULL;
+  own.recent = own.places[at];
+  return own.recent.seat;
+}
+
+/* The calling thread's seat of this core, or null. A thread often calls the same mutex once more. */
+MOSTLY lfm_seat *find(const struct lfm_core *core) { return LIKELY(own.recent.core == core) ? own.recent.seat : search(core); }
 
 /* Puts a seat into the table, which has an empty place. */
 static void put(struct lfm_core *core, lfm_seat *seat) {
@@ -997,11 +1026,12 @@ static void empty(size_t hole) {
     hole = at;
   }
   own.places[hole].core = NULL;
+  own.recent.core = NULL;
   own.count--;
 }
 
 /* Gives back the seat at this place, unless it holds, and empties the place. */
-static bool give_back(size_t at) {
+static lfm_status give_back(size_t at) {
   lfm_seat *seat = own.places[at].seat;
   bool is_left = false;
   if (is_of_process(seat->core)) { /* a forked child doesn't have the threads that wait */
@@ -1009,17 +1039,18 @@ static bool give_back(size_t at) {
     is_left = has_left(seat) && is_left_behind(seat, 0);
   }
   if (!is_left) {
-    if (give(seat, 0) != LFM_DONE) return false;
+    lfm_status status = give(seat, 0);
+    if (status != LFM_DONE) return status;
     free(seat);
   }
   empty(at);
-  return true;
+  return LFM_DONE;
 }
 
 /* Gives back each seat of the thread that doesn't hold, as it ends, and the table if it is empty then. */
 SELDOM void give_back_all(void) {
   for (size_t at = 0; at <= own.last;) {
-    if (own.places[at].core && give_back(at)) continue;
+    if (own.places[at].core && give_back(at) == LFM_DONE) continue;
     if (own.places[at].core) own.places[at].seat->flags |= IS_LATE;
     at++;
   }
@@ -1078,8 +1109,8 @@ static bool is_told_of_end(void) {
 static void sweep(void) {
   for (int i = 0; i < 16 && own.count; i++) {
     size_t at = own.swept = (own.swept + 1) & own.last;
-    while (own.places[at].core && __atomic_load_n(&own.places[at].core->is_ended, __ATOMIC_ACQUIRE) && give_back(at)) {
-    }
+    while (own.places[at].core && __atomic_load_n(&own.places[at].core->is_ended, __ATOMIC_ACQUIRE))
+      if (give_back(at) != LFM_DONE) break;
   }
 }
 
@@ -1141,7 +1172,13 @@ MOSTLY lfm_status end_here(lfm_seat *seat, lfm_status status) {
   lfm_seat *seat = lfm_seat_here(mutex, &cause);   \
   return seat ? end_here(seat, call) : cause
 
-lfm_status lfm_lock_here(lfm_mutex *mutex) { CALL_HERE(mutex, lock(seat)); }
+SELDOM lfm_status lock_here(lfm_mutex *mutex) { CALL_HERE(mutex, lock(seat)); }
+
+lfm_status lfm_lock_here(lfm_mutex *mutex) {
+  lfm_seat *seat = find_of(mutex);
+  return LIKELY(seat && seat->flags == 0) ? lock_plainly(seat) : lock_here(mutex);
+}
+
 lfm_status lfm_lock_in_order_here(lfm_mutex *mutex) { CALL_HERE(mutex, gained(seat, queue_again(seat))); }
 lfm_status lfm_try_lock_here(lfm_mutex *mutex) { CALL_HERE(mutex, gained(seat, try_once(seat))); }
 
@@ -1156,9 +1193,19 @@ lfm_status lfm_try_lock_until_here(lfm_mutex *mutex, int clock, const struct tim
 /* The status of a call of the holder alone, by a thread that has no seat. */
 static lfm_status without_seat(const lfm_mutex *mutex) { return mutex && mutex->version ? LFM_NOT_OWNER : LFM_BLANK; }
 
-lfm_status lfm_unlock_here(lfm_mutex *mutex) {
+SELDOM lfm_status unlock_here(lfm_mutex *mutex) {
   lfm_seat *seat = find_of(mutex);
   return seat ? end_here(seat, unlock(seat)) : without_seat(mutex);
+}
+
+lfm_status lfm_unlock_here(lfm_mutex *mutex) {
+  lfm_seat *seat = find_of(mutex);
+  return LIKELY(seat && seat->flags == 0) ? unlock_plainly(seat) : unlock_here(mutex);
+}
+
+lfm_status lfm_seat_give_here(lfm_mutex *mutex) {
+  lfm_seat *seat = find_of(mutex);
+  return seat ? give_back(place_in_table(seat->core)) : LFM_BLANK;
 }
 
 uint64_t lfm_depth_here(lfm_mutex *mutex) { return lfm_depth(find_of(mutex)); }
@@ -1190,11 +1237,7 @@ lfm_status lfm_mutex_close(lfm_mutex *mutex) {
     if (in_hand) return LFM_NOT_BACK;
     if (__atomic_load_n(&core->orphans, __ATOMIC_RELAXED) > 0 || is_in_use(core)) return LFM_HOLDING;
     __atomic_store_n(&core->is_ended, 1, __ATOMIC_RELEASE);
-    for (size_t at = home_of(core); own.places[at].core; at = (at + 1) & own.last) {
-      if (own.places[at].core != core) continue;
-      give_back(at);
-      break;
-    }
+    if (find(core)) give_back(place_in_table(core));
     drop(core);
   }
   memset(mutex, 0, sizeof *mutex);

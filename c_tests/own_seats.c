@@ -147,6 +147,41 @@ static void memory_of_ended(void) {
   free(ended);
 }
 
+/* A living thread gives its seat back, and another takes it. */
+static void *lock_apart(void *at) {
+  EXPECT(lfm_lock_here(&inner), at ? LFM_NO_SEAT : LFM_DONE);
+  EXPECT(lfm_unlock_here(&inner), at ? LFM_NOT_OWNER : LFM_DONE);
+  if (!at) return NULL;
+  EXPECT(lfm_seat_give_here(&inner), LFM_BLANK);
+  return NULL;
+}
+
+static void apart(void *at) {
+  pthread_t thread;
+  EXPECT(pthread_create(&thread, NULL, lock_apart, at), 0);
+  EXPECT(pthread_join(thread, NULL), 0);
+}
+
+static void give_here(void) {
+  static lfm_mutex never_opened;
+  const lfm_mutex new_one = LFM_MUTEX_INIT_WITH(1);
+  EXPECT(lfm_mutex_close(&inner), LFM_DONE);
+  inner = new_one;
+  EXPECT(lfm_seat_give_here(NULL), LFM_BLANK);
+  EXPECT(lfm_seat_give_here(&never_opened), LFM_BLANK);
+  EXPECT(lfm_seat_give_here(&inner), LFM_BLANK);
+  for (int i = 0; i < 3; i++) {
+    lock(&inner);
+    EXPECT(lfm_seat_give_here(&inner), LFM_HOLDING);
+    unlock(&inner);
+    apart(&inner);
+    EXPECT(lfm_seat_give_here(&inner), LFM_DONE);
+    EXPECT(lfm_seat_give_here(&inner), LFM_BLANK);
+    EXPECT(lfm_unlock_here(&inner), LFM_NOT_OWNER);
+    apart(NULL);
+  }
+}
+
 /* A destructor of thread-specific data locks again and again, also after the thread's seats were given back. */
 static pthread_key_t key;
 static unsigned locked_late;
@@ -181,6 +216,7 @@ int main(void) {
   many_mutexes();
   in_threads(2, pass_shared);
   memory_of_ended();
+  give_here();
   EXPECT(lfm_mutex_close(&inner), LFM_DONE);
   EXPECT(lfm_mutex_close(&mutex), LFM_DONE);
   return 0;

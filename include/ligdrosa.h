@@ -269,6 +269,10 @@ LFM_API lfm_status lfm_unlock(lfm_seat *seat);
  * fourth in glibc, is not given back. To find a seat takes about as long however many mutexes there are. */
 LFM_API lfm_seat *lfm_seat_here(lfm_mutex *mutex, lfm_status *cause);
 
+/* Gives the calling thread's seat back before the thread ends, so that another thread can take it: as lfm_seat_give, and
+ * LFM_BLANK if the thread has none. A later call of the thread takes a seat anew. */
+LFM_API lfm_status lfm_seat_give_here(lfm_mutex *mutex);
+
 /* The calls above with that seat. Refused besides: LFM_NO_SEAT, LFM_NO_MEMORY, and as lfm_mutex_open if it opens the mutex. */
 LFM_NODISCARD lfm_status lfm_lock_here(lfm_mutex *mutex) LFM_GAINS(*mutex);
 LFM_NODISCARD lfm_status lfm_lock_in_order_here(lfm_mutex *mutex) LFM_GAINS(*mutex);

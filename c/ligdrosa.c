@@ -281,7 +281,7 @@ void *lfm_allocate(size_t bytes) {
  * before it is rung for. A give touches the core until it drops its own reference. So a close, which drops that of the
  * lfm_mutex, may come before its end. */
 
-enum { MUTEX_BYTES = 64, ALIGNMENT = 16, LINE = 64 };
+enum { MUTEX_BYTES = 48, ALIGNMENT = 16, LINE = 64 };
 
 /* A seat without takes that was exchanged for another. It is kept until the mutex ends. */
 struct spent_seat {
@@ -289,25 +289,34 @@ struct spent_seat {
   unsigned char handle[LFM_SEAT_BYTES] __attribute__((aligned(ALIGNMENT)));
 };
 
+/* The first line is changed by seats that are taken and given back, and by locks that queue; the others seldom. */
 struct lfm_core {
   unsigned char handle[MUTEX_BYTES];
+  uint64_t left;      /* how many takes the seats had left, each when it was last taken or given back */
+  uint32_t guard;     /* of the handle, `left`, `in_hand`, `most` and `spent` */
+  uint32_t queued;    /* how many seats are queued by locks that have not returned */
   uint64_t budget;
-  uint64_t left;     /* how many takes the seats had left, each when it was last taken or given back */
   struct spent_seat *spent;
-  lfm_seat *passed;  /* seats that were given back while queued, and have been passed by since */
-  uint32_t seats;
-  uint32_t most;     /* the greatest number of a seat that was ever taken */
-  uint32_t references;
-  uint32_t in_hand;  /* how many seats of lfm_seat_take are not given back */
-  uint32_t guard;    /* of the handle, `left`, `in_hand` and `spent` */
-  uint32_t queued;   /* how many seats are queued by locks that have not returned */
-  int32_t orphans;   /* how many seats that were given back are still queued */
-  uint32_t near;     /* a seat spins only if at most this number are queued: the number of processors, or 0 if there is one */
-  uint32_t is_ended; /* the lfm_mutex is closed */
-  pid_t process;     /* in which it was opened */
-  uintptr_t places[] __attribute__((aligned(LINE))); /* of the seats that are taken, from seat 1 on */
+  lfm_seat *passed;   /* seats that were given back while queued, and have been passed by since */
+  pid_t process;      /* in which it was opened */
+  uint16_t seats;
+  uint16_t most;      /* the greatest number of a seat that was ever taken */
+  uint16_t in_hand;   /* how many seats of lfm_seat_take are not given back */
+  int16_t orphans;    /* how many seats that were given back are still queued */
+  uint16_t references;
+  uint8_t is_ended;   /* the lfm_mutex is closed */
+  uintptr_t places[]; /* of the seats that are taken, from seat 1 on */
 } __attribute__((aligned(LINE)));
 
+_Static_assert(offsetof(struct lfm_core, budget) == LINE, "what changes often has a line of its own");
+
+/* A seat spins only if at most this number are queued: the number of processors, or 0 if there is one. */
+static uint32_t near(void) {
+  uint32_t count = processors();
+  return count == 1 ? 0 : count;
+}
+
+static void refer_to(struct lfm_core *core) { __atomic_add_fetch(&core->references, 1, __ATOMIC_RELAXED); }
 static uint32_t count_up(uint32_t *count) { return __atomic_add_fetch(count, 1, __ATOMIC_RELAXED); }
 static uint32_t count_down(uint32_t *count) { return __atomic_sub_fetch(count, 1, __ATOMIC_ACQ_REL); }
 
@@ -332,7 +341,7 @@ static struct lfm_core *new_core(uint64_t seats, uint64_t budget, lfm_status *ca
   bool is_known = is_known_library();
   *cause = is_known ? LFM_LIMIT : LFM_OTHER_HEADER;
   if (!is_known || seats == 0 || seats > LFM_MOST_SEATS) return NULL;
-  struct lfm_core *core = (struct lfm_core *)new_lines(sizeof *core + seats * sizeof core->places[0]);
+  struct lfm_core *core = (struct lfm_core *)new_lines(offsetof(struct lfm_core, places) + seats * sizeof core->places[0]);
   *cause = LFM_NO_MEMORY;
   if (!core) return NULL;
   lfm_c_blank_mutex(core->handle);
@@ -341,11 +350,10 @@ static struct lfm_core *new_core(uint64_t seats, uint64_t budget, lfm_status *ca
     free(core);
     return NULL;
   }
-  core->seats = (uint32_t)seats;
+  core->seats = (uint16_t)seats;
   core->budget = budget;
   core->left = seats * budget;
   core->references = 1;
-  core->near = processors() == 1 ? 0 : processors();
   core->process = getpid();
   return core;
 }
@@ -386,7 +394,7 @@ static void enter_seats(struct lfm_core *core) {
  * comes after all others: it sees the memory being freed. */
 static void drop(struct lfm_core *core) {
   if (__tsan_release) __tsan_release(&core->references);
-  if (count_down(&core->references) != 0) return;
+  if (__atomic_sub_fetch(&core->references, 1, __ATOMIC_ACQ_REL) != 0) return;
   if (__tsan_acquire) __tsan_acquire(&core->references);
   take_back(core);
   for (struct spent_seat *seat = core->spent, *next; seat; seat = next) {
@@ -476,7 +484,8 @@ MOSTLY bool is_taken(const lfm_seat *seat) { return seat && seat->core; }
 
 /* Places in the queue
  *
- * Each seat has a place: a word of the core with the address of the lfm_seat, and one of these states in its low bits.
+ * Each seat has a place: a word of the core with the address of the lfm_seat, whether that is memory of the library
+ * (IN_LIBRARY), and one of these states in its low bits. The place of a seat that is back is 0.
  *   WAITS      the seat is not queued, or a lock without a time limit waits at its bell
  *   TIMED      a lock with a time limit waits at its bell
  *   ABANDONED  the time of that lock was over, and it has returned; the seat is still queued
@@ -502,11 +511,14 @@ MOSTLY bool is_taken(const lfm_seat *seat) { return seat && seat->core; }
  * then the seat's thread waits for that ring; in the states PASSING and AWAITED, and a give waits until they are over; and an
  * orphan, which is its own. The exchange PASSING -> WAITS is the last that touches the seat. If it fails, the seat's thread
  * waits for a ring, which is the last then. */
-enum { WAITS, TIMED, ABANDONED, PASSING, AWAITED, ORPHANED, STATES = 7 };
-_Static_assert(_Alignof(lfm_seat) > STATES, "a state fits below the address of a seat");
+enum { WAITS, TIMED, ABANDONED, PASSING, AWAITED, ORPHANED, STATES = 7, IN_LIBRARY = 8 };
+_Static_assert(_Alignof(lfm_seat) > (STATES | IN_LIBRARY), "a state fits below the address of a seat");
 
-static uintptr_t place_word(const lfm_seat *seat, uintptr_t state) { return (uintptr_t)seat | state; }
-static lfm_seat *seat_at(uintptr_t word) { return (lfm_seat *)(word & ~(uintptr_t)STATES); }
+static uintptr_t place_word(const lfm_seat *seat, uintptr_t state) {
+  return (uintptr_t)seat | (seat->is_of_library ? IN_LIBRARY : 0) | state;
+}
+static lfm_seat *seat_at(uintptr_t word) { return (lfm_seat *)(word & ~(uintptr_t)(STATES | IN_LIBRARY)); }
+static uintptr_t with_state(uintptr_t word, uintptr_t state) { return (word & ~(uintptr_t)STATES) | state; }
 static uintptr_t *place_of(const lfm_seat *seat) { return &seat->core->places[seat->number - 1]; }
 
 static void set_place(const lfm_seat *seat, uintptr_t state) {
@@ -534,18 +546,18 @@ MOSTLY bool is_away(lfm_seat *seat) { return UNLIKELY(seat->flags & HAS_LEFT) &&
 /* Takes a seat for this handle. The guard is held. */
 static lfm_status take_handle(struct lfm_core *core, void *handle) {
   lfm_status status = status_of(lfm_c_take_seat(core->handle, handle));
-  if (lfm_c_number(handle) > core->most) core->most = (uint32_t)lfm_c_number(handle);
+  if (lfm_c_number(handle) > core->most) core->most = (uint16_t)lfm_c_number(handle);
   return status;
 }
 
-/* Takes a seat of the core, which has another reference then. The seat waits for grants at a bell of its own. `in_hand` is 1
- * for a seat of lfm_seat_take, and 0 for one that finds itself. */
-static lfm_status take(struct lfm_core *core, lfm_seat *seat, uint32_t flags, uint32_t in_hand) {
+/* Takes a seat of the core, which has another reference then. The seat waits for grants at a bell of its own. `in_hand`
+ * is whether it is one of lfm_seat_take, and not one that finds itself. */
+static lfm_status take(struct lfm_core *core, lfm_seat *seat, uint32_t flags, bool in_hand) {
   hide(seat, offsetof(lfm_seat, unused));
   lfm_c_blank_seat(seat->handle);
   enter_seats(core);
   lfm_status status = take_handle(core, seat->handle);
-  if (status == LFM_DONE) core->in_hand += in_hand;
+  if (status == LFM_DONE) core->in_hand = (uint16_t)(core->in_hand + in_hand);
   leave(&core->guard);
   if (status != LFM_DONE) return status;
   seat->core = core;
@@ -555,14 +567,16 @@ static lfm_status take(struct lfm_core *core, lfm_seat *seat, uint32_t flags, ui
   seat->is_in_call = 0;
   seat->left = lfm_c_left(seat->handle);
   seat->bell = SILENT;
-  seat->looks = seat->waits = 0;
+  seat->looks = 0;
+  seat->is_of_library = !in_hand;
+  seat->waits = 0;
   set_place(seat, WAITS);
-  count_up(&core->references);
+  refer_to(core);
   return LFM_DONE;
 }
 
 /* Gives the seat back. A forked child only forgets it: it might wait for a thread of the parent that the child doesn't have. */
-static lfm_status give(lfm_seat *seat, uint32_t in_hand) {
+static lfm_status give(lfm_seat *seat, bool in_hand) {
   struct lfm_core *core = seat->core;
   if (!is_of_process(core)) {
     seat->core = NULL;
@@ -573,7 +587,8 @@ static lfm_status give(lfm_seat *seat, uint32_t in_hand) {
   lfm_status status = status_of(lfm_c_give_seat(core->handle, seat->handle));
   if (status == LFM_DONE) {
     core->left -= made;
-    core->in_hand -= in_hand;
+    core->in_hand = (uint16_t)(core->in_hand - in_hand);
+    core->places[seat->number - 1] = 0;
     seat->core = NULL;
     seat->is_in_call = 0;
   }
@@ -587,7 +602,7 @@ static lfm_status take_in_hand(lfm_mutex *mutex, lfm_seat *seat, uint32_t flags)
   if (!seat) return LFM_BLANK;
   struct lfm_core *core = core_of(mutex, &cause);
   if (!core) return cause;
-  return seat->core ? LFM_TAKEN : take(core, seat, flags, 1);
+  return seat->core ? LFM_TAKEN : take(core, seat, flags, true);
 }
 
 lfm_status lfm_seat_take(lfm_mutex *mutex, lfm_seat *seat) { return take_in_hand(mutex, seat, 0); }
@@ -649,6 +664,7 @@ SELDOM void exchange(lfm_seat *seat, struct spent_seat *reserved) {
   lfm_c_take_seat(core->handle, reserved->handle);
   reserved->next = core->spent;
   core->spent = reserved;
+  core->places[seat->number - 1] = 0;
   leave(&core->guard);
   seat->number = (uint16_t)lfm_c_number(seat->handle);
   set_place(seat, WAITS);
@@ -671,23 +687,19 @@ SELDOM bool is_renewed(lfm_seat *seat) {
  * ring, after it found that ask in the library's words. Those are atomic, and so they order the two. ThreadSanitizer doesn't
  * see them: if it watches this file, it reports a race at `ring`, which is none. */
 
-/* Receives the grant of an abandoned seat and gives the mutex up: the number of the seat that is to be woken next, or 0. */
-static uint64_t receive_and_unlock(lfm_seat *seat) {
+/* Receives the grant of a seat whose place is PASSING, gives the mutex up, and makes the seat free for calls of its own thread.
+ * The number of the seat that is to be woken next, or 0. */
+static uint64_t pass(lfm_seat *seat, uintptr_t *place, uintptr_t found) {
   lfm_c_receive(seat->handle);
-  return lfm_c_unlock(seat->handle) >> 8;
-}
-
-/* Does the part of a seat whose place is PASSING, and makes it free for calls of its own thread. */
-static uint64_t pass(lfm_seat *seat, uintptr_t *place) {
-  uint64_t next = receive_and_unlock(seat);
-  uintptr_t found = place_word(seat, PASSING), waits = place_word(seat, WAITS);
+  uint64_t next = lfm_c_unlock(seat->handle) >> 8;
+  uintptr_t waits = with_state(found, WAITS);
   if (__atomic_compare_exchange_n(place, &found, waits, false, __ATOMIC_ACQ_REL, __ATOMIC_ACQUIRE)) return next;
   __atomic_store_n(place, waits, __ATOMIC_RELAXED);
   ring(&seat->bell);
   return next;
 }
 
-/* Does the part of an orphan, and leaves it to be taken back by the next thread that takes a seat or gives one: that may sleep,
+/* Does the same for an orphan, and leaves it to be taken back by the next thread that takes a seat or gives one: that may sleep,
  * and the calling thread may not. A thread that gains the mutex later finds one orphan less. */
 static uint64_t pass_orphan(struct lfm_core *core, lfm_seat *seat) {
   lfm_c_receive(seat->handle);
@@ -706,9 +718,9 @@ SELDOM uint64_t wake_or_pass(struct lfm_core *core, uintptr_t *place, uintptr_t 
   for (;;) {
     lfm_seat *seat = seat_at(found);
     uintptr_t state = found & STATES;
-    uintptr_t next = state == ORPHANED ? 0 : place_word(seat, state == TIMED ? WAITS : PASSING);
+    uintptr_t next = state == ORPHANED ? 0 : with_state(found, state == TIMED ? WAITS : PASSING);
     if (!__atomic_compare_exchange_n(place, &found, next, false, __ATOMIC_ACQ_REL, __ATOMIC_ACQUIRE)) continue;
-    if (state == ABANDONED) return pass(seat, place);
+    if (state == ABANDONED) return pass(seat, place, next);
     if (state == ORPHANED) return pass_orphan(core, seat);
     ring(&seat->bell);
     return 0;
@@ -743,11 +755,10 @@ static bool abandons(lfm_seat *seat) {
 }
 
 /* Waits until the seat, which is queued, is granted the mutex, at most until the time is over if there is one: then it leaves
- * its place and is busy. It spins first, unless more than `near` seats are queued. Then it would only keep a processor from
- * them. */
+ * its place and is busy. It spins first, unless too many seats are queued: then it would only keep a processor from them. */
 SELDOM lfm_status receive(lfm_seat *seat, const struct limit *limit) {
   struct lfm_core *core = seat->core;
-  uint64_t look = count_up(&core->queued) <= core->near ? LFM_LOOK_NANOSECONDS : 0;
+  uint64_t look = count_up(&core->queued) <= near() ? LFM_LOOK_NANOSECONDS : 0;
   if (limit && left_of(limit) < look) look = left_of(limit);
   bool is_granted = await(&seat->bell, look, limit) || (!abandons(seat) && await(&seat->bell, 0, NULL));
   seat->bell = SILENT;
@@ -814,7 +825,7 @@ enum { SPINS = 11, MOST_DOUBLINGS = 8, HOLDER_AND_ONE_MORE = 2, NAPS = 4, NAP = 
  * count for most of the time. If more than the holder and one other seat are counted, others queue already. */
 static lfm_status spin(lfm_seat *seat) {
   lfm_status status = LFM_BUSY;
-  for (int i = 0; seat->core->near && status == LFM_BUSY && i < SPINS; i++) {
+  for (int i = 0; near() && status == LFM_BUSY && i < SPINS; i++) {
     pause_for(1 << (i < MOST_DOUBLINGS ? i : MOST_DOUBLINGS));
     uint64_t count = lfm_c_count(seat->handle);
     status = try_if_free(seat, count);
@@ -826,7 +837,7 @@ static lfm_status spin(lfm_seat *seat) {
 /* Naps a few times, and looks before and after each nap. Threads that sleep leave the processors to the holder, and a queue can
  * drain meanwhile. If many seats hold or wait, it is better to queue at once. */
 static lfm_status nap(lfm_seat *seat) {
-  uint64_t crowd = seat->core->near > FEW / 2 ? 2 * seat->core->near : FEW;
+  uint64_t crowd = near() > FEW / 2 ? 2 * near() : FEW;
   lfm_status status = LFM_BUSY;
   for (int i = 0; status == LFM_BUSY && i < NAPS; i++) {
     uint64_t count = lfm_c_count(seat->handle);
@@ -880,15 +891,15 @@ MOSTLY lfm_status unlock(lfm_seat *seat) {
 
 /* Whether the seat, which its thread gives back, was still queued and is left to the thread that passes it by, with its
  * reference, in this memory of the library. The giver touches the core by another reference until it is done. */
-static bool is_orphaned(lfm_seat *seat, lfm_seat *as, uint32_t in_hand) {
+static bool is_orphaned(lfm_seat *seat, lfm_seat *as, bool in_hand) {
   struct lfm_core *core = seat->core;
   uintptr_t found = place_word(seat, TIMED), orphaned = place_word(as, ORPHANED);
-  count_up(&core->references);
+  refer_to(core);
   bool is_left = __atomic_compare_exchange_n(place_of(seat), &found, orphaned, false, __ATOMIC_ACQ_REL, __ATOMIC_ACQUIRE);
   if (is_left) {
     enter(&core->guard);
     __atomic_add_fetch(&core->orphans, 1, __ATOMIC_RELAXED);
-    core->in_hand -= in_hand;
+    core->in_hand = (uint16_t)(core->in_hand - in_hand);
     if (as != seat) seat->is_in_call = 0, seat->core = NULL;
     leave(&core->guard);
   }
@@ -899,10 +910,13 @@ static bool is_orphaned(lfm_seat *seat, lfm_seat *as, uint32_t in_hand) {
 /* Gives up the place that the seat abandoned: whether it was left to the thread that passes it by. Otherwise the seat is free.
  * A seat in hand lies in memory of the program, so a copy is left. Without memory for it, the seat waits until it is granted
  * the mutex, and gives it up. */
-SELDOM bool is_left_behind(lfm_seat *seat, uint32_t in_hand) {
+SELDOM bool is_left_behind(lfm_seat *seat, bool in_hand) {
   if (!is_back(seat)) return false;
   lfm_seat *as = in_hand ? (lfm_seat *)new_lines(offsetof(lfm_seat, unused)) : seat;
-  if (as && as != seat) memcpy(as, seat, offsetof(lfm_seat, unused));
+  if (as && as != seat) {
+    memcpy(as, seat, offsetof(lfm_seat, unused));
+    as->is_of_library = true;
+  }
   if (as && is_orphaned(seat, as, in_hand)) return true;
   if (as != seat) free(as);
   receive(seat, NULL);
@@ -941,8 +955,8 @@ lfm_status lfm_unlock(lfm_seat *seat) { return is_plain(seat) ? unlock_plainly(s
 lfm_status lfm_seat_give(lfm_seat *seat) {
   if (!is_taken(seat)) return LFM_BLANK;
   begin_call(seat);
-  if (has_left(seat) && is_of_process(seat->core) && is_left_behind(seat, 1)) return LFM_DONE;
-  lfm_status status = give(seat, 1);
+  if (has_left(seat) && is_of_process(seat->core) && is_left_behind(seat, true)) return LFM_DONE;
+  lfm_status status = give(seat, true);
   return status == LFM_DONE ? status : end_call(seat, status);
 }
 
@@ -1036,10 +1050,10 @@ static lfm_status give_back(size_t at) {
   bool is_left = false;
   if (is_of_process(seat->core)) { /* a forked child doesn't have the threads that wait */
     ring_unrung(seat);
-    is_left = has_left(seat) && is_left_behind(seat, 0);
+    is_left = has_left(seat) && is_left_behind(seat, false);
   }
   if (!is_left) {
-    lfm_status status = give(seat, 0);
+    lfm_status status = give(seat, false);
     if (status != LFM_DONE) return status;
     free(seat);
   }
@@ -1140,7 +1154,7 @@ SELDOM lfm_seat *take_own(lfm_mutex *mutex, lfm_status *cause) {
   if (!has_room() || !is_told_of_end()) return NULL;
   lfm_seat *seat = (lfm_seat *)new_lines(offsetof(lfm_seat, unused));
   if (!seat) return NULL;
-  *cause = take(core, seat, own.is_ending ? IS_LATE : 0, 0);
+  *cause = take(core, seat, own.is_ending ? IS_LATE : 0, false);
   if (*cause != LFM_DONE) {
     free(seat);
     return NULL;
@@ -1221,9 +1235,9 @@ static bool is_in_use(struct lfm_core *core) {
     await_passed(seat);
   }
   if (seat) return lfm_c_count(seat->handle) != 0;
-  if (take(core, &looks, 0, 0) != LFM_DONE) return false;
+  if (take(core, &looks, 0, false) != LFM_DONE) return false;
   bool is_used = lfm_c_count(looks.handle) != 0;
-  give(&looks, 0);
+  give(&looks, false);
   return is_used;
 }
 
@@ -1244,15 +1258,51 @@ lfm_status lfm_mutex_close(lfm_mutex *mutex) {
   return LFM_DONE;
 }
 
-/* Makes a new core for this process, with a seat of the calling thread if it has one, at the place of the old seat and as deep.
- * The old core is only forgotten: a thread that the child doesn't have may have been changing it. */
+/* Frees what the library has of a mutex of the parent, as far as it knows it: the seats of threads that the child doesn't have,
+ * and the core if all seats come back. Seats in hand of other threads may lie in memory that is gone, so the core stays then. It
+ * stays too if a thread that the child doesn't have was changing it. The calling thread's seat is back or of the new core. */
+static void free_of_parent(struct lfm_core *core) {
+  bool is_steady = core->guard == 0;
+  if (is_steady) take_back(core);
+  for (uint32_t i = 0; i < core->seats; i++) {
+    if (!(core->places[i] & IN_LIBRARY)) continue;
+    lfm_seat *seat = seat_at(core->places[i]);
+    if (is_steady) lfm_c_give_seat(core->handle, seat->handle);
+    free(seat);
+  }
+  if (!is_steady) return;
+  for (struct spent_seat *spent = core->spent; spent; spent = spent->next) lfm_c_give_seat(core->handle, spent->handle);
+  if (status_of(lfm_c_close(core->handle)) != LFM_DONE) return;
+  for (struct spent_seat *spent = core->spent, *next; spent; spent = next) {
+    next = spent->next;
+    free(spent);
+  }
+  free(core);
+}
+
+/* Takes the calling thread's seat out of a core of the parent: how deep it held. Seats that were queued behind it are passed
+ * by, up to one in hand of a thread that the child doesn't have. */
+static uint64_t leave_parent(struct lfm_core *core, lfm_seat *seat) {
+  uint64_t depth = lfm_c_depth(seat->handle), next = 0;
+  for (uint64_t i = 0; i < depth; i++) next = lfm_c_unlock(seat->handle) >> 8;
+  while (next && (core->places[next - 1] & IN_LIBRARY)) {
+    lfm_seat *queued = seat_at(core->places[next - 1]);
+    lfm_c_receive(queued->handle);
+    next = lfm_c_unlock(queued->handle) >> 8;
+  }
+  if (core->guard == 0) lfm_c_give_seat(core->handle, seat->handle);
+  core->places[seat->number - 1] = 0;
+  seat->core = NULL;
+  return depth;
+}
+
+/* Makes a new core for this process, with a seat of the calling thread if it has one, as deep as the old seat. */
 static lfm_status make_new(lfm_mutex *mutex, lfm_seat *seat, bool is_in_hand) {
   lfm_status cause;
   struct lfm_core *before = mutex->core, *core = new_core(before->seats, before->budget, &cause);
   if (!core) return cause;
   if (seat) {
-    uint64_t depth = lfm_c_depth(seat->handle);
-    seat->core = NULL;
+    uint64_t depth = leave_parent(before, seat);
     take(core, seat, seat->flags, is_in_hand);
     for (uint64_t i = 0; i < depth; i++) lfm_c_try_lock(seat->handle);
   }
@@ -1263,6 +1313,7 @@ static lfm_status make_new(lfm_mutex *mutex, lfm_seat *seat, bool is_in_hand) {
       break;
     }
   mutex->core = core;
+  free_of_parent(before);
   return LFM_DONE;
 }
 
@@ -1277,7 +1328,9 @@ lfm_status lfm_after_fork(lfm_mutex *mutex, lfm_seat *seat) {
     if (lfm_c_take_seat(core->handle, looks.handle) == LFM_DONE) found = &looks;
   }
   if (!found || (found != &looks && is_away(found))) return LFM_BUSY;
-  if (lfm_c_depth(found->handle) == 0 && lfm_c_count(found->handle) != 0) return LFM_BUSY;
+  bool is_busy = lfm_c_depth(found->handle) == 0 && lfm_c_count(found->handle) != 0;
+  if (found == &looks) lfm_c_give_seat(core->handle, looks.handle);
+  if (is_busy) return LFM_BUSY;
   return make_new(mutex, found == &looks ? NULL : found, seat != NULL);
 }
 
@@ -1354,7 +1407,7 @@ enum { LOOKS_AFTER_A_RING = 16, WAITS_PER_TRIAL = 32, WAIT_LOOK = 5000 };
 
 static bool hears_soon(lfm_seat *seat, uint32_t *bell) {
   bool is_trial = ++seat->waits % WAITS_PER_TRIAL == 0;
-  if (seat->core->near == 0 || (seat->looks == 0 && !is_trial)) return false;
+  if (near() == 0 || (seat->looks == 0 && !is_trial)) return false;
   bool is_heard = hears(bell, WAIT_LOOK);
   seat->looks = is_heard ? LOOKS_AFTER_A_RING : seat->looks / 2;
   return is_heard;

@@ -16,7 +16,8 @@ static void *seen_aligned_alloc(size_t alignment, size_t bytes);
 #include "expect.h"
 uint64_t lfm_c_unlock(void *seat);
 
-enum { SHORT = 1000000, LONG = 1000000000, SEATS = 4, TAKES = 100 };
+enum { SHORT = 1000000, SEATS = 4, TAKES = 100 };
+static const uint64_t LONG = 60000000000;
 static lfm_mutex mutex;
 static lfm_condvar condvar;
 static lfm_seat a, b, c;
@@ -39,7 +40,11 @@ uint64_t stopped_unlock(void *handle) {
 }
 
 static void unlock_it(lfm_seat *seat) { EXPECT(lfm_is_refused(lfm_unlock(seat)), false); }
-static void times_out(lfm_seat *seat) { EXPECT(lfm_try_lock_for(seat, SHORT), LFM_BUSY); }
+/* A timed lock gives up while it is queued, and not before, as it may on a busy machine. */
+static void times_out(lfm_seat *seat) {
+  do EXPECT(lfm_try_lock_for(seat, SHORT), LFM_BUSY);
+  while (!(seat->flags & HAS_LEFT));
+}
 
 static void begin(void) {
   EXPECT(lfm_mutex_new(&mutex, SEATS, TAKES), LFM_DONE);
@@ -69,12 +74,12 @@ typedef struct call {
   int stop, is_done, order;
 } call;
 static int gains;
+static _Thread_local call *self;
 
 static void *make_call(void *at) {
-  call *made = (call *)at;
+  call *made = self = (call *)at;
   stop_after = made->stop;
   EXPECT(made->make(made->seat), LFM_DONE);
-  made->order = __atomic_add_fetch(&gains, 1, __ATOMIC_SEQ_CST);
   set(&made->is_done, 1);
   return NULL;
 }
@@ -92,21 +97,15 @@ static void await_stop(void) {
   while (!seen(&is_stopped)) sched_yield();
 }
 
-static lfm_status lock_and_unlock(lfm_seat *seat) {
-  lfm_status status = lfm_lock(seat);
+/* Gives up a mutex that was gained, and notes which gain it was. */
+static lfm_status unlocked(lfm_seat *seat, lfm_status status) {
+  self->order = ++gains;
   unlock_it(seat);
   return status;
 }
-static lfm_status lock_in_order(lfm_seat *seat) {
-  lfm_status status = lfm_lock_in_order(seat);
-  unlock_it(seat);
-  return status;
-}
-static lfm_status lock_long(lfm_seat *seat) {
-  lfm_status status = lfm_try_lock_for(seat, LONG);
-  unlock_it(seat);
-  return status;
-}
+static lfm_status lock_and_unlock(lfm_seat *seat) { return unlocked(seat, lfm_lock(seat)); }
+static lfm_status lock_in_order(lfm_seat *seat) { return unlocked(seat, lfm_lock_in_order(seat)); }
+static lfm_status lock_long(lfm_seat *seat) { return unlocked(seat, lfm_try_lock_for(seat, LONG)); }
 static lfm_status unlock_only(lfm_seat *seat) { return lfm_is_refused(lfm_unlock(seat)) ? LFM_BLANK : LFM_DONE; }
 
 /* The seat gains before one that queued after it, and each place costs one take. */
@@ -198,6 +197,9 @@ static void given_back(void) {
 
 /* A thread ends while its seat, which it found by itself, is queued. */
 static void *time_out_and_end(void *at) {
+  lfm_status cause;
+  EXPECT(lfm_try_lock_for_here(&mutex, 0), LFM_BUSY);
+  times_out(lfm_seat_here(&mutex, &cause));
   EXPECT(lfm_try_lock_for_here(&mutex, SHORT), LFM_BUSY);
   EXPECT(lfm_depth_here(&mutex), 0);
   EXPECT(lfm_unlock_here(&mutex), LFM_NOT_OWNER);

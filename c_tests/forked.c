@@ -2,6 +2,7 @@
  * hang. One makes a mutex new that its thread held in the fork, as pthread_atfork has it, or that nobody held. One whose
  * parent's other thread held it is told so. */
 #define _GNU_SOURCE
+#include <malloc.h>
 #include <signal.h>
 #include <sys/wait.h>
 #include <unistd.h>
@@ -118,6 +119,57 @@ static void *hold(void *at) {
   return at;
 }
 
+/* Other threads have seats, some are queued, and one has left its place by time. The child makes the mutex new, and the memory
+ * of their seats and of the parent's mutex goes back. */
+enum { WAITERS = 20 };
+static lfm_mutex waited_for = LFM_MUTEX_INIT;
+
+static long bytes_in_use(void) {
+  struct mallinfo2 all = mallinfo2();
+  return (long)(all.uordblks + all.hblkhd);
+}
+
+static void frees_seats(void) {
+  long before = bytes_in_use();
+  EXPECT(lfm_after_fork(&waited_for, NULL), LFM_DONE);
+  EXPECT(bytes_in_use() <= before, true);
+  EXPECT(lfm_depth_here(&waited_for), 1);
+  unlock(&waited_for);
+  EXPECT(lfm_mutex_close(&waited_for), LFM_DONE);
+  if (before) EXPECT(bytes_in_use() < before - WAITERS * 192, true); /* with a sanitizer it is 0 */
+}
+
+static void *wait_in_queue(void *at) {
+  if (*(int *)at % 2) {
+    EXPECT(lfm_try_lock_for_here(&waited_for, 1000000), LFM_BUSY);
+    __atomic_fetch_add(&step, 1, __ATOMIC_SEQ_CST);
+    while (__atomic_load_n(&step, __ATOMIC_SEQ_CST) < 1000) sched_yield();
+    return NULL;
+  }
+  __atomic_fetch_add(&step, 1, __ATOMIC_SEQ_CST);
+  EXPECT(lfm_lock_in_order_here(&waited_for), LFM_DONE);
+  unlock(&waited_for);
+  return NULL;
+}
+
+static void seats_of_others(void) {
+  pthread_t waiters[WAITERS];
+  int numbers[WAITERS];
+  step = 0;
+  lock(&waited_for);
+  for (int i = 0; i < WAITERS; i++) {
+    numbers[i] = i;
+    EXPECT(pthread_create(&waiters[i], NULL, wait_in_queue, &numbers[i]), 0);
+  }
+  while (__atomic_load_n(&step, __ATOMIC_SEQ_CST) < WAITERS) sched_yield();
+  usleep(50000); /* so that most of them sleep in the queue */
+  EXPECT(in_child(frees_seats), 0);
+  unlock(&waited_for);
+  __atomic_store_n(&step, 1000, __ATOMIC_SEQ_CST);
+  for (int i = 0; i < WAITERS; i++) EXPECT(pthread_join(waiters[i], NULL), 0);
+  EXPECT(lfm_mutex_close(&waited_for), LFM_DONE);
+}
+
 int main(void) {
   pthread_t threads[THREADS], holder;
   int numbers[THREADS];
@@ -150,5 +202,6 @@ int main(void) {
   EXPECT(pthread_join(holder, NULL), 0);
   EXPECT(lfm_seat_give(&seat), LFM_DONE);
   EXPECT(lfm_mutex_close(&in_hand), LFM_DONE);
+  seats_of_others();
   return 0;
 }

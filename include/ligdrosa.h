@@ -154,7 +154,8 @@ typedef struct lfm_seat {
   uint64_t left;
   uint64_t kept;
   uint32_t bell;
-  uint16_t looks;
+  uint8_t looks;
+  bool is_of_library; /* its memory is the library's */
   uint16_t waits;
   uint32_t unused[16];
 } __attribute__((aligned(16))) lfm_seat;
@@ -203,7 +204,7 @@ LFM_API uint64_t lfm_takes_left(lfm_mutex *mutex);
  * set to zero before it is taken anew. In the process that opened the mutex it changes nothing.
  * Refused: LFM_BLANK, LFM_FOREIGN, LFM_NO_MEMORY, and LFM_BUSY if another thread held the mutex, asked for it or was giving it
  * up when the parent forked, or if the thread has no seat by which it could see that, and none is free. */
-LFM_API lfm_status lfm_after_fork(lfm_mutex *mutex, lfm_seat *seat);
+LFM_NODISCARD lfm_status lfm_after_fork(lfm_mutex *mutex, lfm_seat *seat);
 
 /* Seats in hand */
 

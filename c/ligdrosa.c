@@ -493,9 +493,9 @@ MOSTLY bool is_taken(const lfm_seat *seat) { return seat && seat->core; }
  *   AWAITED    the same, and a call of the seat sleeps at the bell until that is done
  *   ORPHANED   as ABANDONED, but the seat was given back; the lfm_seat is memory of the library
  * The seat's own thread sets TIMED before it asks. Its lock leaves by TIMED -> ABANDONED. Its next lock takes the place up
- * again by ABANDONED -> TIMED, and keeps its place in the queue. A give goes on from there by TIMED -> ORPHANED. The thread that
- * has to wake the seat makes TIMED -> WAITS and then rings, or ABANDONED -> PASSING, or takes an ORPHANED one out. PASSING and
- * AWAITED end in WAITS. Each of these steps is a compare-and-exchange, unless no other thread may change the place.
+ * again by ABANDONED -> TIMED, and keeps its place in the queue. A give goes on from there by TIMED -> ORPHANED. The thread
+ * that has to wake the seat makes TIMED -> WAITS and then rings, or ABANDONED -> PASSING, or takes an ORPHANED one out. PASSING
+ * and AWAITED end in WAITS. Each of these steps is a compare-and-exchange, unless no other thread may change the place.
  *
  * Each grant is received by one thread. One answer of the library names the seat that it granted the mutex, so one thread has
  * to wake it. The steps by which it does so and those of the seat's own thread exclude each other. If the waker makes
@@ -540,7 +540,7 @@ SELDOM bool is_passed(lfm_seat *seat) {
   return true;
 }
 
-/* Whether the seat is still queued for a lock that has returned, or is being passed by. Then its handle is not to be touched. */
+/* Whether the seat is still queued for a lock that has returned, or is being passed by. Then no call touches its handle. */
 MOSTLY bool is_away(lfm_seat *seat) { return UNLIKELY(seat->flags & HAS_LEFT) && !is_passed(seat); }
 
 /* Takes a seat for this handle. The guard is held. */
@@ -699,8 +699,8 @@ static uint64_t pass(lfm_seat *seat, uintptr_t *place, uintptr_t found) {
   return next;
 }
 
-/* Does the same for an orphan, and leaves it to be taken back by the next thread that takes a seat or gives one: that may sleep,
- * and the calling thread may not. A thread that gains the mutex later finds one orphan less. */
+/* Does the same for an orphan, and leaves it to be taken back by the next thread that takes a seat or gives one: that may
+ * sleep, and the calling thread may not. A thread that gains the mutex later finds one orphan less. */
 static uint64_t pass_orphan(struct lfm_core *core, lfm_seat *seat) {
   lfm_c_receive(seat->handle);
   __atomic_sub_fetch(&core->orphans, 1, __ATOMIC_RELAXED);
@@ -1258,9 +1258,9 @@ lfm_status lfm_mutex_close(lfm_mutex *mutex) {
   return LFM_DONE;
 }
 
-/* Frees what the library has of a mutex of the parent, as far as it knows it: the seats of threads that the child doesn't have,
- * and the core if all seats come back. Seats in hand of other threads may lie in memory that is gone, so the core stays then. It
- * stays too if a thread that the child doesn't have was changing it. The calling thread's seat is back or of the new core. */
+/* Frees what the library has of a mutex of the parent: the seats of threads that the child doesn't have, and the core if all
+ * seats come back. Seats in hand of other threads may lie in memory that is gone, so the core stays then. It stays too if a
+ * thread that the child doesn't have was changing it. The calling thread's seat is back or of the new core. */
 static void free_of_parent(struct lfm_core *core) {
   bool is_steady = core->guard == 0;
   if (is_steady) take_back(core);

@@ -1,7 +1,7 @@
-/* A mutex is closed while an unlock is on its way out: the library has given the mutex up, and the unlock has not woken the next
- * seat yet. If that seat waits, the close is refused. If its lock has given up, the close is made once the unlock has passed it
- * by, and the memory of the lfm_mutex goes at once. The unlock goes on after that, and the library's own memory goes when the
- * threads end.
+/* A mutex is closed while an unlock is on its way out: the library has given the mutex up, and the unlock has not woken the
+ * next seat yet. If that seat waits, the close is refused. If its lock has given up, the close is made once the unlock has
+ * passed it by, and the memory of the lfm_mutex goes at once. The unlock goes on after that, and the library's own memory goes
+ * when the threads end.
  *
  * The test has the C file of the library in it, and stops the unlock of one thread after a call of the library's unlock. */
 #define _GNU_SOURCE

@@ -12,11 +12,11 @@
  * Most programs need only the calls whose names end in `here`, and lfm_wake_one and lfm_wake_all. A status is tested by
  * lfm_is_refused, and not against 0: each one below LFM_BLANK is a success, as LFM_AGAIN of a thread that held before.
  *
- * What is proved: the calls of crates/lfm_c, which lock and unlock but neither sleep nor wake. Each is the mutex's own call:
- * its answers, its refusals, its steps and their bound, and whom it grants the mutex. That no two seats hold at once follows
- * from the rule that each step keeps (docs/LAWS.md, tables_are_steady and one_seat_owns). What is only tested: c/ligdrosa.c. It
- * puts threads to sleep and wakes them, tries before it queues, finds seats, opens and ends mutexes, and has the condition
- * variables. It argues beside its code why no wake-up is lost, and why nothing is touched after its end.
+ * What is proved: the library's inner calls, which lock and unlock but neither sleep nor wake. Each is a call of the proved
+ * mutex: its answers, its refusals, its steps and their bound, and the seat that it grants the mutex. That no two seats hold at
+ * once follows from a rule that each step keeps, which is proved too. What is only tested: the rest of the library. It puts
+ * threads to sleep and wakes them, tries before it queues, passes by seats whose time is over, finds seats, opens and ends
+ * mutexes, and has the condition variables. Its source argues why no wake-up is lost, and why nothing is touched after its end.
  *
  * A thread calls a mutex through a seat. Calls whose names end in `here` find the calling thread's seat by themselves. The
  * others are given a seat (lfm_seat_take), for programs that want no thread-local memory. Then only lfm_mutex_new takes memory,
@@ -66,7 +66,7 @@ extern "C" {
 
 /* What a call tells. Below LFM_BLANK the call was made, from there on it was refused. */
 typedef enum lfm_status {
-  /* scripts/write_c_sides writes the numbers from here */
+  /* a script writes the numbers from here */
   LFM_DONE = 0,      /* made: the seat holds the mutex, or gave it up and nobody else asked */
   LFM_AGAIN = 1,     /* the seat held before, and holds once more */
   LFM_STILL = 2,     /* the seat holds once less, and still holds */

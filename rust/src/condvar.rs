@@ -119,6 +119,16 @@ impl Condvar {
         status == DONE
     }
 
+    /// Forgets the threads that wait, in a forked child, which doesn't have them. It is called before any other call of this
+    /// condition variable in the child, unless no other thread of the parent can have waited or been in a call of it.
+    ///
+    /// # Safety
+    ///
+    /// The process is a forked child, and in it no thread waits or makes another call of this condition variable meanwhile.
+    pub unsafe fn after_fork(&self) {
+        self.0.clear();
+    }
+
     /// The same as `notify_all` by a holder.
     pub fn notify_all_by<T: ?Sized, By: Lock>(&self, holder: &mut Guard<'_, T, By>) -> bool {
         let status = match holder.by.in_hand() {

@@ -15,7 +15,9 @@
 //! # Ok::<(), ligdrosa::Refusal>(())
 //! ```
 //!
-//! A forked child may drop what it has of its parent's mutexes, but for guards. It makes no other call of them.
+//! A forked child may drop what it has of its parent's mutexes, except for guards. It makes other calls of a mutex only after
+//! [`Mutex::after_fork`], [`Seat::after_fork`] or [`Guard::after_fork`], and of a condition variable after
+//! [`Condvar::after_fork`].
 
 #[cfg(not(all(target_os = "linux", target_pointer_width = "64")))]
 compile_error!("ligdrosa needs Linux with addresses of 64 bits");

@@ -3,7 +3,7 @@ use std::{
     cell::UnsafeCell,
     ffi::{c_char, c_int, CStr},
     fmt, ptr,
-    sync::atomic::{AtomicPtr, AtomicU32, AtomicU64},
+    sync::atomic::{AtomicPtr, AtomicU32, AtomicU64, Ordering},
     time::Duration,
 };
 
@@ -16,7 +16,8 @@ pub const DONE: u32 = 0;
 pub const AGAIN: u32 = 1;
 pub const TIMED_OUT: u32 = 7;
 /// The first of the statuses that tell why a call was refused.
-const BLANK: u32 = 16;
+pub const BLANK: u32 = 16;
+pub const FOREIGN: u32 = 23;
 
 /// Why a call was refused. A refused call has changed nothing.
 #[derive(Clone, Copy, Debug, PartialEq, Eq, Hash)]
@@ -123,21 +124,30 @@ pub struct RawSeat(UnsafeCell<[[u64; 16]; 2]>);
 pub struct RawCondvar([AtomicU64; 4]);
 
 impl RawCondvar {
-    /// One at which nobody waits.
+    /// One at which no thread waits.
     pub const fn new() -> RawCondvar {
         RawCondvar([const { AtomicU64::new(0) }; 4])
+    }
+
+    /// Forgets the threads that wait.
+    pub fn clear(&self) {
+        for word in &self.0 {
+            word.store(0, Ordering::Relaxed);
+        }
     }
 }
 
 // SAFETY: so the header declares them. Those that aren't `safe` ask for more than that their references are right: a mutex is
-// opened and closed while no other call of it is made, and a seat that was taken is not moved until it is given back.
+// opened, closed and made new while no other call of it is made, and a seat that was taken is not moved until it is given back.
 unsafe extern "C" {
     safe fn lfm_status_text(status: u32) -> *const c_char;
     pub fn lfm_mutex_open(mutex: &RawMutex, seats: u64, budget: u64, version: c_int) -> u32;
     pub fn lfm_mutex_close(mutex: &RawMutex) -> u32;
     pub safe fn lfm_takes_left(mutex: &RawMutex) -> u64;
+    pub fn lfm_after_fork(mutex: &RawMutex, seat: Option<&RawSeat>) -> u32;
     pub fn lfm_seat_take(mutex: &RawMutex, seat: &RawSeat) -> u32;
     pub safe fn lfm_seat_give(seat: &RawSeat) -> u32;
+    pub safe fn lfm_seat_give_here(mutex: &RawMutex) -> u32;
     pub safe fn lfm_number(seat: &RawSeat) -> u64;
     pub safe fn lfm_left(seat: &RawSeat) -> u64;
     pub safe fn lfm_wake_one(condvar: &RawCondvar) -> u32;

@@ -95,7 +95,7 @@ impl<T: ?Sized> Mutex<T> {
             self.raw.0.unlock();
             return Err(Refusal::Holding);
         }
-        Guard::of(status, &self.raw.0, &self.value)
+        Guard::of(status, &self.raw.0, self)
     }
 
     /// Gains the mutex, for one take. It first tries a bounded number of times, between pauses and naps, and so may come before
@@ -129,6 +129,34 @@ impl<T: ?Sized> Mutex<T> {
     /// The same until this moment.
     pub fn try_lock_until(&self, end: Instant) -> Result<MutexGuard<'_, T>, Refusal> {
         self.try_lock_for(end.saturating_duration_since(Instant::now()))
+    }
+
+    /// Gives the calling thread's seat back before the thread ends, so that another thread can take it. A thread that has no
+    /// seat gives none back. A later call of the thread takes a seat anew. Refused: `Holding` if the thread holds.
+    pub fn give_seat(&self) -> Result<(), Refusal> {
+        match lfm_seat_give_here(&self.raw.0) {
+            BLANK => Ok(()),
+            status => made(status).map(drop),
+        }
+    }
+
+    /// Makes the mutex new in a forked child, if no thread held it when the parent forked, or if the thread that forked held it
+    /// and finds its seat by itself. That thread holds it as often as before, and its guards stay good. A holder by a
+    /// [`Seat`](crate::Seat) calls [`Guard::after_fork`] instead. In the process that opened the mutex the call does nothing.
+    ///
+    /// Refused: `NoMemory`, and `Busy` if another thread held the mutex, asked for it or was giving it up when the parent
+    /// forked, or if all seats were taken and the calling thread has none.
+    ///
+    /// # Safety
+    ///
+    /// - In the child no call of the mutex was made before, except of the `after_fork` functions, and no other is made meanwhile.
+    /// - If this succeeds, each seat in hand and each guard of one is used no more, or only after its own `after_fork` has
+    ///   succeeded. They may be dropped, except for guards.
+    /// - The child has another process id than the process that opened the mutex. It may have the same in another namespace of
+    ///   ids.
+    pub unsafe fn after_fork(&self) -> Result<(), Refusal> {
+        // SAFETY: the caller promises it.
+        made(unsafe { lfm_after_fork(&self.raw.0, None) }).map(drop)
     }
 
     /// Gives up a hold of the calling thread whose guard was forgotten.
@@ -179,7 +207,7 @@ impl<T: ?Sized + fmt::Debug> fmt::Debug for Mutex<T> {
 #[must_use = "a guard that is dropped at once gives its hold up"]
 pub struct Guard<'a, T: ?Sized, By: Lock = RawSeat> {
     pub(crate) by: &'a By,
-    value: &'a UnsafeCell<T>,
+    mutex: &'a Mutex<T>,
 }
 
 // SAFETY: a shared guard gives `&T` alone, and makes no call.
@@ -193,20 +221,31 @@ impl<'a, T: ?Sized, By: Lock> Guard<'a, T, By> {
     pub(crate) fn of(
         status: u32,
         by: &'a By,
-        value: &'a UnsafeCell<T>,
+        mutex: &'a Mutex<T>,
     ) -> Result<Guard<'a, T, By>, Refusal> {
-        made(status).map(|_| Guard { by, value })
+        made(status).map(|_| Guard { by, mutex })
     }
 
     /// Deepens the hold, and costs no take. Refused: `DepthFull`.
     #[inline]
     pub fn again(&mut self) -> Result<Guard<'_, T, By>, Refusal> {
-        Guard::of(self.by.lock(), self.by, self.value)
+        Guard::of(self.by.lock(), self.by, self.mutex)
     }
 
     /// How often the seat holds.
     pub fn depth(&mut self) -> u64 {
         self.by.depth()
+    }
+
+    /// Makes the mutex new in a forked child, and the guard's seat holds it as often as before. So the guard stays good, and so
+    /// do those that it borrows. Refused: `NoMemory`.
+    ///
+    /// # Safety
+    ///
+    /// As for [`Mutex::after_fork`].
+    pub unsafe fn after_fork(&mut self) -> Result<(), Refusal> {
+        // SAFETY: the caller promises it.
+        made(unsafe { lfm_after_fork(&self.mutex.raw.0, self.by.in_hand()) }).map(drop)
     }
 }
 
@@ -223,7 +262,7 @@ impl<T: ?Sized, By: Lock> Deref for Guard<'_, T, By> {
     #[inline]
     fn deref(&self) -> &T {
         // SAFETY: the seat holds the mutex while the guard lives, so no other reaches the value.
-        unsafe { &*self.value.get() }
+        unsafe { &*self.mutex.value.get() }
     }
 }
 
@@ -231,7 +270,7 @@ impl<T: ?Sized, By: Lock> DerefMut for Guard<'_, T, By> {
     #[inline]
     fn deref_mut(&mut self) -> &mut T {
         // SAFETY: as for `deref`. A guard of a deeper hold borrows this one.
-        unsafe { &mut *self.value.get() }
+        unsafe { &mut *self.mutex.value.get() }
     }
 }
 

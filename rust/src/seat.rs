@@ -8,7 +8,9 @@ use std::{
     time::{Duration, Instant},
 };
 
-/// What one thread uses a mutex with. Dropped, it is given back.
+/// What one thread uses a mutex with. Dropped, it is given back, unless it holds since a guard was forgotten: then it is leaked,
+/// and no other seat gains the mutex any more. If it is still queued by a lock whose time was over, it is given back as soon as
+/// its turn comes.
 ///
 /// It is `Send` and not `Sync`, and a [`Guard`] borrows it, so the borrow checker sees that a seat is in one call at a time:
 ///
@@ -59,7 +61,7 @@ impl<T: ?Sized> Seat<T> {
     /// The guard that a call with this status gains.
     #[inline]
     fn guard(&mut self, status: u32) -> Result<Guard<'_, T>, Refusal> {
-        Guard::of(status, self.raw(), &self.mutex.value)
+        Guard::of(status, self.raw(), &self.mutex)
     }
 
     /// The mutex, of which more seats may be taken.
@@ -104,13 +106,39 @@ impl<T: ?Sized> Seat<T> {
     pub fn try_lock_until(&mut self, end: Instant) -> Result<Guard<'_, T>, Refusal> {
         self.try_lock_for(end.saturating_duration_since(Instant::now()))
     }
+
+    /// Makes the mutex new in a forked child, as [`Mutex::after_fork`], if no thread held it when the parent forked, or if this
+    /// seat held it and its guard was forgotten. If another call has made the mutex new already, the seat is taken anew there,
+    /// and may have another number. A guard that holds makes the mutex new by [`Guard::after_fork`], and the other seats follow.
+    ///
+    /// Refused: as [`Mutex::after_fork`], and `NoSeat` if no seat is free. Then the seat has no calls but this one.
+    ///
+    /// # Safety
+    ///
+    /// As for [`Mutex::after_fork`].
+    pub unsafe fn after_fork(&mut self) -> Result<(), Refusal> {
+        let (mutex, seat) = (&self.mutex.raw.0, self.raw());
+        // SAFETY: the caller promises it.
+        let status = unsafe { lfm_after_fork(mutex, Some(seat)) };
+        if status != FOREIGN && status != BLANK {
+            return made(status).map(drop);
+        }
+        // SAFETY: the mutex was made new, so its calls don't refer to the seat. It is not moved, and is given back when it is
+        // dropped.
+        made(unsafe {
+            self.raw.write(RawSeat::default());
+            lfm_seat_take(mutex, self.raw.as_ref())
+        })
+        .map(drop)
+    }
 }
 
+/// A seat that holds, since its guard was forgotten, isn't given back: no other seat gains the mutex any more. It is leaked.
 impl<T: ?Sized> Drop for Seat<T> {
     fn drop(&mut self) {
-        // One that holds, since its guard was forgotten, isn't given back: nobody else gains the mutex.
-        if made(lfm_seat_give(self.raw())) != Err(Refusal::Holding) {
-            // SAFETY: the library doesn't refer to the seat any more, nor does anybody else.
+        // Only then the library doesn't refer to the seat any more. `Blank` tells that the seat was never taken.
+        if matches!(lfm_seat_give(self.raw()), DONE | BLANK) {
+            // SAFETY: no other reference to the seat is left.
             drop(unsafe { Box::from_raw(self.raw.as_ptr()) });
         }
     }

@@ -2,6 +2,7 @@
 //! are made, and gives answers that the library seldom gives. Each test has a thread of its own.
 use ligdrosa::{mutex, Condvar, Mutex, Refusal, Seat};
 use std::{
+    alloc::{GlobalAlloc, Layout, System},
     cell::{Cell, RefCell},
     mem,
     sync::Arc,
@@ -13,6 +14,30 @@ thread_local! {
     static UNUSUAL: Cell<(&'static str, u64)> = const { Cell::new(("", 0)) };
     /// The calls that were made, each with its arguments.
     static MADE: RefCell<Vec<(&'static str, Vec<usize>)>> = const { RefCell::new(Vec::new()) };
+    /// How many seats the thread has freed.
+    static FREED: Cell<u32> = const { Cell::new(0) };
+}
+
+/// Counts blocks that are freed and have the size and alignment of a seat.
+struct Counted;
+
+#[global_allocator]
+static ALLOCATOR: Counted = Counted;
+
+// SAFETY: the system's allocator does it.
+unsafe impl GlobalAlloc for Counted {
+    unsafe fn alloc(&self, layout: Layout) -> *mut u8 {
+        // SAFETY: the caller promises it.
+        unsafe { System.alloc(layout) }
+    }
+
+    unsafe fn dealloc(&self, block: *mut u8, layout: Layout) {
+        if (layout.size(), layout.align()) == (256, 16) {
+            FREED.set(FREED.get() + 1);
+        }
+        // SAFETY: the caller promises it.
+        unsafe { System.dealloc(block, layout) }
+    }
 }
 
 // scripts/write_c_sides writes the numbers from here
@@ -20,12 +45,15 @@ const AGAIN: u64 = 1;
 const POSTED: u64 = 4;
 const NOBODY: u64 = 6;
 const TIMED_OUT: u64 = 7;
+const BLANK: u64 = 16;
 const TAKEN: u64 = 17;
 const LIMIT: u64 = 18;
 const NO_MEMORY: u64 = 19;
 const NO_SEAT: u64 = 20;
 const HOLDING: u64 = 22;
+const FOREIGN: u64 = 23;
 const OTHER_HEADER: u64 = 24;
+const SEAT_ASLEEP: u64 = 32;
 const NESTED: u64 = 34;
 const DEPTH_FULL: u64 = 35;
 const SPENT: u64 = 36;
@@ -48,8 +76,10 @@ calls! {
     lfm_mutex_open(mutex seats budget version)
     lfm_mutex_close(mutex)
     lfm_takes_left(mutex)
+    lfm_after_fork(mutex seat)
     lfm_seat_take(mutex seat)
     lfm_seat_give(seat)
+    lfm_seat_give_here(mutex)
     lfm_number(seat)
     lfm_left(seat)
     lfm_depth(seat)
@@ -190,6 +220,71 @@ fn seats_lie_still() {
     assert_eq!(last_of("lfm_unlock"), place);
     let calls = made_by(|| drop(moved));
     assert_eq!(calls, ["lfm_seat_give", "lfm_mutex_close"]);
+}
+
+/// The library still refers to a seat that it doesn't take back.
+#[test]
+fn a_seat_that_is_not_given_back_is_kept() {
+    for (status, freed) in [(HOLDING, 0), (SEAT_ASLEEP, 0), (255, 0), (BLANK, 1), (0, 1)] {
+        let seat = mutex(1, 1, ()).unwrap().remove(0);
+        FREED.set(0);
+        while_it_answers("lfm_seat_give", status, || drop(seat));
+        assert_eq!(FREED.get(), freed, "if the library answers {status}");
+    }
+    FREED.set(0);
+    assert!(while_it_answers("lfm_seat_take", NO_SEAT, || mutex(
+        1,
+        1,
+        ()
+    )
+    .is_err()));
+    assert_eq!(FREED.get(), 1);
+}
+
+/// A thread without a seat has none to give back.
+#[test]
+fn the_seat_of_a_living_thread() {
+    let mutex = Mutex::new(());
+    for (status, result) in [
+        (0, Ok(())),
+        (BLANK, Ok(())),
+        (HOLDING, Err(Refusal::Holding)),
+    ] {
+        let gives = || while_it_answers("lfm_seat_give_here", status, || mutex.give_seat());
+        let made = made_by(|| assert_eq!(gives(), result));
+        assert_eq!(made, ["lfm_seat_give_here"]);
+    }
+}
+
+/// A seat is passed by its holder, and one that another call has left behind is taken anew.
+#[test]
+fn after_a_fork() {
+    let mutex = Arc::new(Mutex::new(()));
+    let mut seat = mutex.seat().unwrap();
+    let place = last_of("lfm_seat_take");
+    // SAFETY: the library does nothing.
+    unsafe {
+        mutex.after_fork().unwrap();
+        mutex.lock().unwrap().after_fork().unwrap();
+        assert_eq!(last_of("lfm_after_fork"), Some(0));
+        seat.lock().unwrap().after_fork().unwrap();
+        assert_eq!(last_of("lfm_after_fork"), place);
+        let made = made_by(|| seat.after_fork().unwrap());
+        assert_eq!(made, ["lfm_after_fork"]);
+        for (status, result, calls) in [
+            (BUSY, Err(Refusal::Busy), 1),
+            (NO_MEMORY, Err(Refusal::NoMemory), 1),
+            (FOREIGN, Ok(()), 2),
+            (BLANK, Ok(()), 2),
+        ] {
+            MADE.take();
+            let follows = || seat.after_fork();
+            assert_eq!(while_it_answers("lfm_after_fork", status, follows), result);
+            assert_eq!(MADE.with_borrow(Vec::len), calls);
+            let taken = if calls == 2 { place } else { None };
+            assert_eq!(last_of("lfm_seat_take"), taken);
+        }
+    }
 }
 
 /// A mutex ends with the last that refers to it, also if a seat holds and is not given back.

@@ -100,6 +100,26 @@ fn a_thread_has_one_guard_of_a_mutex() {
     assert_eq!(*mutex.lock().unwrap(), 8);
 }
 
+/// The mutex has one seat, which two threads use in turn.
+#[test]
+fn a_living_thread_gives_its_seat_back() {
+    let mutex = Mutex::with_seats(1, 0);
+    assert_eq!(mutex.give_seat(), Ok(()));
+    let in_a_thread = |refusal| {
+        thread::scope(|scope| {
+            let adds = || mutex.lock().map(|mut value| *value += 1).err();
+            assert_eq!(scope.spawn(adds).join().unwrap(), refusal);
+        });
+    };
+    let guard = mutex.lock().unwrap();
+    assert_eq!(mutex.give_seat(), Err(Refusal::Holding));
+    drop(guard);
+    in_a_thread(Some(Refusal::NoSeat));
+    assert_eq!(mutex.give_seat(), Ok(()));
+    in_a_thread(None);
+    assert_eq!(*mutex.lock().unwrap(), 1);
+}
+
 #[test]
 fn a_panic_gives_its_hold_up() {
     let mut seats = mutex(2, 3, 7u64).unwrap();

@@ -137,6 +137,25 @@ static void one_thread_too_many() {
   for (int i = 1; i < LFM_USUAL_SEATS; i++) threads[size_t(i)].join();
 }
 
+// Two threads use the only seat of a mutex in turn.
+static void a_living_thread_gives_its_seat_back() {
+  lfm::recursive_mutex mutex(1);
+  const auto of_a_thread = [&] {
+    lfm_status status = LFM_DONE;
+    std::thread([&] { status = refusal_of([&] { lfm::guard hold(mutex); }); }).join();
+    return status;
+  };
+  mutex.give_seat();
+  mutex.lock();
+  EXPECT(refusal_of([&] { mutex.give_seat(); }), LFM_HOLDING);
+  mutex.unlock();
+  EXPECT(of_a_thread(), LFM_NO_SEAT);
+  mutex.give_seat();
+  EXPECT(of_a_thread(), LFM_DONE);
+  mutex.lock();
+  mutex.unlock();
+}
+
 static lfm::recursive_mutex of_the_program(2);
 
 static void mutexes_that_end() {
@@ -167,6 +186,7 @@ int main() {
   refusals_of_seats();
   refusals_of_threads();
   one_thread_too_many();
+  a_living_thread_gives_its_seat_back();
   mutexes_that_end();
   return 0;
 }

@@ -161,6 +161,12 @@ public:
   }
   // How often the calling thread holds.
   uint64_t depth() noexcept { return lfm_depth_here(&raw); }
+  // Gives the calling thread's seat back before the thread ends, so that another thread can take it. A thread that has none gives
+  // none back. A later call of the thread takes a seat anew. Throws LFM_HOLDING if the thread holds.
+  void give_seat() {
+    const lfm_status status = lfm_seat_give_here(&raw);
+    if (status != LFM_BLANK) made(status);
+  }
   // Throws as lfm_lock_here refuses.
   void lock() LFM_CALL(acquire_capability()) { made(lfm_lock_here(&raw)); }
   // The same, but queues at once.

@@ -77,7 +77,7 @@ static void take_memory(uint64_t seats) {
 
 static void seats_in_hand(void) {
   EXPECT(refuse_each(make_mutex), REQUESTS);
-  allowed = 0; /* no other call with a seat in hand asks for memory, but for an exchange */
+  allowed = 0; /* no other call with a seat in hand asks for memory, except an exchange */
   EXPECT(lfm_seat_take(&mutex, &seat), LFM_DONE);
   EXPECT(lfm_lock(&seat), LFM_DONE);
   EXPECT(lfm_lock(&seat), LFM_AGAIN);

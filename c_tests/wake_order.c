@@ -1,6 +1,6 @@
 /* In which order a wait and a wake do what they do. A wait is listed before it gives the mutex up, and then the list is free. A
  * wake rings after it has left the list, so that the thread that it wakes finds it free. If its caller holds the mutex, it
- * rings when the mutex is given up, but for waits with a time limit. Wakes go in the order of the waits, also if some waits end
+ * rings when the mutex is given up, except for waits with a time limit. Wakes go in the order of the waits, also if some waits end
  * by time between.
  *
  * The test has the C file of the library in it, and wraps its unlocks and its calls of the system. */
@@ -146,7 +146,7 @@ int main(void) {
   EXPECT(unlocks_of_waits, WAITERS);
   EXPECT(listed_at_unlock, WAITERS);
   EXPECT(free_at_unlock, WAITERS);
-  EXPECT(wakes != 0, true); /* each waits long enough to sleep, but for chance */
+  EXPECT(wakes != 0, true); /* each most probably waits long enough to sleep */
   EXPECT(free_at_wake, wakes);
   for (unsigned i = 0; i < WAITERS / 2; i++) EXPECT(returned[i] % 2, 1);
   for (unsigned i = WAITERS / 2; i < WAITERS; i++) EXPECT(returned[i], 2 * (i - WAITERS / 2));

@@ -21,7 +21,7 @@ use std::{
     time::{Duration, Instant},
 };
 
-/// A [`ligdrosa::Mutex`] without a value, whose guards are forgotten. Its calls panic if they are refused, but for tries of a
+/// A [`ligdrosa::Mutex`] without a value, whose guards are forgotten. Its calls panic if they are refused, except for tries of a
 /// mutex that is busy or that the thread holds. So does a lock by a thread that holds.
 pub struct RawMutex(ligdrosa::Mutex<()>);
 

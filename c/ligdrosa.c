@@ -166,6 +166,8 @@ static lfm_status limit_at(int clock, const struct timespec *time, struct limit 
 
 static uint32_t bell_of(uint32_t *bell) { return __atomic_load_n(bell, __ATOMIC_ACQUIRE); }
 
+static void silence(uint32_t *bell) { __atomic_store_n(bell, SILENT, __ATOMIC_RELAXED); }
+
 static void ring(uint32_t *bell) {
   if (__atomic_exchange_n(bell, RUNG, __ATOMIC_ACQ_REL) == LISTENED) wake_sleeper(bell);
 }
@@ -566,7 +568,7 @@ static lfm_status take(struct lfm_core *core, lfm_seat *seat, uint32_t flags, bo
   seat->number = (uint16_t)lfm_c_number(seat->handle);
   seat->is_in_call = 0;
   seat->left = lfm_c_left(seat->handle);
-  seat->bell = SILENT;
+  silence(&seat->bell);
   seat->looks = 0;
   seat->is_of_library = !in_hand;
   seat->waits = 0;
@@ -683,9 +685,8 @@ SELDOM bool is_renewed(lfm_seat *seat) {
  * One call of the library grants the mutex to at most one seat, and its answer names that seat, which is proved. The thread
  * that made the call wakes that seat before it sleeps itself. So each grant is rung for, once, or the place is passed by.
  *
- * The SILENT in a bell is a plain word, which the seat's thread writes before its ask. Another thread touches the bell only to
- * ring, after it found that ask in the library's words. Those are atomic, and so they order the two. ThreadSanitizer doesn't
- * see them: if it watches this file, it reports a race at `ring`, which is none. */
+ * The seat's thread silences its bell and sets its place before its ask, both without an order. Another thread reads the place
+ * and rings only after it found that ask in the library's words, and these order the two. */
 
 /* Receives the grant of a seat whose place is PASSING, gives the mutex up, and makes the seat free for calls of its own thread.
  * The number of the seat that is to be woken next, or 0. */
@@ -761,7 +762,7 @@ SELDOM lfm_status receive(lfm_seat *seat, const struct limit *limit) {
   uint64_t look = count_up(&core->queued) <= near() ? LFM_LOOK_NANOSECONDS : 0;
   if (limit && left_of(limit) < look) look = left_of(limit);
   bool is_granted = await(&seat->bell, look, limit) || (!abandons(seat) && await(&seat->bell, 0, NULL));
-  seat->bell = SILENT;
+  silence(&seat->bell);
   count_down(&core->queued);
   return is_granted ? status_of(lfm_c_receive(seat->handle)) : LFM_BUSY;
 }
@@ -786,7 +787,7 @@ SELDOM void await_passed(lfm_seat *seat) {
   if (!(seat->flags & HAS_LEFT)) return;
   if (changes(seat, PASSING, AWAITED)) {
     await(&seat->bell, 0, NULL);
-    seat->bell = SILENT;
+    silence(&seat->bell);
   }
   is_passed(seat);
 }

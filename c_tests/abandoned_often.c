@@ -1,18 +1,42 @@
 /* Timed locks at random, most of which give up: 8 threads add to a counter, by their own seats, by seats in hand that they give
- * back at once, and as threads that end. No sum is lost, all seats come back, and the mutex is closed at the end. */
+ * back at once, and as threads that end. No sum is lost, all seats come back, and the mutex is closed at the end.
+ *
+ * With -DIS_DELAYED it has the C file of the library in it, whose atomic operations are delayed at random. */
 #define _GNU_SOURCE
+#include <sched.h>
 #include <time.h>
+#include <unistd.h>
+#ifdef IS_DELAYED
+static void delay(void);
+#define __atomic_compare_exchange_n(...) (delay(), __atomic_compare_exchange_n(__VA_ARGS__))
+#define __atomic_exchange_n(...) (delay(), __atomic_exchange_n(__VA_ARGS__))
+#define __atomic_load_n(...) (delay(), __atomic_load_n(__VA_ARGS__))
+#define __atomic_store_n(...) (delay(), __atomic_store_n(__VA_ARGS__))
+#define __atomic_add_fetch(...) (delay(), __atomic_add_fetch(__VA_ARGS__))
+#define __atomic_sub_fetch(...) (delay(), __atomic_sub_fetch(__VA_ARGS__))
+#include "../c/ligdrosa.c"
+#endif
 #include "expect.h"
 
 enum { THREADS = 8, SEATS = 3 * THREADS, LONGEST = 60000 /* nanoseconds */, HOLD = 20000, TIME = 1500 /* milliseconds */ };
 static lfm_mutex mutex = LFM_MUTEX_INIT_WITH(SEATS);
-static uint64_t counter, gained[THREADS + 1], missed[THREADS + 1];
+static uint64_t counter, sums[THREADS + 1], missed[THREADS + 1];
 static int is_over;
 
 static uint64_t at_random(uint64_t *state) {
   *state ^= *state << 13, *state ^= *state >> 7, *state ^= *state << 17;
   return *state;
 }
+
+#ifdef IS_DELAYED
+static void delay(void) {
+  static _Thread_local uint64_t state;
+  if (!state) state = (uintptr_t)&state | 1;
+  uint64_t kind = at_random(&state) % 64;
+  if (kind < 8) sched_yield();
+  if (kind == 8) usleep((useconds_t)(at_random(&state) % 100));
+}
+#endif
 
 static uint64_t nanoseconds_now(void) {
   struct timespec now;
@@ -36,7 +60,7 @@ static void count(unsigned thread, lfm_status status, lfm_seat *seat, uint64_t *
   }
   EXPECT(status, LFM_DONE);
   hold(state);
-  gained[thread]++;
+  sums[thread]++;
   EXPECT(lfm_is_refused(seat ? lfm_unlock(seat) : lfm_unlock_here(&mutex)), false);
 }
 
@@ -56,7 +80,7 @@ static void *come_and_go(void *at) {
   lfm_status status = lfm_try_lock_for_here(&mutex, at_random(&state) % LONGEST);
   if (status == LFM_NO_SEAT || lfm_is_refused(status)) return NULL;
   hold(&state);
-  __atomic_fetch_add(&gained[THREADS], 1, __ATOMIC_RELAXED);
+  __atomic_fetch_add(&sums[THREADS], 1, __ATOMIC_RELAXED);
   EXPECT(lfm_is_refused(lfm_unlock_here(&mutex)), false);
   return NULL;
 }
@@ -98,7 +122,7 @@ static void run(unsigned thread) {
 int main(void) {
   in_threads(THREADS + 1, run);
   uint64_t all = 0, none = 0;
-  for (int i = 0; i <= THREADS; i++) all += gained[i], none += missed[i];
+  for (int i = 0; i <= THREADS; i++) all += sums[i], none += missed[i];
   EXPECT(counter, all);
   EXPECT(none != 0, true);
   EXPECT(lfm_mutex_close(&mutex), LFM_DONE);

@@ -75,6 +75,15 @@ static void take_memory(uint64_t seats) {
   EXPECT(bytes, 0);
 }
 
+/* One of few seats takes 1.5 kB, with what malloc adds to each block. */
+static void take_little(void) {
+  enum { FEW = 8, ADDED = 8 };
+  EXPECT(lfm_mutex_new(&mutex, FEW, LFM_MOST_TAKES), LFM_DONE);
+  printf("a mutex of %d seats takes %zu bytes in %ld blocks\n", FEW, bytes + ADDED * (size_t)given + sizeof mutex, given);
+  EXPECT(bytes + ADDED * (size_t)given + sizeof mutex <= 1536, true);
+  EXPECT(lfm_mutex_close(&mutex), LFM_DONE);
+}
+
 static void seats_in_hand(void) {
   EXPECT(refuse_each(make_mutex), REQUESTS);
   allowed = 0; /* no other call with a seat in hand asks for memory, except an exchange */
@@ -128,6 +137,7 @@ static void own_seats(void) {
 }
 
 int main(void) {
+  take_little();
   take_memory(1);
   take_memory(64);
   take_memory(4095);

@@ -8,8 +8,9 @@
 //     std::unique_lock<lfm::recursive_mutex> lock(mutex);
 //     filled.wait(lock, [&] { return !queue.empty(); });
 //
-// A call that is refused throws lfm::refused. In a program without exceptions it ends the program with a text. So all files
-// of a program are compiled with exceptions, or all without: the linker keeps one form of these calls.
+// A call that is refused throws lfm::refused. In a file that is compiled without exceptions it ends the program with a text.
+// Files of both kinds may be linked into one program. For each kind lfm::recursive_mutex and the other classes that may throw
+// are types of their own, so a function of one kind takes no mutex of the other. It takes the lfm_mutex (native_handle).
 //
 // If a thread is to have its seat in hand, lfm::mutex gives lfm::seat, and lfm::seat_lock is the seat as a Lockable. The locks
 // of the standard library take both, and so does std::condition_variable_any.
@@ -37,6 +38,13 @@
 // For clang's -Wthread-safety, which doesn't follow the bodies of these calls.
 #define LFM_UNSEEN LFM_TELLS_CLANG(no_thread_safety_analysis)
 #define LFM_CALL(what) LFM_TELLS_CLANG(what) LFM_UNSEEN
+
+// The linker keeps one of the inline functions of one name. So those that throw or abort have another name in each kind of file.
+#ifdef __cpp_exceptions
+#define LFM_KIND with_exceptions
+#else
+#define LFM_KIND without_exceptions
+#endif
 
 namespace lfm {
 
@@ -69,25 +77,6 @@ public:
   // Why.
   lfm_status status() const noexcept { return static_cast<lfm_status>(code().value()); }
 };
-
-// Throws why a call was refused, or ends the program.
-[[noreturn]] inline void refuse(lfm_status status) {
-#ifdef __cpp_exceptions
-  throw refused(status);
-#else
-  std::fprintf(stderr, "ligdrosa refuses a call: %s\n", lfm_status_text(status));
-  std::abort();
-#endif
-}
-
-// The status, or an exception if the call was refused.
-inline lfm_status made(lfm_status status) {
-  if (lfm_is_refused(status)) refuse(status);
-  return status;
-}
-
-// Whether a try has gained the mutex, or an exception if it was refused for another cause than LFM_BUSY.
-inline bool has_gained(lfm_status status) { return status != LFM_BUSY && !lfm_is_refused(made(status)); }
 
 // The greatest number of takes that a seat may be allowed.
 constexpr uint64_t most_takes = uint64_t{1} << 36;
@@ -123,6 +112,27 @@ template <class Clock, class Duration> timespec timespec_of(const std::chrono::t
   const uint64_t since_epoch = nanoseconds_of(time.time_since_epoch());
   return {static_cast<time_t>(since_epoch / 1000000000), static_cast<long>(since_epoch % 1000000000)};
 }
+
+inline namespace LFM_KIND {
+
+// Throws why a call was refused, or ends the program.
+[[noreturn]] inline void refuse(lfm_status status) {
+#ifdef __cpp_exceptions
+  throw refused(status);
+#else
+  std::fprintf(stderr, "ligdrosa refuses a call: %s\n", lfm_status_text(status));
+  std::abort();
+#endif
+}
+
+// The status, or an exception if the call was refused.
+inline lfm_status made(lfm_status status) {
+  if (lfm_is_refused(status)) refuse(status);
+  return status;
+}
+
+// Whether a try has gained the mutex, or an exception if it was refused for another cause than LFM_BUSY.
+inline bool has_gained(lfm_status status) { return status != LFM_BUSY && !lfm_is_refused(made(status)); }
 
 // A mutex that finds the seat of the calling thread by itself. A thread takes a seat at its first call and gives it back when
 // it ends, so as many threads may use it at a time as it has seats: more are refused as LFM_NO_SEAT.
@@ -322,4 +332,5 @@ public:
   void unlock() { made(lfm_unlock(of)); }
 };
 
+} // namespace LFM_KIND
 } // namespace lfm

@@ -23,7 +23,7 @@ held_later seats held (Some n) t u v had mid has h k woke = record {
   inside = k.inside;
 }
 
--- one more send was made, so the wake-up held before it was made
+-- one more send was made; if it left a wake-up, the one that was held back before it was made
 pub held_more : (seats : ℕ) (held next now : Option ℕ) (t u v : List Seen) (had mid has : List ℕ) → now ≡ later_of held next → HoldsLastBack seats held t u had mid → Wakes seats next u v → has ≡ mid ++ as_list (earlier_of held next)
     → HoldsLastBack seats now t v had has
 held_more seats held next now t u v had mid has is h k woke = subst (λ (o : Option ℕ). HoldsLastBack seats o t v had has) (sym is) (held_later seats held next t u v had mid has h k woke)

@@ -111,6 +111,6 @@ held_by own tries s t u z v w l r k = record {
   leaves = k;
 }
 
--- A cond seat that locks the list, changes it and unlocks it wakes the seats that the lock and the unlock granted it
+-- A cond seat that locks the list, changes it and unlocks it wakes the seats to which the lock and the unlock granted the list
 pub woken_in_hold : (c l h d : Seat Waiters) (v w : Waiters) → WokenAsGranted c l → WakesNobody l h → Rewrites (sight l) (sight h) v w → WokenAsGranted h d → WokenAsGranted c d
 woken_in_hold c l h d v w locks nobody r leaves = woken_join c h d (woken_join c l h locks (woken_none l h nobody (ap (λ (s : Sight Waiters). grants_of s.trail) r.1))) leaves

@@ -13,9 +13,9 @@ abbrev pub later_of : Option ℕ → Option ℕ → Option ℕ
 later_of held None = held
 later_of held (Some t) = Some t
 
--- The steps from one trail to the other granted the user mutex to these seats in turn. The last wake-up is held back. The
--- others were made: `had` lists the seats woken before these steps and `has` those woken after them. No wake-up is held back
--- only if no seat was granted the mutex
+-- The steps from one trail to the other granted the user mutex to the seats `woken`, in order, and then to the seat `wake_up`,
+-- if there is one. The seats `woken` were woken: `had` lists all seats woken before these steps, and `has` all woken by their
+-- end. The wake-up of the last seat is held back. If no wake-up is held back, no seat was granted the mutex
 pub record HoldsLastBack (seats : ℕ) (wake_up : Option ℕ) (before after : List Seen) (had has : List ℕ) : Type 0 where
   pub woken : List ℕ
   pub told : has ≡ had ++ woken

@@ -58,8 +58,8 @@ pub record StepsOfOneHold (own : Limits) (tries : ℕ) (s t : Sight Waiters) : T
   pub changes : changed ≡ record locked { value = changed.value }
   pub leaves : LeavesList own changed t
 
--- The cond seat had the sight s when it locked the inner mutex, and has the sight t: it found the list v and now holds the list
--- w
+-- The cond seat had the sight s before it locked the inner mutex, and has the sight t now: it found the list v and now holds
+-- the list w
 pub record InHand (limits : Limits) (s t : Sight Waiters) (v w : Waiters) : Type 0 where
   pub value : t.value ≡ Some w
   pub last : t.last ≡ Some v

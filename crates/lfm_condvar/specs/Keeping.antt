@@ -10,7 +10,7 @@ abbrev pub WaitersFollow : ℕ → Waiters → Waiters → Type 0
 WaitersFollow s v w = (w.seats ≡ v.seats) × (w.budget ≡ v.budget) × (v.sent ≤ w.sent) × (v.added ≤ w.added)
     × ((k : ℕ) → k ≢ s → slice_index w.counts.items k ≡ slice_index v.counts.items k)
 
--- how other cond seats than s may have changed the list v when it is w
+-- how cond seats other than s may have changed the list from v to w
 pub record Since (s : ℕ) (v w : Waiters) : Type 0 where
   pub seats : w.seats ≡ v.seats
   pub budget : w.budget ≡ v.budget

@@ -3,7 +3,7 @@ use Rattle.std.specs.Prelude.{◌≡◌, ℕ, ◌+◌, ◌<◌, ◌≤◌, List,
 use Rattle.std.specs.Coded.{×_prop, Unit-prop, le_prop, Coded-set, coded_ℕ}
 use Rattle.lfm_condvar.specs.declared.waiters.Waiter.{Waiter}
 
--- the tickets follow this one, one after another
+-- the tickets are those after k, in order and without gaps
 abbrev pub GoOnFrom : ℕ → List Waiter → Type 0
 GoOnFrom k [] = Unit {0}
 GoOnFrom k (w ∷ ws) = (w.ticket ≡ k + 1) × GoOnFrom (k + 1) ws

@@ -19,8 +19,8 @@ as_condvar holder v = record { sent = v.sent; added = v.added; waiters = map as_
 
 -- Condvars of the model
 
--- either seat s is added to the list of x with this ticket, as by a wait of the model, or it is refused as Busy, as in the
--- model; y is the condvar after it
+-- Seat s is added to the list of x with this ticket, as by a wait of the model, or it is refused as Busy, as in the model. y is
+-- the condvar after it. Each refusal leaves x as it was
 abbrev pub PutAsInTheModel : ℕ → Condvar → Condvar → Result ℕ Refusal → Type 0
 PutAsInTheModel s x y (Ok ticket) = (is_listed s x.waiters ≡ false) × (y ≡ enlisted x s) × (ticket ≡ x.added + 1)
 PutAsInTheModel s x y (Err Refusal.Busy) = (is_listed s x.waiters ≡ true) × (y ≡ x)

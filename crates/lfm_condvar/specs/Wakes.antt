@@ -43,8 +43,8 @@ module _ {T : Type 0} where
   SendsInTurn user s [] t = t ≡ s
   SendsInTurn user s (x ∷ xs) t = Sends user.seats s x.0 x.1 (Ok tt) × Makes user (Call.SendLock x.0) s x.1 (Ended Answer.Sent) × SendsInTurn user x.1 xs t
 
-  -- The steps of a call that sends, with this result: those of some sends, and of the one refused as NotWaiting, if it is
-  -- refused so
+  -- The steps of a call that sends and ends with this result: those of some sends, and then, if the call is refused as
+  -- NotWaiting, those of the send that was refused. A call that is refused otherwise has made no step
   abbrev pub SendsBy : {A : Type 0} → Limits → Sight T → Sight T → Result A Refusal → Type 0
   SendsBy user s t (Ok a) = (sent : List (ℕ × Sight T)) × SendsInTurn user s sent t
   SendsBy user s t (Err Refusal.NotWaiting) =

@@ -1,6 +1,6 @@
 -- States of one user mutex and any number of condition variables: the mutex, the condvars by number, and the stage of each
--- seat's call on a condvar. Every number is the number of a condvar, as every number may be used for a seat, which reads as
--- absent if there is none.
+-- seat's call on a condvar. Every number is the number of a condvar. Every number may also be used for a seat: one that no seat
+-- has reads as an absent seat.
 use Rattle.std.specs.Prelude.{ℕ, Bool, true, false, List, [], ◌∷◌, nat_eq, if◌then◌else◌}
 use Rattle.lfm_protocol.specs.declared.limits.Limits.{Limits}
 use Rattle.lfm_protocol.specs.declared.points.Point.{Point}

@@ -116,7 +116,7 @@ removes k s v all =
 
 -- A step
 
--- a call whose lock another call has makes no progress
+-- a call that needs the lock of a condvar changes nothing while another call has it
 abbrev pub takes_lock : CondvarCore → ℕ → CondvarCore → CondvarCore
 takes_lock k v with_lock = if nat_eq (k.condvar v).holder 0 then with_lock else k
 

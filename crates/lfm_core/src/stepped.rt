@@ -135,7 +135,7 @@ impl State {
         self.machine.handoff()
     }
 
-    /// The greatest number of steps that a call makes while no other seat makes a step.
+    /// A call makes at most this many steps while no other seat makes a step.
     pub fn longest_call(&self) -> u64
         ensures { result ≡ longest_call self.now }
     {

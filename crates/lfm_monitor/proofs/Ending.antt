@@ -1,4 +1,4 @@
--- What the journal is after all passes were handed back.
+-- What the journal is at the close, when all passes were handed in.
 use Rattle.std.proofs.Common.{subst, sym, ◌≡◌, ℕ, suc, ◌<◌, ◌≤◌, List, [], ◌∷◌, ◌++◌, length, Some, refl, ◌∙◌, ap, arith}
 use mathlib.Core.Option.{some}
 use lib.ListN.{get_elem?}
@@ -23,7 +23,7 @@ total_ext f g [] h = refl
 total_ext f g (p ∷ ps) h = let a = h 0 p refl in let b = total_ext f g ps (λ j q e. h (suc j) q e) in omega arith
 
 module _ {O A R : Type 0} {K : _} {P : Type 0} (seat : P → Sight (Journaled O A R K)) (seen mine : P → ℕ) (kept : (p : P) → PassKept (seat p) (seen p) (mine p)) where
-  -- the final value can be reached from what the pass last left
+  -- the pass doesn't hold, it belongs to the monitor, and the final value can be reached from what it last left
   pub record Back (opening : O) (seats share : ℕ) (v : Journaled O A R K) (p : P) : Type 0 where
     pub idle : (seat p).depth ≡ 0
     pub leads : (l : Journaled O A R K) → (seat p).last ≡ Some l → Reached JournalFollows (seat p).seats (seat p).number l v
@@ -44,8 +44,7 @@ module _ {O A R : Type 0} {K : _} {P : Type 0} (seat : P → Sight (Journaled O 
   mine_ends opening seats share v p b = let l = some_of (seat p).last (kept p).there in let f = (found (seat p).seats (seat p).number l.0 v (b.leads l.0 l.1)).1 in
       ((kept p).left b.idle l.0 l.1).mine_is ∙ ap length (sym (own_kept (seat p).number l.0.journal.items v.journal.items f))
 
-  -- The length of the journal is the sum of the passes' own entries: the journal has no entry by anyone else, and each is
-  -- counted once
+  -- The length of the journal is the sum of the passes' own entries: each entry is by exactly one of the passes
   pub whole : (opening : O) (n share : ℕ) (v : Journaled O A R K) (ps : List P) → length ps ≡ n → 0 < n
       → ((k : ℕ) → 0 < k → k ≤ n → (i : ℕ) × (p : P) × (get_elem? ps i ≡ some p) × ((seat p).number ≡ k))
       → ((j : ℕ) (p : P) → get_elem? ps j ≡ some p → Back opening n share v p) → length v.journal.items ≡ total mine ps
@@ -55,7 +54,7 @@ module _ {O A R : Type 0} {K : _} {P : Type 0} (seat : P → Sight (Journaled O 
       ∙ sym (total_ext mine (λ p. f (seat p).number) ps (λ j p e. mine_ends opening n share v p (back j p e)))))
 
 module _ {O A R : Type 0} {K : _} where
-  -- the pass is back, and the final value can be reached from what it last left
+  -- the same for a pass with its own seat and counts
   abbrev pub Returned : O → ℕ → ℕ → Journaled O A R K → Pass O A R K → Type 0
   Returned opening n share v p = Back (λ (p : Pass O A R K). sight p.seat) (λ p. p.seen) (λ p. p.mine) (λ p. p.kept) opening n share v p
 

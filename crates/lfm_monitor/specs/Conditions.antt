@@ -35,7 +35,7 @@ OnCondition condition cs ds used =
 abbrev pub IsSpent : Limits → Sight Waiters → Sight Waiters → Type 0
 IsSpent own c d = (own.budget ≤ c.takes) × (d ≡ c)
 
--- only the trail of the seat and its list of sends have changed
+-- at most the trail of the seat and its list of sends have changed
 abbrev pub OnlySends : {T : Type 0} → Sight T → Sight T → Type 0
 OnlySends s t = t ≡ record s { trail = t.trail; sends = t.sends }
 

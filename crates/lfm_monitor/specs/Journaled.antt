@@ -1,4 +1,4 @@
--- Which journals match a number of queued takes, and what one hold of a seat may add to a journal.
+-- Which journals suit a number of queued takes, and what one hold of a seat may add to a journal.
 use Rattle.std.specs.Prelude.{◌≡◌, ℕ, ◌==◌, ◌&&◌, Bool, true, false, not, List, [], ◌∷◌, ◌++◌, length, drop}
 use Rattle.lfm_model.specs.declared.journals.Entry.{Entry}
 use Rattle.lfm_model.specs.JournalLaws.{is_take}

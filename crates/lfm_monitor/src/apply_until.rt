@@ -19,9 +19,9 @@ fn accepts<T, F: Fn(&T) -> bool>(done: &F, reply: &T) -> bool
 }
 
 impl<O: Object> Monitor<O> {
-    /// Applies the op again and again until `done` accepts its reply, and returns that reply. The pass holds the monitor at
-    /// depth 1. Before each further try it waits on this condition, so that others can change the object. The pass's last op is
-    /// then this one, with this reply, and the pass holds as before.
+    /// Applies the op again and again until `done` accepts its reply, and returns that reply. Before each further try the pass
+    /// waits on this condition, so that others can change the object. So it has to hold the monitor, and at depth 1 if it has
+    /// to wait. The pass's last op is then this one, with this reply, and the pass holds as before.
     ///
     /// A try is refused as `apply` is: Asleep, NotOwner, Spent, in this order. If the reply is not accepted, the wait may be
     /// refused, as `wait` is: Nested, Spent, NoSuchSeat, Spent, Busy, in this order. The op has then been applied, and the pass

@@ -9,8 +9,8 @@ use lfm_model::{Object, SeatNo};
 use lfm_mutex::{Holder, Seat};
 
 /// What one thread uses a monitor with. A pass may move between threads, and each call borrows it until the call returns. If it
-/// is dropped while it holds, no other pass can ever acquire the monitor again. If it is dropped while it sleeps, no other pass
-/// can after the monitor is granted to it.
+/// is dropped while it holds, no other pass can ever acquire the monitor again. If it is dropped while it sleeps, this is so
+/// after the monitor is granted to it.
 ///
 /// ```
 /// // the pass holds a monitor around a bounded buffer: it puts a number in as soon as there is room, and wakes one that waits

@@ -7,7 +7,8 @@ none_of : {A : Type 0} (o : Option A) → is_some o ≡ false → o ≡ None
 none_of None e = refl
 none_of (Some x) e = absurd (cc)
 
--- The faults of two lines differ, no fault of a line is the fault of the limits, and a text without a byte is not a first line
+-- The faults of two lines differ. No fault of a line is the fault of the limits, or the fault of all lines together. A text
+-- without a byte is not a first line
 pub record AreApart {H L P F : Type 0} (rules : Rules H L P F) : Type 0 where
   pub number : (m n : ℕ) → rules.syntax_fault m ≡ rules.syntax_fault n → m ≡ n
   pub limit : (n : ℕ) → rules.limit_fault ≢ rules.syntax_fault n

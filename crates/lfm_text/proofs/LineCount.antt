@@ -71,7 +71,7 @@ is_past_limit-few_more xs (c ∷ cs) fits few_bytes few_lines =
     within_limits (length (xs ++ c ∷ cs)) (line_count (xs ++ c ∷ cs)) (omega (arith, few_bytes, length-append xs (c ∷ cs)))
     (omega (arith, few_lines, line_count_behind xs c cs, line_count-within_length (c ∷ cs)))
 
--- a text that is not past a limit has at most the greatest numbers of bytes and line feeds
+-- a text that is not past a limit has at most `max_bytes` bytes and, by the next lemma, at most `max_lines` line feeds
 pub few_bytes : (xs : List ℕ) → is_past_limit xs ≡ false → length xs ≤ max_bytes
 few_bytes xs fits = short (length xs) (line_count xs) fits
   where

@@ -1,4 +1,4 @@
-//! How a user seat gets into the list: either it is appended and falls asleep, or nothing happens.
+//! How a user seat gets into the list: it is appended and falls asleep, or it does neither.
 ghost use Rattle.std.specs.Prelude.{◌≡◌, ◌<◌, ◌≤◌, MatchOption, slice_index};
 ghost use Rattle.lfm_mutex.specs.Belongs.{Beside, OfMutex, budget_of, limits_of};
 ghost use Rattle.lfm_mutex.specs.calls.RunGoesOn.{RunGoesOnFrom};

@@ -1,4 +1,4 @@
-//! How a user seat leaves the list: either it is sent and removed, or nothing happens.
+//! How a user seat leaves the list: it is sent and removed, or neither. A send refused as NotWaiting still makes a step.
 ghost use Rattle.std.specs.Prelude.{◌≡◌, ◌≤◌, ℕ};
 ghost use Rattle.lfm_mutex.specs.Belongs.{Beside, OfMutex, limits_of};
 ghost use Rattle.lfm_mutex.specs.calls.RunGoesOn.{RunGoesOnFrom};

@@ -28,8 +28,8 @@ pub record OthersStay (c d : Core) (s : ℕ) : Type 0 where
 leaves_all : (c : Core) (s : ℕ) → OthersStay c c s
 leaves_all c s = record { others = λ t other. refl; size = refl; budget = refl }
 
--- The state fits again. Each wake word that is WAITING before is so after. The only word that may become WAITING is that of
--- seat s, at a start_wait
+-- The state fits again. Each wake word that was WAITING before is so after it. The only word that may have become WAITING is
+-- that of seat s, if the seat was in start_wait
 pub record MutexMoves (c d : Core) (s : ℕ) : Type 0 where
   pub to : Ghost
   pub fits : Fits d to

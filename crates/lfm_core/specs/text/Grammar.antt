@@ -13,7 +13,7 @@ use Rattle.lfm_protocol.specs.Limits.{max_budget, are_in_limits}
 use Rattle.lfm_text.specs.Grammar.{Rules, said_in}
 use Rattle.lfm_text.specs.Text.{number_of}
 
--- the most steps that one line may ask for
+-- the greatest number of steps that one line may ask for
 abbrev pub max_steps : ℕ
 max_steps = 999
 
@@ -52,7 +52,7 @@ send_act (Some t) = Some (Begin (SendLock t))
 abbrev pub send_of : List ℕ → List ℕ → List ℕ → Option Line
 send_of seat call target = if bytes_eq call (codes "send_lock") then seat_line (number_of seat) (send_act (number_of target)) else None
 
--- the line that the words after the first line spell
+-- the line that the words of a line after the first spell
 abbrev pub line_of : List (List ℕ) → Option Line
 line_of (seat ∷ act ∷ []) = seat_line (number_of seat) (act_of act)
 line_of (seat ∷ call ∷ target ∷ []) = send_of seat call target

@@ -30,7 +30,7 @@ pub record ReplaysTaken (result : Result Bool ReplayFault) (before after old new
   pub replays : Replays result input old new
 
 -- Some input was taken from the reader and this is its replay, unless a read failed or an allocation failed; then nothing was
--- written. A read failed before the bytes that the reader gave were past a limit.
+-- written. If a read failed, the bytes that the reader had given were not past a limit.
 abbrev pub SomeReplay : Result Bool ReplayFault → Option (List ℕ) → Option (List ℕ) → Option (List ℕ) → Option (List ℕ) → Type 0
 SomeReplay (Ok b) before after old new = ReplaysTaken (Ok b) before after old new
 SomeReplay (Err (Syntax n)) before after old new = ReplaysTaken (Err (Syntax n)) before after old new

@@ -78,7 +78,7 @@ why_text InCall = codes "InCall"
 why_text Idle = codes "Idle"
 why_text (By refusal) = name_of refusal
 
--- a call that is open: a line that starts it writes one word, a line that makes steps another
+-- the text for a call that is open after a line: one for a line that starts the call, another for a line that makes steps
 abbrev pub open_text : Act → List ℕ
 open_text (Begin call) = codes "begins"
 open_text (Steps most) = codes "goes on"

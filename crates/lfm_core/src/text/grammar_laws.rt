@@ -10,7 +10,8 @@ ghost use Rattle.lfm_core.specs.declared.text.schedule.Line.{Line};
 
 use crate::text::faults::ReplayFault;
 
-/// A text is read as a line after the first if and only if it is a spelling of that line, in one of its forms.
+/// A text is read as a line after the first if and only if it is a spelling of that line, in one of its forms, and the numbers
+/// of the line are ones that a schedule may contain.
 pub fn lines_are_spelled()
     ensures only { (text : List ℕ) (l : Line) →
         line_of (words_of text) ≡ Some l → Spells text l × IsWritable l }
@@ -18,8 +19,8 @@ pub fn lines_are_spelled()
         Spells text l → IsWritable l → line_of (words_of text) ≡ Some l }
 {}
 
-/// A text is read as a first line if and only if it is a spelling of that line, in one of its forms. The form without a budget
-/// has the largest budget.
+/// A text is read as a first line if and only if it is a spelling of that line, in one of its forms, and its numbers are below
+/// 10^18. The form without a budget has the largest budget.
 pub fn headers_are_spelled()
     ensures only { (text : List ℕ) (n : ℕ) (b : ℕ) →
         header_of (words_of text) ≡ Some (record { seats = n; budget = b }) →
@@ -29,8 +30,9 @@ pub fn headers_are_spelled()
         header_of (words_of text) ≡ Some (record { seats = n; budget = b }) }
 {}
 
-/// A text is read as a plan if and only if its lines spell the lines of the plan, in order. The text that is written with a
-/// line feed after each line is read as the plan too.
+/// A text is read as a plan if and only if it is not too long, its lines spell the lines of the plan, in order, and the plan's
+/// number of seats and budget are within the limits. The text that is written with a line feed after each line is read as the
+/// plan too, if the plan's numbers are in range and the text is not too long.
 pub fn plans_are_spelled()
     ensures only { (text : List ℕ) (p : Plan) → plan_in text ≡ Ok p → SpellsPlan text p }
     ensures all { (text : List ℕ) (p : Plan) → SpellsPlan text p → plan_in text ≡ Ok p }

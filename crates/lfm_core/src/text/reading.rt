@@ -49,8 +49,8 @@ fn schedule_in<W: Write>(
 }
 
 /// Reads a schedule. On a fault of the input, Syntax or Limit, it writes the fault's line, flushes the writer and returns the
-/// fault. After Read and Memory, and if there is no fault, nothing was written. It allocates twice: for the input, and for the
-/// lines.
+/// fault. After Read and Memory, and if there is no fault, nothing was written. It allocates at most twice: for the input, and
+/// for the lines.
 pub fn schedule_from<R: Read, W: Write>(
     alloc: Global,
     reader: &mut R,

@@ -114,8 +114,8 @@ fn replay_schedule<W: Write>(
 /// - Write: a prefix of the text. The writer failed, accepted no byte, or failed to flush.
 ///
 /// Any error of the reader or the writer is a failure, even an interruption. After the last line the writer is flushed. It
-/// allocates 7 times, each time before the first write: once for the input, once for the lines, 4 times for the state, and once
-/// for its queue.
+/// allocates at most 7 times, each time before the first write: once for the input, once for the lines, if there are any after
+/// the first, 4 times for the state, and once for its queue.
 pub fn replay<R: Read, W: Write>(
     alloc: Global,
     reader: &mut R,

@@ -18,8 +18,8 @@ pub fn replay_status(outcome: &Result<bool, ReplayFault>) -> u8
     }
 }
 
-/// Prints the program's name and the fault that ended the program early, if there was one, on standard error. Returns the exit
-/// status of the outcome. If the message can't be written, the status is the same.
+/// If a fault of the reader, the writer or the memory ended the program early, prints the program's name and then the fault on
+/// standard error. Returns the exit status of the outcome. If the message can't be written, the status is the same.
 pub fn report<R: Eprint>(rt: &R, program: &'static str, outcome: &Result<bool, ReplayFault>) -> u8
     ensures { result ≡ replay_status outcome.now }
 {

@@ -140,7 +140,7 @@ fn read_header(text: &[u8]) -> Option<Limits>
 }
 
 /// The `count` lines that a text spells, of which the first has number 2, or the fault of the first that is not a line of a
-/// schedule. It allocates once, for all of them, before it reads them.
+/// schedule. It allocates once, for all of them, before it reads them, or not at all if there are none.
 fn read_lines(alloc: Global, text: &[u8], count: usize) -> Result<Vec<Line>, ReplayFault>
     requires counted { length (lines_of text.now) ≡ count }
     requires few { count < max_lines }
@@ -164,9 +164,9 @@ fn read_lines(alloc: Global, text: &[u8], count: usize) -> Result<Vec<Line>, Rep
 
 /// Reads a schedule from its bytes.
 ///
-/// A text may have several faults. The first of these is returned: 1. Limit, if it is longer than 1,048,576 bytes or has more
-/// than 65,536 lines; 2. Syntax, if some line is not a line of a schedule, with the number of the first such line. The numbers
-/// begin at 1, and a
+/// A text may have several faults. The first of these is returned:
+/// 1. Limit, if it is longer than 1,048,576 bytes or has more than 65,536 lines;
+/// 2. Syntax, if some line is not a line of a schedule, with the number of the first such line. The numbers begin at 1, and a
 ///    text without lines has this fault in line 1;
 /// 3. Limit, if no mutex may have this number of seats or this budget.
 ///

@@ -224,7 +224,7 @@ fn put_record(buffer: &mut [u8; RECORD_SIZE], queued: Record) -> usize
     put_number(buffer, queued.seat.get(), separator)
 }
 
-/// Writes a record by one write, since a queue may have many.
+/// Writes a record as one text instead of part by part, since a queue may have many records.
 fn write_record<W: Write>(writer: &mut W, queued: Record) -> Result<(), WriteFault>
     ensures { Writes (W.contents writer.old) (W.contents writer.new) (record_text queued) result }
 {
@@ -317,7 +317,7 @@ pub fn write_opening<W: Write>(
 pub struct Outcome {
     /// The number of the line.
     pub number: u64,
-    /// What the line has its seat do.
+    /// The line: its seat, and what the seat does.
     pub line: Line,
     /// The last turn that it made.
     pub turn: Turn,

@@ -18,7 +18,7 @@ use lfm_mutex::{Mutex, Pace};
 /// condvar.wake_one(rt, cond, mutex, seat)
 /// ```
 ///
-/// `wait_while` waits while a condition on the guarded value holds, here that the number is 0:
+/// `wait_while` waits while a condition is true of the guarded value, here that the number is 0:
 ///
 /// ```
 /// condvar.wait_while(&rt, &mut cond, &mutex, &mut seat, |number| *number == 0)?;

@@ -1,4 +1,4 @@
-//! `wait_while`: a seat that holds waits again and again while a condition on the guarded value holds.
+//! `wait_while`: a seat that holds waits again and again while a condition is true of the guarded value.
 ghost use Rattle.std.specs.Prelude.{◌≡◌, MatchBool};
 ghost use Rattle.std.specs.Fn.{FnReturnsAt};
 ghost use Rattle.lfm_mutex.specs.Belongs.{Beside, OfMutex, limits_of};
@@ -27,8 +27,8 @@ fn must_wait<T: Kept, F: Fn(&T) -> bool>(seat: &Seat<T>, condition: &F) -> bool
 
 impl Condvar {
     /// Waits, as `wait` does, for as long as the condition is true of the guarded value. It tests this before it waits, and
-    /// again after each wait. When it returns, the seat holds as before, and the condition is false. The seat must be allowed
-    /// to leave the value as it found it, which is always so if the value is a number.
+    /// again after each wait. When it returns, the seat holds as before. If it isn't refused, the condition is then false of
+    /// the value. The seat must be allowed to leave the value as it found it, which is always so if the value is a number.
     ///
     /// Refuses as `wait`, in the same order, if the condition is true or the seat doesn't hold. The seat is then as the
     /// previous waits left it. A wait costs each seat one take. It allocates no memory, and sleeps and wakes as `wait`.

@@ -150,7 +150,7 @@ impl State {
         self.machine.depth(s)
     }
 
-    /// How many takes seat s has charged.
+    /// How many takes seat s has charged and not got back.
     pub fn takes(&self, s: u64) -> u64
         ensures { result ≡ (seat self.now.seats s).takes }
     {

@@ -24,9 +24,9 @@ use std::sync::Wait;
 /// How a pass locks the mutex of the monitor.
 #[derive(Clone, Copy)]
 pub(crate) enum Locking {
-    /// By `lock`: it queues at once if another pass holds.
+    /// By `lock`: it queues at once if the mutex is not free.
     InOrder,
-    /// By `lock_barging`: it first tries, for as long as the pace says, and then queues.
+    /// By `lock_barging`: it first tries, for as long as the pace says, and queues if no try succeeds.
     Barging,
 }
 

@@ -16,8 +16,8 @@ use std::sync::Wait;
 use std::thread::Threads;
 
 impl<O: Object> Monitor<O> {
-    /// Executes the section in one hold after another, until the section returns Break or is refused, or `hold` is refused, and
-    /// returns the pass.
+    /// Executes the section in up to `rounds` holds, one after another. It stops early if the section returns Break or is
+    /// refused, or if `hold` is refused. Returns the pass.
     fn make_rounds<R: Wait, S: CriticalSection<O, R, Answer = ControlFlow<()>>>(
         &self,
         rt: &R,

@@ -39,8 +39,8 @@ pub fn plans_are_spelled()
     ensures written { (p : Plan) → IsWritablePlan p → plan_in (plan_spelling p) ≡ Ok p }
 {}
 
-/// Syntax is returned if and only if a text is not too long and has a line that can't be read, and it names the first such
-/// line. So it comes after the limits of length, and before those of the numbers.
+/// Syntax is returned if and only if a text is not too long and has a line that can't be read, or no line. It names the first
+/// line that can't be read, or line 1. So it comes after the limits of length, and before those of the numbers.
 pub fn first_faults_are_named()
     ensures only { (text : List ℕ) (n : ℕ) → plan_in text ≡ Err (ReplayFault.Syntax n) →
         (is_past_limit text ≡ false) × IsFirstFault schedules (lines_of text) n }

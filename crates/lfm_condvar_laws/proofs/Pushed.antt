@@ -88,7 +88,7 @@ all_one : {A : Type 0} (P : A → Type 0) (x : A) → P x → All P (x ∷ [])
 all_one P x holds zero d within = holds
 all_one P x holds (suc i) d within = absurd (omega (arith, within))
 
--- a property of all items implies each weaker property of all items
+-- if P implies Q and each item is a P, each item is a Q
 all_so : {A : Type 0} (P Q : A → Type 0) (xs : List A) → ((x : A) → P x → Q x) → All P xs → All Q xs
 all_so P Q xs so all i d within = so (get_or xs i d) (all i d within)
 

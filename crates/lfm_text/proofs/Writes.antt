@@ -74,7 +74,7 @@ pub wrote_then : {T U : Type 0} (a b c : Option (List ℕ)) (s t : List ℕ) (u 
     → Writes a b s (Ok u) → Writes b c t r → Writes a c (s ++ t) r
 wrote_then a b c s t u r p q = record { outcome = WriteOutcome-then a b c s t r p.outcome q.outcome }
 
--- the writer failed within a text, so the text after it is missing too; `?` makes r of the fault
+-- the writer failed within a text, so the text after it is missing too; r is the fault that `?` passes on
 pub failed_within : {T U : Type 0} (a b : Option (List ℕ)) (s t : List ℕ) (fault : WriteFault) (r : Result T WriteFault)
     → Writes {T = U} a b s (Err fault) → IsErrAnd r (λ y. y ≡ fault) → Writes a b (s ++ t) r
 failed_within a b s t fault (Ok x) p e = absurd e

@@ -19,7 +19,7 @@ use Rattle.lfm_monitor.specs.Writes.{Writes}
 use Rattle.lfm_monitor.proofs.Knowing.{Comes, arrived, left_it, left_journal, left_length, left_of, woken}
 
 module _ {O A R : Type 0} {K : _} where
-  -- a pass that has fallen asleep on a condition and has come to hold again: it has the sight m while it sleeps, and t after that
+  -- a pass that fell asleep on a condition and holds again: it has the sight m while it sleeps, and t after that
   pub record SleepsAndComes (how : How) (s m t : Sight (Journaled O A R K)) (n mine : ℕ) (opening : O) (seats share : ℕ) : Type 0 where
     pub kept : PassKept m n mine
     pub of : Began opening seats share m

@@ -1,5 +1,6 @@
-//! No lost wake-up: every post is watched, every sleeping seat is reachable, and a call that has won a post finds a record.
-//! These laws are about words and steps. That the park of a thread ends once its grant is stored is only tested.
+//! No lost wake-up: every post is watched, every sleeping seat with no call open is reachable, and a `lock`, `unlock`,
+//! `start_wait` or `send_lock` that has won a post finds a record. These laws are about words and steps. That the park
+//! of a thread ends once its grant is stored is only tested.
 ghost use Rattle.lfm_laws.specs.laws.Grants.{CallsGrantOnce};
 ghost use Rattle.lfm_laws.specs.laws.InSchedules.{
   HandoffsAreWatchedInSchedules,
@@ -42,7 +43,8 @@ pub fn sleepers_are_reachable()
     ensures schedules { SleepersAreReachableInSchedules }
 {}
 
-/// A `lock`, `unlock` or `send_lock` that has won a post finds a record when it clears the push list.
+/// A `lock`, `unlock`, `start_wait` or `send_lock` that has won a post finds a record when it clears the push list, and none in
+/// the pop list.
 ///
 /// Definitions: `TakesFindARecord` in `specs/laws/Laws.antt`, and `TakesFindARecordInSchedules` in
 /// `specs/laws/InSchedules.antt`. Proofs: `proofs/lawful/states/StateLaws.antt` and `proofs/lawful/runs/InSchedules.antt`.
@@ -51,8 +53,8 @@ pub fn takes_find_a_record()
     ensures schedules { TakesFindARecordInSchedules }
 {}
 
-/// At the exchange that wins a post in a `lock`, `unlock` or `send_lock`, the push list has a record and the pop list has
-/// none.
+/// At the exchange that wins a post in a `lock`, `unlock`, `start_wait` or `send_lock`, the push list has a record and the pop
+/// list has none.
 ///
 /// Definitions: `WonPostsHaveARecord` in `specs/laws/Laws.antt`, and `WonPostsHaveARecordInSchedules` in
 /// `specs/laws/InSchedules.antt`. Proofs: `proofs/lawful/states/WonPosts.antt` and `proofs/lawful/runs/InSchedules.antt`.
@@ -61,7 +63,7 @@ pub fn won_posts_have_a_record()
     ensures schedules { WonPostsHaveARecordInSchedules }
 {}
 
-/// A push exchange fails only if, since its seat loaded the push word, the stamp has risen or the push list was cleared.
+/// A push exchange fails only if, since its call last read the push word, the stamp has risen or the push list was cleared.
 ///
 /// Definitions: `FailedPushesSeeChange` in `specs/laws/Laws.antt`, and `FailedPushesSeeChangeInSchedules` in
 /// `specs/laws/InSchedules.antt`. Proofs: `proofs/lawful/states/StateLaws.antt` and `proofs/lawful/runs/InSchedules.antt`.

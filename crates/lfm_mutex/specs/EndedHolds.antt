@@ -21,8 +21,8 @@ use Rattle.lfm_table.specs.Rule.{AreNumbered, Held}
 abbrev pub LeftByHold : {T : Type 0} → List (View T) → ℕ → T → Type 0
 LeftByHold {T} views n w = (j : ℕ) × (v : View T) × (get_elem? views j ≡ some v) × (v.ended ≡ n) × (v.last ≡ Some w)
 
--- At the table, which is this state of the core and reads as this abstract mutex, n holds have ended: the last of them left the
--- value in the slot, or the value that is carried by a seat that doesn't hold.
+-- At the table, which is this state of the core and reads as this abstract mutex, n holds have ended. A seat that has the
+-- moving value knows n. The value in the slot, or with a seat that carries and doesn't hold, is the one that hold n left.
 pub record HaveEnded {T : Type 0} (s : State (Option (Moving T)) (View T)) (c : Core) (a : AbstractMutex) (n : ℕ) : Type 0 where
   pub core : IsCore s c
   pub reads : Reads c a

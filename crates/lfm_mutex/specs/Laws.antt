@@ -35,8 +35,8 @@ module _ {T : Type 0} (follows : ℕ → T → T → Type 0) (fits : T → ℕ �
   abbrev pub PostsAreWatched : Type 0
   PostsAreWatched = (s : State (Option (Moving T)) (View T)) → Held follows fits s → (c : Core) × IsCore s c × Watched c
 
-  -- while no call is open, nothing is posted, and if the count is above 0, a seat holds or a seat has a grant that it has not
-  -- loaded
+  -- while no call is open, nothing is posted, and if the count is above 0, a seat holds, or a sleeping seat has a grant that it
+  -- has not loaded
   abbrev pub QuietTablesRest : Type 0
   QuietTablesRest =
       (s : State (Option (Moving T)) (View T)) → Held follows fits s → (c : Core) × IsCore s c × (IsQuiet c → (c.handoff ≡ unposted) × (0 < c.count → IsHeld c ⊎ IsGranted c))
@@ -47,6 +47,6 @@ module _ {T : Type 0} (follows : ℕ → T → T → Type 0) (fits : T → ℕ �
       (s : State (Option (Moving T)) (View T)) → Held follows fits s
       → (c : Core) × IsCore s c × ((k : ℕ) (carrier : Carrier) → (seat c.seats k).point ≡ TakeClearHead carrier → has_won carrier ≡ true → (0 < c.push.next) × (c.popped ≡ []))
 
--- the sight of a seat has the number of seats of its mutex
+-- the sight of a seat states how many seats its mutex has
 abbrev pub KnowsItsMutex : Type 0 → Type 0
 KnowsItsMutex T = (s : Seat T) (m : Mutex T) → OfMutex s m → (sight s).seats ≡ (limits_of m).seats

@@ -33,7 +33,8 @@ pub fn quiet_tables_rest<T: Kept>()
     ensures { QuietTablesRest T.follows T.fits }
 {}
 
-/// A `lock`, `unlock` or `send_lock` that has won the exchange of a post finds a record when it clears the push list.
+/// A `lock`, `unlock`, `start_wait` or `send_lock` that has won the exchange of a post finds a record when it clears the push
+/// list, and none in the pop list.
 ///
 /// Definition: `TakesFindARecord` in `specs/Laws.antt`. Proof: `proofs/LawsHeld.antt`.
 pub fn takes_find_a_record<T: Kept>()

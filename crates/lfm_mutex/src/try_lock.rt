@@ -27,8 +27,8 @@ use lfm_table::{Kept, WakeUp};
 use lfm_words::Handoff;
 
 impl<T: Kept> Mutex<T> {
-    /// Acquires the mutex or deepens the hold, without queueing. An acquisition is charged one take. If it finds a post that no
-    /// other call has accepted, it accepts it.
+    /// Acquires the mutex or deepens the hold, without queueing. An acquisition is charged one take. If it finds a post, it
+    /// tries to accept it.
     ///
     /// Refuses, in this order: Asleep, DepthFull and Spent as `ask`, and Busy: the count was not 0, this seat was not the
     /// owner, and nothing was posted or the post had gone when the call tried to accept it. Busy gives the charge back. It

@@ -1,5 +1,5 @@
--- The depth of a seat counts its holds. Each answer determines the depth before and after it. While a call is open the depth
--- stays the same, except at the store that empties the owner word.
+-- The depth of a seat counts its holds. Each answer relates the depth before its event to the depth after it. While a call
+-- is open the depth stays the same, except at the store that empties the owner word.
 use Rattle.std.specs.Prelude.{◌≡◌, ◌≢◌, ◌⊎◌, ℕ, ◌+◌, ◌<◌, Some, None}
 use Rattle.lfm_model.specs.declared.answers.Asked.TheVariants as Asked
 use Rattle.lfm_model.specs.declared.answers.Locked.TheVariants as Locked
@@ -46,7 +46,7 @@ AnswersDepth before after Sent = after ≡ before
 
 -- The depth of the acting seat after an event
 
--- seat s owned with depth 1, and now its number is no longer in the owner word
+-- seat s owned with depth 1, and now the owner word is empty and the depth is 0
 pub record GivesUp (c d : Core) (s : ℕ) : Type 0 where
   pub owned : c.owner ≡ s
   pub empty : d.owner ≡ 0

@@ -57,7 +57,7 @@ OneHasTheResponsibilityInSchedules =
 abbrev pub PlacesAreReadInSchedules : Type 0
 PlacesAreReadInSchedules = (c : Core) (a : AbstractMutex) → IsReached c → Reads c a → place_of c ≡ printed a.place
 
--- the count is 0 exactly if no seat or call has the responsibility
+-- the count is 0 exactly if the place is free: no owner, grant, posted handoff or call has the responsibility
 abbrev pub CountIsZeroIfFreeInSchedules : Type 0
 CountIsZeroIfFreeInSchedules =
     (c : Core) (a : AbstractMutex) → IsReached c → Reads c a → (c.count ≡ 0 → a.place ≡ free) × (a.place ≡ free → c.count ≡ 0)
@@ -67,7 +67,7 @@ CountIsZeroIfFreeInSchedules =
 abbrev pub StatesAreLawfulInSchedules : Type 0
 StatesAreLawfulInSchedules = (c : Core) → IsReached c → Lawful c
 
--- the readings before and after an event differ by its case
+-- the reading after an event follows from the one before by its case
 abbrev pub EventsAreTheirCasesInSchedules : Type 0
 EventsAreTheirCasesInSchedules =
     (c : Core) (e : Event) (a b : AbstractMutex) → IsReached c → Reads c a → Reads (happens c e).core b → GoesBy (case_of_event c e) a b
@@ -128,7 +128,7 @@ SleepersAreReachableInSchedules =
     (c : Core) (t : ℕ) (since : Sleeper) → IsReached c → (seat c.seats t).point ≡ Asleep since
     → IsQueued c t ⊎ (((stamp : ℕ) × (wake c.wakes t ≡ Grant stamp)) ⊎ ((wake c.wakes t ≡ Waiting) ⊎ IsSent c t))
 
--- after a successful handoff exchange, the push list that the clear-head clears has a record
+-- after a successful handoff exchange, the push list that the clear-head clears has a record, and the pop list has none
 abbrev pub TakesFindARecordInSchedules : Type 0
 TakesFindARecordInSchedules =
     (c : Core) (s : ℕ) (carrier : Carrier) → IsReached c → (seat c.seats s).point ≡ TakeClearHead carrier → has_won carrier ≡ true

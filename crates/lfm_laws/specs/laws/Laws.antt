@@ -63,7 +63,7 @@ RunsAreAbstractRuns =
     (limits : Limits) (events : List Event) → are_in_limits limits.seats limits.budget ≡ true
     → Reads (start limits) all_free × ((later : List AbstractMutex) × ReadsRun (start limits) events later × IsRun (all_free ∷ later))
 
--- the readings before and after an event differ by its case, which is that of `case_of_step` if the event is a step
+-- the reading after an event follows from the one before by its case, which is that of `case_of_step` if the event is a step
 abbrev pub EventsAreTheirCases : Type 0
 EventsAreTheirCases =
     (c : Core) (e : Event) (a b : AbstractMutex) → Steady c → Reads c a → Reads (happens c e).core b → GoesBy (case_of_event c e) a b
@@ -80,7 +80,7 @@ printed (carried s how) = Place.Carried s
 abbrev pub PlacesAreRead : Type 0
 PlacesAreRead = (c : Core) (a : AbstractMutex) → Steady c → Reads c a → place_of c ≡ printed a.place
 
--- the count is 0 exactly if no seat or call has the responsibility
+-- the count is 0 exactly if the place is free: no owner, grant, posted handoff or call has the responsibility
 abbrev pub CountIsZeroIfFree : Type 0
 CountIsZeroIfFree = (c : Core) (a : AbstractMutex) → Steady c → Reads c a → (c.count ≡ 0 → a.place ≡ free) × (a.place ≡ free → c.count ≡ 0)
 
@@ -145,14 +145,15 @@ has_won (Carrier.Releaser releaser) = false
 has_won (Carrier.Reclaimer releaser) = true
 has_won Carrier.Sender = true
 
--- after a successful handoff exchange, in lock, unlock or send_lock, the push list that the clear-head clears has a record
+-- after a successful handoff exchange, in lock, unlock, start_wait or send_lock, the push list that the clear-head clears has a
+-- record, and the pop list has none
 abbrev pub TakesFindARecord : Type 0
 TakesFindARecord =
     (c : Core) (s : ℕ) (carrier : Carrier) → Steady c → (seat c.seats s).point ≡ TakeClearHead carrier → has_won carrier ≡ true
     → (0 < c.push.next) × (c.popped ≡ [])
 
--- at the exchange that takes a posted handoff, in lock, unlock and send_lock, the push list has a record and the pop list has
--- none
+-- at the exchange that takes a posted handoff, in lock, unlock, start_wait and send_lock, the push list has a record and the
+-- pop list has none
 abbrev pub WonPostsHaveARecord : Type 0
 WonPostsHaveARecord = (c : Core) (s : ℕ) → Steady c → case_of_step c s ≡ Some take → (0 < c.push.next) × (c.popped ≡ [])
 

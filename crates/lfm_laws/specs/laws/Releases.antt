@@ -72,7 +72,7 @@ abbrev pub ReleasesAnswerWhatTheyDid : Type 0
 ReleasesAnswerWhatTheyDid =
     (c : Core) (s : ℕ) (answer : Unlocked) → Steady c → release_of_step c s ≡ Some answer → Released c (step c s).core s answer
 
--- Each record that leaves the queue is answered
+-- The turn by which a record leaves the queue
 
 -- the turn of seat s, which leads it to this point, by which record r leaves the queue: a lock holds by r as its own, or sleeps
 -- and r is another seat's; a send is sent; a release answers the seat that it granted

@@ -242,7 +242,7 @@ abbrev pub again_unit : Responsibility → ℕ
 again_unit (owned s again) = if again then 1 else 0
 again_unit _ = 0
 
--- how many seats ask and are queued, at each place of the responsibility
+-- what each place requires of how many seats ask, and of how many are queued
 abbrev pub WorkFits : Responsibility → ℕ → ℕ → ℕ → Type 0
 WorkFits nobody asking pushed popped = (asking ≡ 0) × (pushed ≡ popped)
 WorkFits posted asking pushed popped = popped < asking + pushed

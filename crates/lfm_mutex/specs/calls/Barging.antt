@@ -1,4 +1,4 @@
--- How a seat locks that tries before it queues: by failed tries, and then by a successful one or by the steps of lock.
+-- The steps of lock_barging: failed tries, and then a successful one or the steps of lock.
 use Rattle.std.specs.Prelude.{◌≡◌, ◌⊎◌, ⊤, ℕ, ◌<◌, ◌≤◌, List, [], ◌∷◌, ◌++◌, length, false, Option, Some, None, Result, Ok, Err}
 use Rattle.lfm_model.specs.declared.answers.How.{How}
 use Rattle.lfm_model.specs.declared.answers.Locked.{Locked}

@@ -1,5 +1,5 @@
--- How many steps a call still makes at most, without the two for each push of it that fails. For a call that doesn't push it is
--- the weight.
+-- How many steps a call still makes at most, not counting two for each push that fails. For a call that doesn't push, it is the
+-- weight.
 use Rattle.std.specs.Prelude.{ℕ, ◌+◌, ◌-◌}
 use Rattle.lfm_protocol.specs.declared.points.Carrier.{Carrier}
 use Rattle.lfm_protocol.specs.declared.points.Point.{Point}

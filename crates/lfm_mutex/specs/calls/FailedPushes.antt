@@ -17,7 +17,8 @@ abbrev pub failed_pushes : List Seen → ℕ
 failed_pushes [] = 0
 failed_pushes (step ∷ steps) = failed_push step.found step.point + failed_pushes steps
 
--- from the first trail, with `due` steps left without failed pushes, the seat has come to the second trail, with `still` left
+-- A seat with the first trail had `due` steps left, not counting two for each failed push. It now has the second trail, and
+-- `still` such steps left.
 abbrev pub Spends : ℕ → ℕ → List Seen → List Seen → Type 0
 Spends due still before after = (new : List Seen) × (after ≡ before ++ new) × (length new + still ≤ due + 2 * failed_pushes new)
 

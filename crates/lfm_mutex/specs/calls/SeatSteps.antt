@@ -31,9 +31,9 @@ Steps x s turn y t =
     (n : ℕ) × (o : Option Record) × (turn ≡ (stepped_by x s.number n o).turn) × (y ≡ (stepped_by x s.number n o).seat) × (t.number ≡ s.number) × (t.depth ≡ y.depth) × (t.takes ≡ y.takes)
     × (t.trail ≡ s.trail ++ seen x.point n ∷ [])
 
--- What a step does with the value. A seat that acquires the mutex finds the value that was left last. The store that ends a
--- hold leaves the value in hand, keeps the one that was found, and gives the hold the next number. Every other step changes
--- none of these.
+-- What a step does with the value. A seat that acquires the mutex finds the value that was left last. With the store that
+-- ends a hold, a seat leaves the value that it had in hand, keeps the one that it had found, and the hold gets the next number.
+-- Every other step changes none of these.
 pub record KeepsValue {T : Type 0} (follows : ℕ → T → T → Type 0) (fits : T → ℕ → Type 0) (x : SeatState) (s : Sight T) (turn : Turn) (t : Sight T) : Type 0 where
   pub gains : (how : How) → how_held turn ≡ Some how → Finds follows fits how s t
   pub leaves : is_release x.point ≡ true → (t.last ≡ s.value) × (t.found ≡ s.found) × (t.ended ≡ s.holds_ended + 1)

@@ -1,5 +1,5 @@
--- How many steps an open call makes while others interleave: the steps that are due fall by one with each own step, and rise by
--- at most two when another seat changes the push word.
+-- How many steps an open call makes while others interleave: the steps that are due fall by at least one with each own step,
+-- and rise by at most two when another seat changes the push word.
 use Rattle.std.proofs.Common.{◌≡◌, ℕ, true, false, ◌+◌, ◌*◌, ◌≤◌, List, [], ◌∷◌, length, nat_eq, refl, sym, ◌∙◌, inl, inr, arith, if◌then◌else◌}
 use Rattle.std.proofs.lemmas.Bool.{cases_Bool, cases_eq, eq-eqb, ne_eqb, false≢true}
 use Rattle.lfm_protocol.specs.declared.answers.Call.{Call}

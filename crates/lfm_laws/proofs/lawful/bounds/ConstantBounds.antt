@@ -1,5 +1,5 @@
--- A try_lock makes at most 6 steps and a receive at most 3: each own step leaves fewer, and no step of another seat leaves
--- more.
+-- A try_lock makes at most 6 steps and a receive at most 3: each own step leaves fewer, and no event of another seat
+-- leaves more.
 use Rattle.std.proofs.Common.{◌≡◌, ℕ, Bool, true, false, ◌+◌, ◌≤◌, List, [], ◌∷◌, nat_eq, nat_lt, refl, sym, arith}
 use Rattle.std.proofs.lemmas.Bool.{false≢true}
 use Rattle.lfm_protocol.specs.declared.answers.Call.{Call}

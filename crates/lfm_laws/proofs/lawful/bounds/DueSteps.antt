@@ -1,5 +1,5 @@
--- Each own step of an open call lowers what it has yet to do: its steps by one, and its changes of the push word by one if it
--- makes one.
+-- Each own step of an open call lowers what it has yet to do: its steps by at least one, and its changes of the push word by at
+-- least one if it makes one.
 use Rattle.std.proofs.Common.{◌≡◌, ℕ, Bool, true, false, ◌+◌, ◌-◌, ◌≤◌, ◌<◌, Option, Some, None, ◌∷◌, length, nat_eq, refl, sym, arith, inl, inr, if◌then◌else◌}
 use Rattle.std.proofs.lemmas.Bool.{cases_Bool, cases_eq, eq-eqb, ne_eqb, false≢true}
 use Rattle.lfm_model.specs.declared.answers.How.{How}

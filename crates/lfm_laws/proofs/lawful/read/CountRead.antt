@@ -126,7 +126,7 @@ pub counted_read : (c : Core) (g : Ghost) → Fits c g → IsCounted c (abstract
 counted_read c g fits =
     omega (arith, fits.words.count, fits.words.parts, fits.sums.asking, waiting_read g, own_read c g g.place fits refl, again_read c g g.place fits refl)
 
--- the count is 0 exactly if no seat or call has the responsibility
+-- the count is 0 exactly if the place is free
 
 zero_free : (place : Responsibility) (count asking pushed popped : ℕ) → count + popped ≡ asking + pushed + own_unit place + again_unit place → WorkFits place asking pushed popped
     → popped ≤ pushed → count ≡ 0 → abstract_place place ≡ free

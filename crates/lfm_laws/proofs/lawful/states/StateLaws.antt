@@ -48,7 +48,7 @@ quiet_posts c g fits quiet =
           absurd (quiet_watch c watcher.who (seat c.seats watcher.who) (seat c.seats watcher.who).point (quiet watcher.who) watcher.watches)
     ]
 
--- an open call has the responsibility
+-- the responsibility is with an open call
 abbrev is_carried : Responsibility → Bool
 is_carried (entering s into stamp) = true
 is_carried (accepting s) = true

@@ -156,9 +156,9 @@ impl<T: Kept> Mutex<T> {
         None
     }
 
-    /// Naps as often as the pace says, and reads the count before and after each nap. Threads that sleep leave the processors
-    /// to the holder, and a queue can drain meanwhile. The first nap is a yield if the mutex may just have been handed over.
-    /// The naps end early if many seats hold or wait: it is then better to queue at once.
+    /// Naps as often as the pace says. A nap is a read of the count, a sleep, and another read. Threads that sleep leave the
+    /// processors to the holder, and a queue can drain meanwhile. The first nap is a yield if the mutex may just have been
+    /// handed over. The naps end early if many seats hold or wait: it is then better to queue at once.
     #[inline(always)]
     fn nap<R: Wait>(&self, rt: &R, seat: &mut Seat<T>) -> Option<How>
         requires belongs { OfMutex seat.old self.now }

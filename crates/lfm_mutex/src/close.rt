@@ -25,9 +25,9 @@ use std::marker::Brand;
 
 impl<T: Kept> Mutex<T> {
     /// The first seat, from seat 1 on, that keeps the mutex from being closed with these seats, and why: no seat with its
-    /// number is among them, or one with it holds, or one sleeps. None if there is no such seat. Only the numbers are compared,
-    /// so the seats may be those of another mutex, unlike in `close`. It compares each seat number of the mutex with each seat,
-    /// allocates nothing and never waits.
+    /// number is among them, or one with it holds, sleeps or is in a call. None if there is no such seat. Only the numbers are
+    /// compared, so the seats may be those of another mutex, unlike in `close`. It compares each seat number of the mutex with
+    /// each seat, allocates nothing and never waits.
     pub fn missing<P: Holder<T>>(&self, seats: &Vec<P>) -> Option<Missing>
         ensures { MatchOption result (AllStand (λ p. sight (P.seat_of p)) seats.now.items (limits_of self.now).seats) (FirstMissing (λ p. sight (P.seat_of p)) seats.now.items (limits_of self.now).seats) }
     {

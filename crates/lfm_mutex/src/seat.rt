@@ -15,7 +15,7 @@ use lfm_table::{Kept, TableSeat, Woken};
 
 /// What one thread uses the mutex with. A seat may move between threads, and each call borrows it for its whole length. If a
 /// seat is dropped while it holds, no other seat can acquire the mutex again. If it is dropped while it sleeps, no other seat
-/// can acquire the mutex once it is granted to the dropped seat.
+/// can acquire the mutex once the mutex is granted to the dropped seat.
 ///
 /// These lines are compiled in the crate `example_cache`:
 ///

@@ -199,7 +199,7 @@ module _ {T : Type 0} (follows : ℕ → T → T → Type 0) (suits : T → ℕ 
       (λ (u : left.1.role ≡ Retired). let a = (h.root v at).gone left.0 left.1 left.2 u in inr (a.0, joined_of left.1, a.1, left.3, λ none. none_end s h v at (left.4 none))) (is_user left.1.role)
 
   -- The trails at the end are the parts of one run, which leads from the start to a free state. Each seat knew that run up to
-  -- its own last step.
+  -- its own last step or load for `owner`.
   pub record EndsRun (v : View T) : Type 0 where
     pub actions : List Action
     pub allowed : are_in_limits v.limits.seats v.limits.budget ≡ true

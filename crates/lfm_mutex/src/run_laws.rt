@@ -27,7 +27,8 @@ pub fn tables_have_a_run<T: Kept>()
 {}
 
 /// What a seat knows of its table's run is determined: it is exactly the run up to the seat's own last step or load for
-/// `owner`, or nothing if the seat has made none. If its trail has not grown between two views of it, it knows no more than before.
+/// `owner`, or nothing if the seat has made none. If its trail has not grown between two views of it, it knows no more than
+/// before.
 ///
 /// Definitions: `SeatsKnowUpToTheirLastStep` in `specs/TableRuns.antt`, and `SameTrailsKnowTheSame` in
 /// `specs/calls/RunGoesOn.antt`. Proofs: `proofs/TableRuns.antt` and `proofs/runs/RunGoesOn.antt`.

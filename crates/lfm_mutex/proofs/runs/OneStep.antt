@@ -129,7 +129,7 @@ leaves_at follows fits n l p m a was may r at = elim (cases_eq p.depth 0) [
   | inr some ↦ may_leave follows fits n p m.0 a was.named (omega (arith, some)) (may (ap is_release at))
 ]
 
--- the start of a call changes neither the view nor the value
+-- the start of a call changes in the sight only the depth, the takes, and whether the seat sleeps or is in a call
 pub begins_seen : {T : Type 0} (n n' : ℕ) (l : Limits) (p q : SeatState) (v v' : View T) (a a' : Option (Moving T)) → Became v.state l p → Became v.state l q → n' ≡ n → v' ≡ v → a' ≡ a
     → sight_of n' q v' (value_in a') ≡ record (sight_of n p v (value_in a)) { depth = q.depth; takes = q.takes; asleep = is_asleep q.point; in_call = is_in_call q.point }
 begins_seen {T} n n' l p q v v' a a' was is number view value =

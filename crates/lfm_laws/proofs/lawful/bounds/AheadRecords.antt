@@ -85,7 +85,7 @@ first_popped g h pushes answers r on some =
     let seat_is : h.pushed_at (g.popped + 1) ≡ r.seat = ap (λ (y : ℕ). h.pushed_at y) (sym here) ∙ ap (λ (r : Record). r.seat) same in
     sym stays ∙ seat_is
 
--- by the records that have left, fewer records are before the one that stays
+-- after m records have left, seat t has at most as many of the records before the one that stays
 ahead_drops : (f : ℕ → ℕ) (k m n t : ℕ) → ahead f (k + m) n t ≤ ahead f k (m + n) t
 ahead_drops f k zero n t = let here : k + 0 ≡ k = omega arith in let all : 0 + n ≡ n = omega arith in rw (here, all) (omega arith)
 ahead_drops f k (suc m) n t =

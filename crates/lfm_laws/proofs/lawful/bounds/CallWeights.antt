@@ -33,7 +33,7 @@ abbrev pub measure : (ℕ → ℕ → Point → ℕ) → Core → ℕ → ℕ
 measure most c s = most (length c.seats) (room_left c) (seat c.seats s).point
 
 -- `most` bounds the weight of what a call has yet to do at each of these points: the room of the pop list counts only while a
--- carrier collects, and each own step leads to one of these points again and lowers the measure by its weight
+-- carrier collects, and each own step leads to one of these points again and lowers the measure by at least its weight
 pub record Falls (weight : Point → ℕ) (most : ℕ → ℕ → Point → ℕ) (among : Point → Bool) : Type 0 where
   pub unread : (seats room room' : ℕ) (p : Point) → is_walking p ≡ false → most seats room p ≡ most seats room' p
   pub lower : (c : Core) (g : Ghost) (s : ℕ) → Fits c g → is_call (seat c.seats s).point ≡ true → among (seat c.seats s).point ≡ true
@@ -41,7 +41,7 @@ pub record Falls (weight : Point → ℕ) (most : ℕ → ℕ → Point → ℕ)
       × (weight (seat c.seats s).point + most (length c.seats) (length c.seats - length (made c s).core.popped) (stepped c s).seat.point ≤ measure most c s)
 
 module _ (weight : Point → ℕ) (most : ℕ → ℕ → Point → ℕ) (among : Point → Bool) (falls : Falls weight most among) where
-  -- an event after which the measure has fallen by this much, and the point is again one of the call
+  -- an event after which the measure has fallen by at least this much, and the point is again one of the call
   record Goes (c d : Core) (s spent : ℕ) : Type 0 where
     pub steady : Steady d
     pub within : among (seat d.seats s).point ≡ true

@@ -83,7 +83,7 @@ due_at-le c _ = omega arith
 
 -- Steps
 
--- the seats that own, are granted or serve stay the same
+-- what the seat that owns, is granted or serves has yet to do does not grow
 record Stays (c d : Core) (g : Ghost) : Type 0 where
   pub owns : (s : ℕ) → abstract_place g.place ≡ owner s → unlocks_due (seat d.seats s).point ≤ unlocks_due (seat c.seats s).point
   pub granted : (s : ℕ) → abstract_place g.place ≡ passed s → receives_due (seat d.seats s).point ≤ receives_due (seat c.seats s).point

@@ -79,7 +79,7 @@ clears_some c g s (TakeClearHead carrier) at fits some =
     head_some c g fits knows.0 knows.1 some
 clears_some c g s _ at fits some = tt
 
--- no step leads a seat to a post
+-- while some seat is queued, no step leads a seat to a post
 pub next_stays : (c : Core) (g : Ghost) (t s : ℕ) → Fits c g → HasQueue g → IsSeat c.seats t
     → post_weight (seat (made c t).core.seats s).point ≤ post_weight (seat c.seats s).point
 next_stays c g t s fits some is =

@@ -102,7 +102,7 @@ nobody_queued : (c : Core) (g : Ghost) (stamp : ℕ) → Fits c g → g.standing
 unfolding entry
 nobody_queued c g stamp fits stands = let here : g.standing 0 ≡ apart = (fits.each 0).stands in cc
 
--- while a handoff is posted, the whole queue is in the push list
+-- while a handoff is posted and some seat is queued, the push list has a record
 head_of_queue : (c : Core) (g : Ghost) → Fits c g → g.place ≡ posted → HasQueue g → c.push.next ≢ 0
 head_of_queue c g fits at some zero =
     let carried = rw at at fits.words.carried in

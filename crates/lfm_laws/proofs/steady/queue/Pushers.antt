@@ -59,7 +59,7 @@ head_has_queue c g fits some =
       | inr differ ↦ omega (arith, fits.words.parts)
     ]
 
--- if not all records are cleared, the push list has a head
+-- if not all records are cleared, the head of the push list is the newest record
 pub newest_is : (c : Core) (g : Ghost) → Fits c g → cleared c g ≢ g.pushed → c.push.next ≡ g.pushed_at g.pushed
 newest_is c g fits differ = fits.words.head ∙ rw (ne_eqb (cleared c g) g.pushed differ)
 

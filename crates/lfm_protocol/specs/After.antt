@@ -37,7 +37,7 @@ idle x = record { seat = x; turn = Refused Idle }
 abbrev pub same_link : Link → Link → Bool
 same_link a b = nat_eq a.stamp b.stamp && nat_eq a.next b.next
 
--- whether an exchange finds the handoff number that it expects
+-- whether an exchange of the handoff word finds the post that it expects
 abbrev pub same_handoff : Handoff → Handoff → Bool
 same_handoff a b = nat_eq a.seat b.seat && nat_eq a.post b.post
 

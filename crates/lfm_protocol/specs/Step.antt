@@ -107,7 +107,7 @@ step_of c s t (Some Kind.WakeExchange) = wake_exchange_of c s t
 abbrev pub made : Core → ℕ → Moved
 made c s = step_of c s (target (seat c.seats s).point s) (kind (seat c.seats s).point)
 
--- the step of number s, refused if no seat has this number
+-- the step of the seat with number s, refused if no seat has this number
 abbrev pub step : Core → ℕ → Moved
 step c s = if is_seat c.seats s then made c s else refused c NoSuchSeat
 

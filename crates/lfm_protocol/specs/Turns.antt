@@ -16,6 +16,6 @@ is_refused Open = false
 is_refused (Ended answer) = false
 is_refused (Refused why) = true
 
--- the most steps that a call may need while no other seat makes a step: the longest call follows the links of all seats
+-- a call needs at most this many steps while no other seat makes a step: the longest call follows the links of all seats
 abbrev pub longest_call : Core → ℕ
 longest_call c = length c.seats + 16

@@ -31,8 +31,8 @@ impl Limits {
     }
 }
 
-/// The most steps that a call makes, with this number of seats, while no other seat makes a step: 16 more than the number of
-/// seats.
+/// With this number of seats, a call makes at most this many steps while no other seat makes a step: 16 more than the number
+/// of seats.
 pub fn longest_call(seats: u64) -> u64
     requires { seats + 16 < 2 ^ 64 }
     ensures { result ≡ seats + 16 }

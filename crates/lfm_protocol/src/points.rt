@@ -32,7 +32,7 @@ pub enum Releaser {
 pub enum Carrier {
     /// A `lock` that has taken a post over.
     Locker,
-    /// A release that loaded a count above 1.
+    /// A release that found a count above 1 when it subtracted.
     Releaser(Releaser),
     /// A release that has posted, and has taken its post back.
     Reclaimer(Releaser),

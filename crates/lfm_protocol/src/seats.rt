@@ -18,7 +18,7 @@ use crate::limits::{Limits, MAX_DEPTH};
 use crate::points::{Point, Releaser};
 use lfm_model::{Refusal, Unlocked};
 
-/// The data of a seat apart from the words. No other seat reads them.
+/// The data that a seat keeps in addition to the words. No other seat reads this data.
 #[derive(Clone, Copy, Debug, PartialEq, Eq)]
 pub struct SeatState {
     /// How many times the seat holds the mutex: 0 to 65,535.
@@ -32,7 +32,7 @@ pub struct SeatState {
 }
 
 impl SeatState {
-    /// A seat at the start: at rest, with no hold, no charged take and no post.
+    /// A seat at the start: at rest and awake, with no hold, no charged take and no post.
     pub const REST: SeatState = SeatState {
         depth: 0,
         takes: 0,

@@ -14,7 +14,7 @@ each_more P xs ys x is h last j y e = each P xs x h last j y (ap (λ l. get_elem
   each P (z ∷ xs) x h last zero y e = h 0 y e
   each P (z ∷ xs) x h last (suc j) y e = each (λ i a. P (suc i) a) xs x (λ i a q. h (suc i) a q) last j y e
 
--- an empty list has no items
+-- anything holds of each item of an empty list, since it has none
 pub each_of_none : {A : Type 0} (P : ℕ → A → Type 0) (xs : List A) → xs ≡ [] → (j : ℕ) (y : A) → get_elem? xs j ≡ some y → P j y
 each_of_none P xs is j y e = absurd (some-ne-none y (sym (ap (λ l. get_elem? l j) (sym is) ∙ e)))
 

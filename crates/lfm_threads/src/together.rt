@@ -38,7 +38,7 @@ pub fn make_together<
             ensures back { IfErr result (λ e. e.jobs.items ≡ jobs.items) }
         {
             let (alloc, count) = (*jobs.allocator(), jobs.len());
-            // All memory is allocated before a thread is started.
+            // The memory for all lists is allocated before any thread is started.
             let (Ok(mut workers), Ok(results), Ok(back)) = (
                 Vec::with_capacity(alloc, count),
                 Vec::with_capacity(alloc, count),

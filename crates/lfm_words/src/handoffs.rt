@@ -4,8 +4,8 @@ ghost use Rattle.lfm_words.specs.Words.{handoff_word, handoff_of, is_posted_word
 
 use crate::links::SEAT_FIELD_SIZE;
 
-/// A post: the seat that posted the responsibility, and the number of this post among the seat's posts. A seat numbers its
-/// posts from 1, so no value is used twice.
+/// A post, or handoff number: the seat that posted the responsibility, and the number of this post among the seat's posts. A
+/// seat numbers its posts from 1, so no value is used twice.
 #[derive(Clone, Copy, Debug, PartialEq, Eq)]
 pub struct Handoff {
     /// The seat that posted: below 65,536, and 0 if nothing is posted.

@@ -8,7 +8,8 @@ pub const FIRST_GRANT: u64 = 3;
 /// The state in the wake word of a seat.
 #[derive(Clone, Copy, Debug, PartialEq, Eq)]
 pub enum Wake {
-    /// The seat has not started a wait and was not granted the mutex. A locker that sleeps in the queue also has this state.
+    /// No wait has put the seat to sleep, and it has no grant to take up. A locker that sleeps in the queue also has this
+    /// state.
     Quiet,
     /// A `start_wait` put the seat to sleep, and no send has claimed it.
     Waiting,

@@ -41,14 +41,14 @@ impl Machine {
         self.owner
     }
 
-    /// The handoff word: the current post, or seat 0 if nothing is posted.
+    /// The handoff word: the current post; its seat is 0 if nothing is posted.
     pub fn handoff(&self) -> Handoff
         ensures { result ≡ self.now.handoff }
     {
         self.handoff
     }
 
-    /// The most steps that a call makes while no other seat makes a step: 16 more than the number of seats.
+    /// A call makes at most this many steps while no other seat makes a step: 16 more than the number of seats.
     pub fn longest_call(&self) -> u64
         ensures { result ≡ longest_call self.now }
     {

@@ -257,7 +257,7 @@ knows_none l actions t early trail none no_trail no_actions = record {
 pub stands_first : (l : Limits) (t : ℕ) (early : List Action) (x : SeatState) → early ≡ [] → x ≡ absent → seat (reached l (events_of early)).seats t ≡ x
 stands_first l t early x no_actions stands = (λ i. seat (reached l (events_of (no_actions i))).seats t) ∙ (starts_absent l.seats t ∙ sym stands)
 
--- the view z has the same data of the run as v
+-- the view z knows of the run what v knows
 abbrev pub SaysTheSame : {T : Type 0} → View T → View T → Type 0
 SaysTheSame z v = (z.trail ≡ v.trail) × (z.actions ≡ v.actions) × (z.state ≡ v.state)
 

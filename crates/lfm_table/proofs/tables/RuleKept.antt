@@ -429,7 +429,7 @@ module _ {T : Type 0} (follows : ℕ → T → T → Type 0) (suits : T → ℕ 
       not_after : (found : Option T) (j : ℕ) (z : View T) → get_elem? (set s.views id (next_view found)) j ≡ some z → carries_value (seat ts.after.seats (j + 1)) ≡ false → carries_value z.state ≡ true → ⊥
       not_after found j z e none_after one = false≢true (sym none_after ∙ ap carries_value (sits_on found j z e).state ∙ one)
 
-      -- a step at depth 0 after it has not answered a hold
+      -- a step that leaves the seat at depth 0 has not answered a hold
       same_answers : st.seat.depth ≡ 0 → ts.ghost_after.answered ≡ g.answered
       same_answers shallow = let z = no_answer p num (k n) (oldest c.popped) shallow in let l = ap (λ (r : List Record). length r) z in omega (arith, answers, l)
 

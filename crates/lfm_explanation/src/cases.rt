@@ -16,13 +16,13 @@ pub enum Case {
     Ask,
     /// A seat that asked joins the end of the queue.
     Queue,
-    /// The oldest record leaves the queue, and its seat is granted the mutex or owns it.
+    /// The oldest record leaves the queue, and its seat is granted the mutex or becomes the owner.
     Serve,
     /// The responsibility is posted.
     Post,
-    /// A posted hand-off is taken over or taken back.
+    /// A post is taken over or taken back.
     Take,
-    /// A `try_lock` accepts a posted hand-off, and thereby acquires the mutex.
+    /// A `try_lock` accepts a post. It becomes the owner at a later step.
     Accept,
     /// A seat loads its grant.
     TakeUp,

@@ -38,8 +38,7 @@ pub enum Performed {
 ///
 /// Stuck is answered if the gate stops this worker before a command. The commands before that one were made, and no others.
 ///
-/// It may sleep when it enters, waits or wakes. If no other worker ends a wait of the script, it never returns. It allocates no
-/// memory.
+/// It may sleep when it enters, waits or wakes. It never returns if one of its waits is never ended. It allocates no memory.
 pub fn perform<G: Gate, R: Wait>(
     rt: &R,
     monitor: &Monitor<Total>,

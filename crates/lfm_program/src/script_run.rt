@@ -23,7 +23,7 @@ use std::alloc::{AllocError, Global};
 use std::sync::Wait;
 use std::thread::{Threads, available_parallelism};
 
-/// The result of a script's run, once all its workers have ended.
+/// The result of a script's run, after all its workers have ended.
 #[derive(Drop)]
 pub(crate) struct ScriptRun {
     /// A row for each worker, in order.
@@ -127,8 +127,8 @@ fn is_lawful(alloc: Global, total: Total, journal: &[Entry<TotalOp>]) -> Result<
     Ok(replayed == total)
 }
 
-/// Runs a script: each worker in a thread of its own, by `perform`. Returns when all have ended. If no worker ends a wait of
-/// the script, it never returns.
+/// Runs a script: each worker in a thread of its own, by `perform`. Returns when all have ended, so it never returns if some
+/// wait of the script is never ended.
 ///
 /// Stuck if the gate stopped a worker before one of its commands. Memory if a request for memory was refused or a worker could
 /// not be started.

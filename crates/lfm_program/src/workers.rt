@@ -47,7 +47,7 @@ impl<G: Gate> Promise<Worked> for Assignment<G> {
     ghost kept_by = { λ a r. WorksAs a.monitor.value (G.stops a.gate.value) a.commands.value.items a.pass.value r.pass r.end };
 }
 
-/// A worker's thread: it makes its commands once the line is opened, and none if the start is called off.
+/// A worker's thread: it makes its commands after the line is opened, and none if the start is called off.
 fn run_worker<G: Gate, R: Wait>(
     rt: &R,
     line: &StartingLine,
@@ -72,7 +72,8 @@ fn run_worker<G: Gate, R: Wait>(
     }
 }
 
-/// Joins the threads that were started. Returns their results if all workers were started, and Memory otherwise.
+/// Joins the threads that were started. Returns their results if all workers were started. Memory if not, or if a request for
+/// memory was refused.
 fn join_all<R: Threads, G: Gate>(
     rt: &R,
     handles: Vec<PromisedHandle<Worked, Assignment<G>>>,

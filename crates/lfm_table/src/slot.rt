@@ -66,8 +66,8 @@ pub fn carries_after(state: &SeatState, number: u64, found: u64) -> bool
     }
 }
 
-/// Replaces what the seat has in hand. An assignment also drops the old value, if there is one. It is in a function of its own
-/// so that the callers are not proved once for each case.
+/// Replaces what the seat has in hand. The assignment also drops the old content, if there is any. It has its own function, so
+/// that its callers are not proved once for each case.
 fn put<T: Drop>(moving: &mut Option<MovingBox<T>>, new: Option<MovingBox<T>>)
     ensures { moving.new ≡ new }
 {

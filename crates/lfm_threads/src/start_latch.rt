@@ -1,4 +1,4 @@
-//! The start latch of `share`: threads wait at it until the decision, made once, whether they do their jobs.
+//! The start latch of `share`: threads wait at it until it is decided, once, whether they do their jobs.
 //!
 //! `lfm_program` has its own `StartingLine`, since `lfm work` must start its workers with the `Mutex` and `Condvar` of std.
 //! These prove nothing about the decision. `share` promises that either all jobs are done or none, so its latch is a

@@ -33,8 +33,8 @@ pub fn left(handle: &mut SeatHandle) -> u64
     }
 }
 
-/// How many seats hold or want the mutex, by one load, or 0 if the handle is blank. Nothing is guaranteed about the result: the
-/// count may have changed by the time it is returned.
+/// How many seats hold or want the mutex, by one load, or 0 if the handle is blank. Nothing else is guaranteed of the result:
+/// the count may have changed by the time it is returned.
 pub fn count(handle: &mut SeatHandle) -> u64
     ensures told { TellsCount handle.old handle.new result }
 {

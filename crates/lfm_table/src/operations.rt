@@ -217,7 +217,7 @@ impl Operation for HandoffStore {
     }
 }
 
-/// Compare-and-exchange of the handoff word: from the handoff that the seat loaded to none.
+/// Compare-and-exchange of the handoff word: from the post that the seat expects to none.
 pub struct HandoffExchange;
 
 impl Operation for HandoffExchange {

@@ -132,8 +132,8 @@ pub unsafe extern "C" fn lfm_c_give_seat(mutex: *mut u8, seat: *mut u8) -> u64
 ///
 /// Returns Done, or Blank, NotBack, Holding, Asleep, which change nothing. With each of the last three, the bits above the
 /// status have the number of the first seat, starting with seat 1, that is not back, holds or sleeps. This is the seat that
-/// `missing` of the mutex returns; `missing` knows the seats only by their numbers. `close` of the mutex is not used here, since
-/// it requires that each seat belongs to this mutex, and the running code cannot know to which mutex a seat from C belongs. The
+/// `missing` of the mutex returns; `missing` knows the seats only by their numbers. `close` of the mutex is not used here. It
+/// requires that each seat belongs to this mutex, and the running code cannot know to which mutex a seat from C belongs. The
 /// guarded number, which nothing reads, is dropped with the mutex.
 #[unsafe(no_mangle)]
 pub unsafe extern "C" fn lfm_c_close(mutex: *mut u8) -> u64

@@ -15,7 +15,7 @@ use Rattle.lfm_program.specs.declared.workers.WorkerEnd.{WorkerEnd}
 use Rattle.lfm_program.specs.declared.workers.WorkerEnd.TheVariants.{Performed as LetGo}
 
 module _ {R : Type 0} {K : _} where
-  -- a new monitor over a total of 0, with these passes, one for each worker and in order; each has the same share of the entries
+  -- a new monitor over a total of 0, with these passes, one for each worker, in order; each has the same share of the entries
   pub record MadeReady (workers conditions : ℕ) (m : Monitor Total TotalOp R K) (ps : List (Pass Total TotalOp R K)) : Type 0 where
     pub opening : opening_of m ≡ record { 0 = 0 }
     pub monitor_has : passes_of m ≡ workers

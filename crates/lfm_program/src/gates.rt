@@ -64,8 +64,8 @@ impl Meet {
         }
     }
 
-    /// Marks the arrival of one worker and reads the marks, at most `limit` times, to find the other's. Returns whether both have
-    /// arrived.
+    /// Marks the arrival of one worker and reads the marks, at most `limit` times, to find the other's. Returns whether both
+    /// have arrived.
     fn meet(&self, mark: u64) -> bool {
         let arrived: &AtomicU64 = &self.arrived;
         let before = arrived.fetch_or(mark, Ordering::SeqCst);

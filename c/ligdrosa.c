@@ -553,7 +553,7 @@ static lfm_status take_handle(struct lfm_core *core, void *handle) {
 }
 
 /* Takes a seat of the core, which has another reference then. The seat waits for grants at a bell of its own. `in_hand`
- * is whether it is one of lfm_seat_take, and not one that finds itself. */
+ * tells that it is one of lfm_seat_take. */
 static lfm_status take(struct lfm_core *core, lfm_seat *seat, uint32_t flags, bool in_hand) {
   hide(seat, offsetof(lfm_seat, unused));
   lfm_c_blank_seat(seat->handle);
@@ -570,7 +570,6 @@ static lfm_status take(struct lfm_core *core, lfm_seat *seat, uint32_t flags, bo
   seat->left = lfm_c_left(seat->handle);
   silence(&seat->bell);
   seat->looks = 0;
-  seat->is_of_library = !in_hand;
   seat->waits = 0;
   set_place(seat, WAITS);
   refer_to(core);
@@ -604,7 +603,9 @@ static lfm_status take_in_hand(lfm_mutex *mutex, lfm_seat *seat, uint32_t flags)
   if (!seat) return LFM_BLANK;
   struct lfm_core *core = core_of(mutex, &cause);
   if (!core) return cause;
-  return seat->core ? LFM_TAKEN : take(core, seat, flags, true);
+  if (seat->core) return LFM_TAKEN;
+  seat->is_of_library = false;
+  return take(core, seat, flags, true);
 }
 
 lfm_status lfm_seat_take(lfm_mutex *mutex, lfm_seat *seat) { return take_in_hand(mutex, seat, 0); }
@@ -1155,6 +1156,7 @@ SELDOM lfm_seat *take_own(lfm_mutex *mutex, lfm_status *cause) {
   if (!has_room() || !is_told_of_end()) return NULL;
   lfm_seat *seat = (lfm_seat *)new_lines(offsetof(lfm_seat, unused));
   if (!seat) return NULL;
+  seat->is_of_library = true;
   *cause = take(core, seat, own.is_ending ? IS_LATE : 0, false);
   if (*cause != LFM_DONE) {
     free(seat);
@@ -1236,6 +1238,7 @@ static bool is_in_use(struct lfm_core *core) {
     await_passed(seat);
   }
   if (seat) return lfm_c_count(seat->handle) != 0;
+  looks.is_of_library = false;
   if (take(core, &looks, 0, false) != LFM_DONE) return false;
   bool is_used = lfm_c_count(looks.handle) != 0;
   give(&looks, false);

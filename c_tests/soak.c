@@ -1,5 +1,5 @@
-/* Threads lock, lock again and try at random, some in order, and sleep at their first look: soak SECONDS THREADS. The totals
- * are exact, and the test fails if the threads make no progress.
+/* Threads lock, lock again and try at random, some in order, some with a short time limit, and sleep at their first look: soak
+ * SECONDS THREADS. The totals are exact, and the test fails if the threads make no progress.
  *
  * A seat's ask may grant the mutex to another seat, which sleeps, and only the answer of that ask tells that it is to be woken.
  * That is rare, so the test has the C file of the library in it and wraps its asks: it prints how many seats they named, and
@@ -24,7 +24,7 @@ uint64_t seen_ask(void *seat) {
   if (number != 0) {
     EXPECT(number <= mutex.core->seats, true);
     __atomic_fetch_add(&named, 1, __ATOMIC_RELAXED);
-    if (bell_of(mutex.core->bells[number]) == LISTENED) __atomic_fetch_add(&named_asleep, 1, __ATOMIC_RELAXED);
+    if (bell_of(&seat_at(mutex.core->places[number - 1])->bell) == LISTENED) __atomic_fetch_add(&named_asleep, 1, __ATOMIC_RELAXED);
   }
   return answer;
 }
@@ -40,7 +40,11 @@ static void work(unsigned thread) {
   uint64_t x = 88172645463325252u + thread * 7919;
   while (!__atomic_load_n(&over, __ATOMIC_RELAXED)) {
     uint64_t chance = next(&x);
-    lfm_status status = chance % 8 == 0 ? lfm_try_lock(seat) : chance % 8 < 5 ? lfm_lock_in_order(seat) : lfm_lock(seat);
+    uint64_t kind = chance % 8;
+    lfm_status status = kind == 0 ? lfm_try_lock(seat)
+                      : kind < 4  ? lfm_lock_in_order(seat)
+                      : kind == 4 ? lfm_try_lock_for(seat, (chance >> 8) % 30000)
+                                  : lfm_lock(seat);
     if (status == LFM_BUSY) continue;
     EXPECT(status, LFM_DONE);
     uint64_t step = chance % 16 < 3 ? 2 : 1;

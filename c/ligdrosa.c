@@ -445,9 +445,9 @@ lfm_status lfm_mutex_open(lfm_mutex *mutex, uint64_t seats, uint64_t budget, int
   return LFM_DONE;
 }
 
-/* What is done at each call of a seat besides: IS_CHECKED tests that it is in no other call, IS_WATCHED tells tools, and
- * IS_LATE gives the seat back after the call, since its thread ends. HAS_LEFT is set from the end of a timed lock that left its
- * seat in the queue until a call of the seat finds that its place was passed by. */
+/* What each call of a seat has to do in addition: IS_CHECKED tests that it is in no other call, IS_WATCHED tells tools, and
+ * IS_LATE gives the seat back after the call, since its thread ends. HAS_LEFT is set when a timed lock leaves its seat in the
+ * queue, until a call of the seat finds that its place was passed by, or takes the place up again. */
 enum { IS_CHECKED = 1, IS_WATCHED = 2, IS_LATE = 4, HAS_LEFT = 8 };
 
 static uint32_t watched(void) { return __tsan_acquire || IS_IN_VALGRIND ? IS_WATCHED : 0; }
@@ -491,7 +491,7 @@ MOSTLY bool is_taken(const lfm_seat *seat) { return seat && seat->core; }
  *   WAITS      the seat is not queued, or a lock without a time limit waits at its bell
  *   TIMED      a lock with a time limit waits at its bell
  *   ABANDONED  the time of that lock was over, and it has returned; the seat is still queued
- *   PASSING    the seat was granted the mutex, and the thread that has to wake it gives the mutex up in its stead
+ *   PASSING    the seat was granted the mutex, and the thread that has to wake it receives and unlocks for it
  *   AWAITED    the same, and a call of the seat sleeps at the bell until that is done
  *   ORPHANED   as ABANDONED, but the seat was given back; the lfm_seat is memory of the library
  * The seat's own thread sets TIMED before it asks. Its lock leaves by TIMED -> ABANDONED. Its next lock takes the place up
@@ -816,7 +816,7 @@ static lfm_status try_once(lfm_seat *seat) {
   return status == LFM_SPENT && is_renewed(seat) ? status_of(lfm_c_try_lock(seat->handle)) : status;
 }
 
-/* A try if a look finds that nobody holds or wants the mutex, or LFM_BUSY. A look costs the holder less than a try. */
+/* A try if by this count no seat holds or wants the mutex, or LFM_BUSY. To read the count costs the holder less than a try. */
 static lfm_status try_if_free(lfm_seat *seat, uint64_t count) {
   return count == 0 ? status_of(lfm_c_try_lock(seat->handle)) : LFM_BUSY;
 }
@@ -929,7 +929,7 @@ SELDOM bool is_left_behind(lfm_seat *seat, bool in_hand) {
 /* Makes a call with a seat in hand. */
 #define CALL(seat, call) (is_taken(seat) ? (begin_call(seat), end_call(seat, call)) : LFM_BLANK)
 
-/* Whether a call of the seat has nothing to do besides. Most are so, and one look at the flags tells it. */
+/* Whether a call of the seat has nothing to do in addition. Most have not, and one load of the flags tells it. */
 MOSTLY bool is_plain(const lfm_seat *seat) { return LIKELY(is_taken(seat) && seat->flags == 0); }
 
 /* Locks by a plain seat. */
@@ -1555,7 +1555,7 @@ const char *lfm_status_text(lfm_status status) {
     case LFM_ASLEEP: return "the seat sleeps";
     case LFM_POSTED: return "the mutex was given up to a seat that had begun to ask";
     case LFM_GRANTED: return "the mutex was given up to the oldest queued seat";
-    case LFM_NOBODY: return "nobody waited";
+    case LFM_NOBODY: return "no thread waited";
     case LFM_TIMED_OUT: return "the time of the wait was over";
     case LFM_BLANK: return "null, a mutex that is neither open nor LFM_MUTEX_INIT, or a seat that is not taken";
     case LFM_TAKEN: return "the mutex is open, or the seat taken, already";

@@ -67,13 +67,13 @@ extern "C" {
 /* What a call tells. Below LFM_BLANK the call was made, from there on it was refused. */
 typedef enum lfm_status {
   /* a script writes the numbers from here */
-  LFM_DONE = 0,      /* made: the seat holds the mutex, or gave it up and nobody else asked */
+  LFM_DONE = 0,      /* made: the seat holds the mutex, or gave it up and no other seat asked */
   LFM_AGAIN = 1,     /* the seat held before, and holds once more */
   LFM_STILL = 2,     /* the seat holds once less, and still holds */
   LFM_ASLEEP = 3,    /* the seat sleeps until it is granted the mutex; no call of this header answers it */
   LFM_POSTED = 4,    /* the mutex was given up to a seat that had begun to ask */
   LFM_GRANTED = 5,   /* the mutex was given up to the oldest queued seat */
-  LFM_NOBODY = 6,    /* nobody waited, so nobody was woken */
+  LFM_NOBODY = 6,    /* no thread waited, so none was woken */
   LFM_TIMED_OUT = 7, /* the wait ended since its time was over; the seat holds the mutex */
 
   LFM_BLANK = 16,        /* null, a mutex that is not open, or a seat that is not taken */
@@ -187,7 +187,7 @@ static inline lfm_status lfm_mutex_new(lfm_mutex *mutex, uint64_t seats, uint64_
 
 /* Ends the mutex, which is zero then, also if it was LFM_MUTEX_INIT: a later call doesn't open it anew, and is refused as
  * LFM_BLANK. A thread may close it as soon as it has gained it last and given it up, though calls of others that gave it up
- * before have not returned yet, and then give back the memory of the lfm_mutex. It may also be closed beside the last
+ * before have not returned yet, and then give back the memory of the lfm_mutex. It may also be closed during the last
  * lfm_seat_give, and then the memory of that lfm_seat may go too. The memory of the library itself goes back when no thread has
  * a seat: threads that found their seats by themselves give them back as they take others, or when they end. It may sleep until
  * a seat is taken or given back.
@@ -199,7 +199,7 @@ LFM_API lfm_status lfm_mutex_close(lfm_mutex *mutex);
  * all are back. A mutex is spent only if all its seats are: a seat that has no take left is exchanged for another by itself. */
 LFM_API uint64_t lfm_takes_left(lfm_mutex *mutex);
 
-/* In a forked child, makes a mutex new that the thread which forked held, or that nobody held: that thread holds it as often as
+/* In a forked child, makes a mutex new that the thread which forked held, or that no seat held: that thread holds it as often as
  * before. `seat` is that thread's seat, or null if it finds its seat by itself. Other seats of it are forgotten: an lfm_seat is
  * set to zero before it is taken anew. The library's memory for seats that threads of the parent found goes back, and that of
  * the old mutex too if no other seat was in hand. In the process that opened the mutex it changes nothing.
@@ -275,7 +275,7 @@ LFM_API lfm_seat *lfm_seat_here(lfm_mutex *mutex, lfm_status *cause);
  * LFM_BLANK if the thread has none. A later call of the thread takes a seat anew. */
 LFM_API lfm_status lfm_seat_give_here(lfm_mutex *mutex);
 
-/* The calls above with that seat. Refused besides: LFM_NO_SEAT, LFM_NO_MEMORY, and as lfm_mutex_open if it opens the mutex. */
+/* The calls above with that seat. Refused also: LFM_NO_SEAT, LFM_NO_MEMORY, and as lfm_mutex_open if it opens the mutex. */
 LFM_NODISCARD lfm_status lfm_lock_here(lfm_mutex *mutex) LFM_GAINS(*mutex);
 LFM_NODISCARD lfm_status lfm_lock_in_order_here(lfm_mutex *mutex) LFM_GAINS(*mutex);
 LFM_NODISCARD lfm_status lfm_try_lock_here(lfm_mutex *mutex) LFM_TRIES(*mutex);
@@ -294,7 +294,7 @@ LFM_API uint64_t lfm_depth_here(lfm_mutex *mutex);
 LFM_NODISCARD lfm_status lfm_wait(lfm_condvar *condvar, lfm_seat *seat);
 
 /* The same, but waits for at most this many nanoseconds, or until this time on this clock: LFM_DONE after a wake, or
- * LFM_TIMED_OUT. Refused besides: LFM_LIMIT, as lfm_try_lock_until. */
+ * LFM_TIMED_OUT. Refused also: LFM_LIMIT, as lfm_try_lock_until. */
 LFM_NODISCARD lfm_status lfm_wait_for(lfm_condvar *condvar, lfm_seat *seat, uint64_t nanoseconds);
 LFM_NODISCARD lfm_status lfm_wait_until(lfm_condvar *condvar, lfm_seat *seat, int clock, const struct timespec *time);
 
@@ -305,7 +305,7 @@ LFM_NODISCARD lfm_status lfm_wait_until_here(lfm_condvar *condvar, lfm_mutex *mu
     LFM_NEEDS(*mutex);
 
 /* Wakes the thread that has waited longest, or all that wait: LFM_DONE or LFM_NOBODY. The caller may hold the mutex or not, and
- * needs no seat. A thread that gains the mutex after a wait has given it up finds that wait. If nobody waits, a wake is one
+ * needs no seat. A thread that gains the mutex after a wait has given it up finds that wait. If no thread waits, a wake is one
  * load. Otherwise it may sleep until another call has left the list. Wakes go in the order of the waits, and none wakes two.
  * Refused: LFM_BLANK (null). */
 LFM_API lfm_status lfm_wake_one(lfm_condvar *condvar);

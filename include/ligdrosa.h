@@ -199,10 +199,10 @@ LFM_API lfm_status lfm_mutex_close(lfm_mutex *mutex);
  * all are back. A mutex is spent only if all its seats are: a seat that has no take left is exchanged for another by itself. */
 LFM_API uint64_t lfm_takes_left(lfm_mutex *mutex);
 
-/* In a forked child, makes a mutex new that the thread which forked held, or that no seat held: that thread holds it as often as
- * before. `seat` is that thread's seat, or null if it finds its seat by itself. Other seats of it are forgotten: an lfm_seat is
- * set to zero before it is taken anew. The library's memory for seats that threads of the parent found goes back, and that of
- * the old mutex too if no other seat was in hand. In the process that opened the mutex it changes nothing.
+/* In a forked child, makes a mutex new that the thread which forked held, or that no seat held: that thread holds it as often
+ * as before. `seat` is that thread's seat, or null if it finds its seat by itself. Other seats of it are forgotten: an lfm_seat
+ * is set to zero before it is taken anew. The library's memory for seats that threads of the parent found goes back, and that
+ * of the old mutex too if no other seat was in hand. In the process that opened the mutex it changes nothing.
  * Refused: LFM_BLANK, LFM_FOREIGN, LFM_NO_MEMORY, and LFM_BUSY if another thread held the mutex, asked for it or was giving it
  * up when the parent forked, or if the thread has no seat by which it could see that, and none is free. */
 LFM_NODISCARD lfm_status lfm_after_fork(lfm_mutex *mutex, lfm_seat *seat);

@@ -1,4 +1,4 @@
-// Ligdrosa for C++11 to C++23, over ligdrosa.h, which says what a program promises.
+// Ligdrosa for C++11 to C++23, over ligdrosa.h, which states what a program promises.
 //
 // lfm::recursive_mutex is used as std::recursive_timed_mutex, and lfm::condition_variable as std::condition_variable:
 //
@@ -10,10 +10,10 @@
 //
 // A call that is refused throws lfm::refused. In a file that is compiled without exceptions it ends the program with a text.
 // Files of both kinds may be linked into one program. For each kind lfm::recursive_mutex and the other classes that may throw
-// are types of their own, so a function of one kind takes no mutex of the other. It takes the lfm_mutex (native_handle).
+// are separate types, so a function of one kind takes no mutex of the other. It takes the lfm_mutex (native_handle).
 //
-// If a thread is to have its seat in hand, lfm::mutex gives lfm::seat, and lfm::seat_lock is the seat as a Lockable. The locks
-// of the standard library take both, and so does std::condition_variable_any.
+// A thread that keeps its seat itself uses lfm::mutex, lfm::seat, and lfm::seat_lock, which is the seat as a Lockable. The
+// locks of the standard library take both Lockables, and so does std::condition_variable_any.
 #pragma once
 
 #include <dlfcn.h>
@@ -39,7 +39,8 @@
 #define LFM_UNSEEN LFM_TELLS_CLANG(no_thread_safety_analysis)
 #define LFM_CALL(what) LFM_TELLS_CLANG(what) LFM_UNSEEN
 
-// The linker keeps one of the inline functions of one name. So those that throw or abort have another name in each kind of file.
+// The linker keeps one of the inline functions of one name. So those that throw or abort have another name in each kind of
+// file.
 #ifdef __cpp_exceptions
 #define LFM_KIND with_exceptions
 #else
@@ -64,7 +65,7 @@ public:
   }
 };
 
-// It never ends, for threads that go on after main.
+// It is never destroyed, since threads may go on after main.
 inline const std::error_category &category() {
   static const status_category &it = *new status_category();
   return it;
@@ -81,7 +82,7 @@ public:
 // The greatest number of takes that a seat may be allowed.
 constexpr uint64_t most_takes = uint64_t{1} << 36;
 
-// Whether memory has static storage: it lies in the program or in a shared object. Before glibc 2.34 it wants -ldl.
+// Whether memory has static storage, in the program or in a shared object. Before glibc 2.34 it needs -ldl.
 inline bool is_static(void *memory) noexcept {
 #ifdef DLFO_STRUCT_HAS_EH_DBASE // the C library has a search that takes no lock
   dl_find_object found;
@@ -98,7 +99,7 @@ template <class Clock> constexpr int number_of() {
          : std::is_same<Clock, std::chrono::system_clock>::value ? LFM_REALTIME : -1;
 }
 
-// How many nanoseconds a span has, at least. It is 0 if the span is not above 0, and at most 285 years.
+// A number of nanoseconds that is no less than the span: 0 if the span is not above 0, and at most 285 years.
 template <class Rep, class Period> uint64_t nanoseconds_of(const std::chrono::duration<Rep, Period> &span) {
   using namespace std::chrono;
   const double length = duration<double>(span).count();
@@ -131,20 +132,20 @@ inline lfm_status made(lfm_status status) {
   return status;
 }
 
-// Whether a try has gained the mutex, or an exception if it was refused for another cause than LFM_BUSY.
+// Whether a try acquired the mutex. Throws if it was refused for another cause than LFM_BUSY.
 inline bool has_gained(lfm_status status) { return status != LFM_BUSY && !lfm_is_refused(made(status)); }
 
-// A mutex that finds the seat of the calling thread by itself. A thread takes a seat at its first call and gives it back when
-// it ends, so as many threads may use it at a time as it has seats: more are refused as LFM_NO_SEAT.
+// A mutex that finds the seat of the calling thread by itself. A thread takes a seat by its first call and gives it back when
+// it ends. So a mutex of N seats serves N threads at a time. One thread more is refused as LFM_NO_SEAT.
 //
-// One of static storage is there before the program runs, and its destructor does nothing. So constructors and destructors of
-// globals may lock it, and so may threads that go on after main. Any other may end as soon as the calling thread has gained
-// it last and given it up. If it is held then, its memory is leaked. So is that of one that is made in static memory by the
-// program itself, as by a static std::optional, when it ends.
+// A mutex of static storage is initialized before the program runs, and its destructor does nothing. So constructors and
+// destructors of globals may lock it, and so may threads that go on after main. Any other mutex may be destroyed by the thread
+// that acquired it last, as soon as that thread has released it. If it is held then, its memory is leaked. The memory of a
+// mutex that the program constructs in static storage at run time, as by a static std::optional, is always leaked.
 class LFM_CAPABILITY recursive_mutex {
   lfm_mutex raw;
 
-  // Throws LFM_LIMIT, which doesn't compile if the initializer has to be constant.
+  // Throws LFM_LIMIT. If the initializer has to be constant, that doesn't compile.
   static constexpr uint32_t checked(uint64_t seats) {
     return seats - 1 < LFM_MOST_SEATS ? static_cast<uint32_t>(seats) : (refuse(LFM_LIMIT), 0);
   }
@@ -169,19 +170,19 @@ public:
     lfm_seat *seat = lfm_seat_here(&raw, &cause);
     return seat ? seat : (refuse(cause), nullptr);
   }
-  // How often the calling thread holds.
+  // How often the calling thread holds the mutex.
   uint64_t depth() noexcept { return lfm_depth_here(&raw); }
-  // Gives the calling thread's seat back before the thread ends, so that another thread can take it. A thread that has none gives
-  // none back. A later call of the thread takes a seat anew. Throws LFM_HOLDING if the thread holds.
+  // Gives the calling thread's seat back before the thread ends, so that another thread can take it. A thread that has none
+  // gives none back. A later call of the thread takes a seat anew. Throws LFM_HOLDING if the thread holds.
   void give_seat() {
     const lfm_status status = lfm_seat_give_here(&raw);
     if (status != LFM_BLANK) made(status);
   }
   // Throws as lfm_lock_here refuses.
   void lock() LFM_CALL(acquire_capability()) { made(lfm_lock_here(&raw)); }
-  // The same, but queues at once.
+  // Locks, but queues at once.
   void lock_in_order() LFM_CALL(acquire_capability()) { made(lfm_lock_in_order_here(&raw)); }
-  // False if at some moment of the call another thread held the mutex, asked for it or was giving it up. Otherwise throws as
+  // False if at some moment of the call another thread held the mutex, asked for it or was releasing it. Otherwise throws as
   // lfm_try_lock_here refuses.
   LFM_MUST_USE bool try_lock() LFM_CALL(try_acquire_capability(true)) { return has_gained(lfm_try_lock_here(&raw)); }
   // Locks as lock does, but at most until the time is over. It queues, so other threads that queue don't keep it from its turn.
@@ -206,7 +207,7 @@ public:
 
 using recursive_timed_mutex = recursive_mutex;
 
-// Holds a mutex as long as it lives, as std::lock_guard does, and clang's -Wthread-safety understands it.
+// As std::lock_guard, but clang's -Wthread-safety understands it.
 class LFM_TELLS_CLANG(scoped_lockable) guard {
   recursive_mutex &of;
 
@@ -217,9 +218,10 @@ public:
 };
 
 // A condition variable for any mutex. A wait returns only after a notify or when its time is over, but another thread may hold
-// the mutex in between: wait in a loop that tests what is waited for. Only a wait until a time on a clock of the program's own
-// may return early. It may end once all that wait are notified, though they have not returned, and no other notify is under
-// way. In static memory its destructor does nothing: no other is made there before they have returned.
+// the mutex in between: wait in a loop that tests the condition. Only a wait until a time on a clock that the program defines
+// may return early. The condition variable may be destroyed once all waiting threads are notified, even if they have not
+// returned, if no other notify is under way. In static storage its destructor does nothing, so none is constructed in its place
+// before they have returned.
 class condition_variable {
   using unique_lock = std::unique_lock<recursive_mutex>;
   lfm_condvar raw{};
@@ -256,7 +258,7 @@ public:
     const timespec at = timespec_of(time);
     const int clock = number_of<Clock>();
     if (clock >= 0) return told(lfm_wait_until_here(&raw, mutex_of(lock), clock, &at));
-    wait_for(lock, time - Clock::now()); // not in a loop: a notify may come between two waits
+    wait_for(lock, time - Clock::now()); // not in a loop, which could miss a notify between two waits
     return Clock::now() < time ? std::cv_status::no_timeout : std::cv_status::timeout;
   }
 
@@ -273,12 +275,12 @@ public:
     return true;
   }
 
-  // Wakes the thread that has waited longest, or all that wait.
+  // Wakes the thread that has waited longest, or all waiting threads.
   void notify_one() noexcept { lfm_wake_one(&raw); }
   void notify_all() noexcept { lfm_wake_all(&raw); }
 };
 
-// A mutex whose seats are taken in hand, and all end before it.
+// A mutex whose threads keep their seats themselves. All of its seats are destroyed before it.
 class mutex {
   lfm_mutex raw{};
 
@@ -292,8 +294,8 @@ public:
   lfm_mutex *native_handle() noexcept { return &raw; }
 };
 
-// A seat of a mutex, for one thread at a time. It ends while it doesn't hold: one that holds is not given back, and nobody else
-// gains the mutex any more. One that was moved from is no seat: its calls are refused as LFM_BLANK.
+// A seat of a mutex, for one thread at a time. It is destroyed while it doesn't hold. A seat that holds is leaked, and no other
+// seat acquires the mutex any more. The calls of an object that was moved from are refused as LFM_BLANK.
 class seat {
   struct gives_back {
     void operator()(lfm_seat *seat) const noexcept {
@@ -306,9 +308,9 @@ class seat {
 public:
   // Throws as lfm_seat_take refuses.
   explicit seat(mutex &of) { made(lfm_seat_take(of.native_handle(), raw.get())); }
-  // The seat for calls of ligdrosa.h. It stays where it is when the object is moved.
+  // The seat for calls of ligdrosa.h. It is not moved with the object.
   lfm_seat *native_handle() noexcept { return raw.get(); }
-  // The seat's number, 1 and on; how often it holds; and how many takes it has left.
+  // The seat's number, from 1 on; how often it holds; and how many takes it has left.
   uint64_t number() noexcept { return lfm_number(raw.get()); }
   uint64_t depth() noexcept { return lfm_depth(raw.get()); }
   uint64_t left() noexcept { return lfm_left(raw.get()); }
@@ -323,9 +325,9 @@ public:
   explicit seat_lock(lfm_seat &taken) noexcept : of(&taken) {}
   // Throws as lfm_lock refuses.
   void lock() { made(lfm_lock(of)); }
-  // The same, but queues at once.
+  // Locks, but queues at once.
   void lock_in_order() { made(lfm_lock_in_order(of)); }
-  // False if at some moment of the call another seat held the mutex, asked for it or was giving it up. Otherwise throws as
+  // False if at some moment of the call another seat held the mutex, asked for it or was releasing it. Otherwise throws as
   // lfm_try_lock refuses.
   LFM_MUST_USE bool try_lock() { return has_gained(lfm_try_lock(of)); }
   // Throws as lfm_unlock refuses.

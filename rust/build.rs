@@ -1,12 +1,12 @@
-//! Links libligdrosa.a, and links it anew if it has changed. It lies in the folder that LIGDROSA_OUT names, or in out/, where
-//! scripts/build_c makes it, or where pkg-config finds the library.
+//! Links libligdrosa.a, and links it again if it has changed. It is taken from the folder that LIGDROSA_OUT names, or else from
+//! out/ of the repository, where scripts/build_c makes it, or else from where pkg-config finds the library.
 use std::{
     env,
     path::{Path, PathBuf},
     process::{exit, Command},
 };
 
-/// Whether the library lies in this folder.
+/// Whether the library is in this folder.
 fn has_library(folder: &Path) -> bool {
     folder.join("libligdrosa.a").exists()
 }
@@ -19,7 +19,7 @@ fn installed() -> Option<PathBuf> {
     has_library(&folder).then_some(folder)
 }
 
-/// Tells cargo what to link, and when to do so anew.
+/// Prints for cargo what to link, and what to watch for changes.
 fn main() {
     let here = env::current_dir().unwrap_or_default();
     let built = here.join(env::var_os("LIGDROSA_OUT").unwrap_or("../out".into()));
@@ -39,7 +39,7 @@ fn main() {
             "cargo:warning=LIGDROSA_OUT has no libligdrosa.a, so that of pkg-config is linked"
         );
     }
-    // not of one that is not there: cargo would compile all anew each time
+    // a file that doesn't exist is not watched: cargo would compile everything each time
     println!("cargo:rerun-if-changed={}/libligdrosa.a", folder.display());
     println!("cargo:rustc-link-search=native={}", folder.display());
     println!("cargo:rustc-link-lib=static=ligdrosa");

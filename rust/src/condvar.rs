@@ -5,7 +5,7 @@ use std::{
     time::{Duration, Instant},
 };
 
-/// A condition variable, for any mutex. It may be a static.
+/// A condition variable for any mutex. It may be a static.
 ///
 /// ```
 /// use ligdrosa::{Condvar, Mutex};
@@ -28,12 +28,12 @@ use std::{
 /// # assert_eq!(take(), Ok(Some(7)));
 /// ```
 ///
-/// There is no wake without a call of `notify_one` or `notify_all`, but another thread may hold the mutex in between: wait in a
-/// loop that tests what is waited for, as `wait_while` does.
+/// A wait returns only after a call of `notify_one` or `notify_all`, or when its time is over. But another thread may hold the
+/// mutex in between, so wait in a loop that tests the condition, as `wait_while` does.
 #[derive(Default)]
 pub struct Condvar(RawCondvar);
 
-/// Whether a wait ended since its time was over.
+/// Whether a wait ended because its time was over.
 #[derive(Clone, Copy, Debug, PartialEq, Eq, Hash)]
 pub struct WaitTimeoutResult(bool);
 
@@ -45,18 +45,18 @@ impl WaitTimeoutResult {
 }
 
 impl Condvar {
-    /// A condition variable at which nobody waits.
+    /// A condition variable at which no thread waits.
     pub const fn new() -> Condvar {
         Condvar(RawCondvar::new())
     }
 
-    /// Gives the mutex up, waits until a wake, and gains the mutex again as `lock`, for one take. Refused: `Nested` if the
-    /// seat holds more than once, `Spent`.
+    /// Releases the mutex, waits until a wake, and acquires the mutex again as `lock`, for one take. Refused: `Nested` if the
+    /// seat holds more than once, and `Spent`.
     pub fn wait<T: ?Sized, By: Lock>(&self, guard: &mut Guard<'_, T, By>) -> Result<(), Refusal> {
         made(guard.by.wait(&self.0)).map(|_| ())
     }
 
-    /// Waits until the function says that there is nothing to wait for. Refused: as `wait`.
+    /// Waits until the function is false. Refused: as `wait`.
     pub fn wait_while<T: ?Sized, By: Lock>(
         &self,
         guard: &mut Guard<'_, T, By>,
@@ -68,7 +68,7 @@ impl Condvar {
         Ok(())
     }
 
-    /// Waits as `wait`, until the time is over at most. Then it gains the mutex again all the same, however long that takes.
+    /// Waits as `wait`, at most until the time is over. Then it acquires the mutex again too, however long that takes.
     pub fn wait_timeout<T: ?Sized, By: Lock>(
         &self,
         guard: &mut Guard<'_, T, By>,
@@ -78,7 +78,7 @@ impl Condvar {
         Ok(WaitTimeoutResult(status == TIMED_OUT))
     }
 
-    /// Waits as `wait_while`, until the time is over at most. It has timed out if there is still something to wait for.
+    /// Waits as `wait_while`, at most until the time is over. It has timed out if the function is still true then.
     pub fn wait_timeout_while<T: ?Sized, By: Lock>(
         &self,
         guard: &mut Guard<'_, T, By>,
@@ -96,20 +96,20 @@ impl Condvar {
     }
 
     /// Wakes the thread that has waited longest, and returns whether one waited. The caller may hold the mutex or not. A thread
-    /// that gains the mutex after a wait has given it up finds that wait. If nobody waits, a wake is one load.
+    /// that acquires the mutex after a wait has released it finds that wait. If no thread waits, a wake is one load.
     #[inline]
     pub fn notify_one(&self) -> bool {
         lfm_wake_one(&self.0) == DONE
     }
 
-    /// Wakes all threads that wait now, and returns whether any did.
+    /// Wakes all threads that wait now, and returns whether there was one.
     #[inline]
     pub fn notify_all(&self) -> bool {
         lfm_wake_all(&self.0) == DONE
     }
 
-    /// The same as `notify_one`, by a holder. The thread is woken when the holder gives the mutex up, so it doesn't find the
-    /// mutex held. `notify_one` does so too if the caller holds by a [`Mutex`](crate::Mutex), but it can't know of a
+    /// Wakes as `notify_one`, by a holder. The thread is woken when the holder releases the mutex, so it doesn't find the mutex
+    /// held. `notify_one` does the same if the caller holds by a [`Mutex`](crate::Mutex), but it can't find a
     /// [`Seat`](crate::Seat) in hand.
     pub fn notify_one_by<T: ?Sized, By: Lock>(&self, holder: &mut Guard<'_, T, By>) -> bool {
         let status = match holder.by.in_hand() {
@@ -119,23 +119,24 @@ impl Condvar {
         status == DONE
     }
 
-    /// Forgets the threads that wait, in a forked child, which doesn't have them. It is called before any other call of this
-    /// condition variable in the child, unless no other thread of the parent can have waited or been in a call of it.
-    ///
-    /// # Safety
-    ///
-    /// The process is a forked child, and in it no thread waits or makes another call of this condition variable meanwhile.
-    pub unsafe fn after_fork(&self) {
-        self.0.clear();
-    }
-
-    /// The same as `notify_all` by a holder.
+    /// Wakes as `notify_all`, by a holder.
     pub fn notify_all_by<T: ?Sized, By: Lock>(&self, holder: &mut Guard<'_, T, By>) -> bool {
         let status = match holder.by.in_hand() {
             Some(seat) => lfm_wake_all_by(&self.0, seat),
             None => lfm_wake_all(&self.0),
         };
         status == DONE
+    }
+
+    /// In a forked child, forgets the threads of the parent that wait, which the child doesn't have. A child calls this before
+    /// any other call of this condition variable if other threads of the parent may have waited or been in a call of it.
+    ///
+    /// # Safety
+    ///
+    /// The process is a forked child. In it no thread waits at this condition variable, and none makes another call of it
+    /// meanwhile.
+    pub unsafe fn after_fork(&self) {
+        self.0.clear();
     }
 }
 

@@ -1,9 +1,11 @@
-//! A recursive mutex round a value, and a condition variable, over Ligdrosa's library for C. What that library proves, and what
-//! it only tests, include/ligdrosa.h says. This crate adds guards.
+//! A recursive mutex that guards a value, and a condition variable, over Ligdrosa's library for C. Its header `ligdrosa.h`
+//! states what of the library is proved and what is only tested. This crate adds guards, and is only tested.
 //!
-//! `scripts/build_c` makes the library, for Linux. It is linked from the folder that `LIGDROSA_OUT` names, or from `out/`
-//! beside this crate, or from where pkg-config finds it. A [`Mutex`] is shared by reference, and finds the calling thread's
-//! seat by itself. Or each thread has a [`Seat`] in hand:
+//! The library is for Linux. It is linked from the folder that `LIGDROSA_OUT` names, or else from the folder in which the
+//! repository builds it, or else from where pkg-config finds it.
+//!
+//! A thread uses a mutex through a seat. A [`Mutex`] is shared by reference, and finds the calling thread's seat by itself. Or
+//! each thread has a [`Seat`] in hand:
 //!
 //! ```
 //! let seats = ligdrosa::mutex(2, 1_000, 0u64)?;

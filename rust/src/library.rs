@@ -1,4 +1,4 @@
-//! The calls of include/ligdrosa.h, and what they tell.
+//! The calls of ligdrosa.h, and what they answer.
 use std::{
     cell::UnsafeCell,
     ffi::{c_char, c_int, CStr},
@@ -7,25 +7,25 @@ use std::{
     time::Duration,
 };
 
-// scripts/write_c_sides writes the numbers from here
+// a script writes the numbers from here
 /// The version of the header.
 pub const VERSION: u32 = 100;
-/// How many seats a mutex has if nothing else is said.
+/// How many seats a mutex has if the program gives no number.
 pub const USUAL_SEATS: u32 = 64;
 pub const DONE: u32 = 0;
 pub const AGAIN: u32 = 1;
 pub const TIMED_OUT: u32 = 7;
-/// The first of the statuses that tell why a call was refused.
+/// The first of the statuses that give the cause of a refusal.
 pub const BLANK: u32 = 16;
 pub const FOREIGN: u32 = 23;
 
-/// Why a call was refused. A refused call has changed nothing.
+/// Why a call was refused. A refused call has changed nothing, unless its text names an effect.
 #[derive(Clone, Copy, Debug, PartialEq, Eq, Hash)]
 #[non_exhaustive]
 pub enum Refusal {
     /// Not 1 to 4,095 seats, or not 1 to 2^36 takes for each.
     Limit = 18,
-    /// Memory was refused to the library. If it is refused to this crate, the program ends, as elsewhere in Rust.
+    /// Memory was refused to the library. If memory is refused to this crate, the program ends, as elsewhere in Rust.
     NoMemory = 19,
     /// All seats of the mutex are taken.
     NoSeat = 20,
@@ -33,22 +33,22 @@ pub enum Refusal {
     Holding = 22,
     /// The library is of another version than this crate.
     OtherHeader = 24,
-    /// The seat holds more than once, and a wait gives up one hold alone.
+    /// The seat holds more than once, and a wait releases only one hold.
     Nested = 34,
     /// The seat holds 65,535 times already.
     DepthFull = 35,
     /// The seat has no take left, and no seat that has some is free, or memory for it was refused.
     Spent = 36,
-    /// At some moment of the call another seat held the mutex, asked for it or was giving it up. A call with a time limit was
-    /// busy until its time was over.
+    /// At some moment of the call another seat held the mutex, asked for it or was releasing it. For a call with a time limit,
+    /// the time is over.
     Busy = 39,
-    /// A status that no call of this crate is refused by.
+    /// A status by which the library refuses no call of this crate.
     Other = 255,
 }
 // to here
 
 impl Refusal {
-    /// Those that have a status.
+    /// The refusals that have a status.
     const ALL: [Refusal; 9] = {
         use Refusal::*;
         [
@@ -64,7 +64,7 @@ impl Refusal {
         ]
     };
 
-    /// The refusal that a status tells.
+    /// The refusal of this status.
     #[cold]
     #[inline(never)]
     fn of(status: u32) -> Refusal {
@@ -76,7 +76,7 @@ impl Refusal {
 
 impl fmt::Display for Refusal {
     fn fmt(&self, f: &mut fmt::Formatter<'_>) -> fmt::Result {
-        // SAFETY: the library has a text for each number. It ends with a zero, and is never changed.
+        // SAFETY: the library has a text for each number, which ends with a zero and never changes.
         let text = unsafe { CStr::from_ptr(lfm_status_text(*self as u32)) };
         f.pad(&text.to_string_lossy())
     }
@@ -94,7 +94,7 @@ pub fn made(status: u32) -> Result<u32, Refusal> {
     }
 }
 
-/// An lfm_mutex. The library refers to its core alone, so it may be moved between calls.
+/// An lfm_mutex. The library keeps references only to its core, so it may be moved between calls.
 #[repr(C)]
 pub struct RawMutex {
     core: AtomicPtr<u8>,
@@ -103,7 +103,7 @@ pub struct RawMutex {
 }
 
 impl RawMutex {
-    /// As LFM_MUTEX_INIT_WITH.
+    /// The value of LFM_MUTEX_INIT_WITH.
     pub const fn with_seats(seats: u32) -> RawMutex {
         RawMutex {
             core: AtomicPtr::new(ptr::null_mut()),
@@ -113,7 +113,7 @@ impl RawMutex {
     }
 }
 
-/// An lfm_seat. It isn't `Sync`, and a guard that threads share makes no call by it, so it is in one call at a time.
+/// An lfm_seat. It isn't `Sync`, and a shared guard makes no call with it. So it is in one call at a time.
 #[derive(Default)]
 #[repr(C, align(16))]
 pub struct RawSeat(UnsafeCell<[[u64; 16]; 2]>);
@@ -124,7 +124,7 @@ pub struct RawSeat(UnsafeCell<[[u64; 16]; 2]>);
 pub struct RawCondvar([AtomicU64; 4]);
 
 impl RawCondvar {
-    /// One at which no thread waits.
+    /// A condition variable at which no thread waits.
     pub const fn new() -> RawCondvar {
         RawCondvar([const { AtomicU64::new(0) }; 4])
     }
@@ -137,7 +137,7 @@ impl RawCondvar {
     }
 }
 
-// SAFETY: so the header declares them. Those that aren't `safe` ask for more than that their references are right: a mutex is
+// SAFETY: the header declares them with these types. Those that aren't `safe` require more than valid references: a mutex is
 // opened, closed and made new while no other call of it is made, and a seat that was taken is not moved until it is given back.
 unsafe extern "C" {
     safe fn lfm_status_text(status: u32) -> *const c_char;
@@ -156,23 +156,23 @@ unsafe extern "C" {
     pub safe fn lfm_wake_all_by(condvar: &RawCondvar, seat: &RawSeat) -> u32;
 }
 
-/// As many nanoseconds, or as many as the library can be told: more than 500 years.
+/// The time in nanoseconds, or the most that the library takes, which is more than 500 years.
 pub fn nanoseconds(time: Duration) -> u64 {
     u64::try_from(time.as_nanos()).unwrap_or(u64::MAX)
 }
 
-/// Declares calls that the library has in two forms: by a seat in hand, and by the seat that the calling thread has of a mutex.
-/// Each is a method of both. What stands in brackets C passes before the seat or mutex.
+/// Declares calls that the library has in two forms: with a seat in hand, and with the calling thread's seat of a mutex. Each
+/// is a method of both. C passes the argument in brackets before the seat or mutex.
 macro_rules! calls {
     ($(fn $name:ident $([$first:ident: $of:ty])? (self $(, $last:ident: $kind:ty)?) -> $told:ty
         = $in_hand:ident, $here:ident;)*) => {
-        // SAFETY: so the header declares them.
+        // SAFETY: the header declares them with these types.
         unsafe extern "C" {
             $(safe fn $in_hand($($first: $of,)? seat: &RawSeat $(, $last: $kind)?) -> $told;
             safe fn $here($($first: $of,)? mutex: &RawMutex $(, $last: $kind)?) -> $told;)*
         }
 
-        /// What a guard locks by: a seat in hand, or a mutex for the seat that the calling thread has of it.
+        /// What a guard locks with: a seat in hand, or a mutex, which stands for the calling thread's seat of it.
         pub trait Lock {
             /// The seat in hand.
             fn in_hand(&self) -> Option<&RawSeat> {

@@ -1,4 +1,4 @@
-//! A mutex round a value, and the guards by which it is held.
+//! A mutex that guards a value, and the guards of its holds.
 use crate::library::*;
 use std::{
     cell::UnsafeCell,
@@ -7,7 +7,7 @@ use std::{
     time::{Duration, Instant},
 };
 
-/// A mutex round a value, shared by reference. It may be a static:
+/// A mutex that guards a value, shared by reference. It may be a static:
 ///
 /// ```
 /// use ligdrosa::Mutex;
@@ -22,9 +22,9 @@ use std::{
 /// # assert_eq!(count(), Ok(1));
 /// ```
 ///
-/// Its first lock opens it, which takes memory. Each thread takes a seat of it by its first call, which takes memory too, and
-/// gives the seat back when it ends, unless it holds then. So as many threads may use it at a time as it has seats: one more is
-/// refused as [`NoSeat`](Refusal::NoSeat).
+/// Its first lock opens it, which takes memory. A thread takes a seat by its first call of the mutex, which takes memory too,
+/// and gives the seat back when it ends, unless it holds then. So a mutex of N seats serves N threads at a time. One thread
+/// more is refused as [`NoSeat`](Refusal::NoSeat).
 ///
 /// A thread that holds locks once more by its guard, with [`Guard::again`]: the guard of the deeper hold borrows the first. Any
 /// other [`lock`](Mutex::lock) or try by that thread is refused as [`Holding`](Refusal::Holding). A guard gives `&mut T`, so a
@@ -34,18 +34,18 @@ pub struct Mutex<T: ?Sized> {
     pub(crate) value: UnsafeCell<T>,
 }
 
-/// The library's mutex, which is closed at its end. If it is held then, since a guard was forgotten, the library keeps its
-/// memory.
+/// The library's mutex, which is closed when it is dropped. If it is held then, since a guard was forgotten, its memory is
+/// leaked.
 pub(crate) struct Closing(pub RawMutex);
 
 impl Drop for Closing {
     fn drop(&mut self) {
-        // SAFETY: nobody else refers to it, so there is no other call.
+        // SAFETY: there is no other reference to it, so there is no other call.
         unsafe { lfm_mutex_close(&self.0) };
     }
 }
 
-// SAFETY: the value is reached by the seat that holds the mutex, and one does so at a time, or by whoever owns the mutex alone.
+// SAFETY: the value is reached through the seat that holds the mutex, of which there is one, or through `&mut` of the mutex.
 unsafe impl<T: ?Sized + Send> Sync for Mutex<T> {}
 
 /// A guard of a [`Mutex`]. It stays with its thread:
@@ -63,7 +63,7 @@ impl<T> Mutex<T> {
         Mutex::with_seats(USUAL_SEATS, value)
     }
 
-    /// The same with this many seats, 1 to 4,095. Otherwise its calls are refused as [`Limit`](Refusal::Limit).
+    /// A mutex with this many seats, 1 to 4,095. With another number its calls are refused as [`Limit`](Refusal::Limit).
     pub const fn with_seats(seats: u32, value: T) -> Mutex<T> {
         Mutex {
             raw: Closing(RawMutex::with_seats(seats)),
@@ -71,24 +71,24 @@ impl<T> Mutex<T> {
         }
     }
 
-    /// The value.
+    /// Returns the value.
     pub fn into_inner(self) -> T {
         self.value.into_inner()
     }
 }
 
 impl<T: ?Sized> Mutex<T> {
-    /// The value, without a lock: nobody else refers to the mutex.
+    /// The value, without a lock: there is no other reference to the mutex.
     pub fn get_mut(&mut self) -> &mut T {
         self.value.get_mut()
     }
 
-    /// How many takes the seats had left, each when it was last taken or given back: an upper bound.
+    /// An upper bound of the takes that are left: what each seat had left when it was last taken or given back.
     pub fn takes_left(&self) -> u64 {
         lfm_takes_left(&self.raw.0)
     }
 
-    /// A guard of the calling thread, if it didn't hold before the call that has this status.
+    /// The guard of a call with this status, if the thread didn't hold before the call.
     #[inline]
     fn guard(&self, status: u32) -> Result<MutexGuard<'_, T>, Refusal> {
         if status == AGAIN {
@@ -98,35 +98,36 @@ impl<T: ?Sized> Mutex<T> {
         Guard::of(status, &self.raw.0, self)
     }
 
-    /// Gains the mutex, for one take. It first tries a bounded number of times, between pauses and naps, and so may come before
-    /// threads that came earlier. Then it queues and sleeps, and from there on no thread that queues later is served before it.
+    /// Acquires the mutex, for one take. It first tries a bounded number of times, between pauses and naps, and so may acquire
+    /// before threads that called earlier. Then it queues and sleeps, and no thread that queues later is served before it.
     /// Refused: `Holding`, or `DepthFull` if the thread holds 65,535 times, and `Spent`. The first call of a thread is also
-    /// refused as `NoSeat`, `NoMemory`, `Limit`, `OtherHeader`.
+    /// refused as `NoSeat`, `NoMemory`, `Limit` and `OtherHeader`.
     #[inline]
     pub fn lock(&self) -> Result<MutexGuard<'_, T>, Refusal> {
         self.guard(self.raw.0.lock())
     }
 
-    /// The same, but queues at once.
+    /// Locks as [`lock`](Mutex::lock), but queues at once.
     #[inline]
     pub fn lock_in_order(&self) -> Result<MutexGuard<'_, T>, Refusal> {
         self.guard(self.raw.0.lock_in_order())
     }
 
-    /// Gains the mutex without a sleep, perhaps before seats that are queued. Refused: as `lock`, and `Busy`.
+    /// Acquires the mutex without a sleep, perhaps before seats that are queued. Refused: as `lock`, and `Busy`.
     #[inline]
     pub fn try_lock(&self) -> Result<MutexGuard<'_, T>, Refusal> {
         self.guard(self.raw.0.try_lock())
     }
 
     /// Locks as [`lock`](Mutex::lock) does, but at most until the time is over. It queues, so other threads that queue don't
-    /// keep it from its turn. If it is refused, the thread may still be queued: its next lock waits from the same place, and
-    /// until then [`try_lock`](Mutex::try_lock) is busy.
+    /// keep it from its turn. Refused: as `lock`, and `Busy`. After `Busy` the thread may still be queued, and the take is
+    /// used: its next lock waits from the same place, for no other take, and until then [`try_lock`](Mutex::try_lock) is
+    /// `Busy`.
     pub fn try_lock_for(&self, time: Duration) -> Result<MutexGuard<'_, T>, Refusal> {
         self.guard(self.raw.0.try_lock_for(nanoseconds(time)))
     }
 
-    /// The same until this moment.
+    /// Locks as `try_lock_for`, at most until this moment.
     pub fn try_lock_until(&self, end: Instant) -> Result<MutexGuard<'_, T>, Refusal> {
         self.try_lock_for(end.saturating_duration_since(Instant::now()))
     }
@@ -140,30 +141,32 @@ impl<T: ?Sized> Mutex<T> {
         }
     }
 
-    /// Makes the mutex new in a forked child, if no thread held it when the parent forked, or if the thread that forked held it
-    /// and finds its seat by itself. That thread holds it as often as before, and its guards stay good. A holder by a
-    /// [`Seat`](crate::Seat) calls [`Guard::after_fork`] instead. In the process that opened the mutex the call does nothing.
+    /// In a forked child, makes the mutex new if no thread held it when the parent forked, or if the thread that forked held it
+    /// by a seat that it found by itself. That thread holds it as often as before, and its guards stay valid. If it held by a
+    /// [`Seat`](crate::Seat), it calls [`Guard::after_fork`] instead. In the process that opened the mutex the call does
+    /// nothing.
     ///
-    /// Refused: `NoMemory`, and `Busy` if another thread held the mutex, asked for it or was giving it up when the parent
+    /// Refused: `NoMemory`, and `Busy` if another thread held the mutex, asked for it or was releasing it when the parent
     /// forked, or if all seats were taken and the calling thread has none.
     ///
     /// # Safety
     ///
-    /// - In the child no call of the mutex was made before, except of the `after_fork` functions, and no other is made meanwhile.
-    /// - If this succeeds, each seat in hand and each guard of one is used no more, or only after its own `after_fork` has
-    ///   succeeded. They may be dropped, except for guards.
-    /// - The child has another process id than the process that opened the mutex. It may have the same in another namespace of
-    ///   ids.
+    /// - The child has made no call of the mutex before, except of the `after_fork` functions, and makes no other call
+    ///   meanwhile.
+    /// - After this has succeeded, the child calls a seat in hand, or a guard of one, only after their own `after_fork` has
+    ///   succeeded. Without it a seat may be dropped, and a guard may not.
+    /// - The child has another process id than the process that opened the mutex. In another namespace of process ids it may
+    ///   have the same.
     pub unsafe fn after_fork(&self) -> Result<(), Refusal> {
         // SAFETY: the caller promises it.
         made(unsafe { lfm_after_fork(&self.raw.0, None) }).map(drop)
     }
 
-    /// Gives up a hold of the calling thread whose guard was forgotten.
+    /// Releases a hold of the calling thread whose guard was forgotten.
     ///
     /// # Safety
     ///
-    /// There is such a hold, and nobody uses a reference to the value that was got by its guard.
+    /// There is such a hold, and no reference to the value that its guard gave is still used.
     #[inline]
     pub unsafe fn force_unlock(&self) {
         self.raw.0.unlock();
@@ -182,7 +185,7 @@ impl<T> From<T> for Mutex<T> {
     }
 }
 
-/// Shows the value, if a try gains the mutex.
+/// Shows the value, if a try acquires the mutex.
 impl<T: ?Sized + fmt::Debug> fmt::Debug for Mutex<T> {
     fn fmt(&self, f: &mut fmt::Formatter<'_>) -> fmt::Result {
         let mut shown = f.debug_struct("Mutex");
@@ -194,8 +197,9 @@ impl<T: ?Sized + fmt::Debug> fmt::Debug for Mutex<T> {
     }
 }
 
-/// While it lives, its seat holds the mutex. Dropped, it gives one hold up, even if a panic drops it: the next seat finds the
-/// value as the panic left it, and nothing tells of that. The compiler warns of one that is dropped at once:
+/// While a guard lives, its seat holds the mutex. When it is dropped, it releases one hold, also if a panic drops it: then the
+/// next holder finds the value as the panic left it, and there is no poisoning. The compiler warns of a guard that is dropped
+/// at once:
 ///
 /// ```compile_fail
 /// #![deny(unused_must_use)]
@@ -203,20 +207,20 @@ impl<T: ?Sized + fmt::Debug> fmt::Debug for Mutex<T> {
 /// mutex.lock().unwrap();
 /// ```
 ///
-/// `By` is left out for a guard of a [`Seat`](crate::Seat). For one of a [`Mutex`] there is [`MutexGuard`].
-#[must_use = "a guard that is dropped at once gives its hold up"]
+/// `Guard<T>` is the guard of a [`Seat`](crate::Seat), and [`MutexGuard`] that of a [`Mutex`].
+#[must_use = "a guard that is dropped at once releases its hold"]
 pub struct Guard<'a, T: ?Sized, By: Lock = RawSeat> {
     pub(crate) by: &'a By,
     mutex: &'a Mutex<T>,
 }
 
-// SAFETY: a shared guard gives `&T` alone, and makes no call.
+// SAFETY: a shared guard gives only `&T`, and makes no call.
 unsafe impl<T: ?Sized + Sync, By: Lock> Sync for Guard<'_, T, By> {}
-// SAFETY: another thread may go on with a seat in hand, and reach the value by it.
+// SAFETY: a seat in hand may go on in another thread, which then reaches the value by it.
 unsafe impl<T: ?Sized + Send> Send for Guard<'_, T, RawSeat> {}
 
 impl<'a, T: ?Sized, By: Lock> Guard<'a, T, By> {
-    /// The guard that a call with this status gains.
+    /// The guard of a call with this status, or why the call was refused.
     #[inline]
     pub(crate) fn of(
         status: u32,
@@ -226,19 +230,19 @@ impl<'a, T: ?Sized, By: Lock> Guard<'a, T, By> {
         made(status).map(|_| Guard { by, mutex })
     }
 
-    /// Deepens the hold, and costs no take. Refused: `DepthFull`.
+    /// Deepens the hold, for no take. Refused: `DepthFull`.
     #[inline]
     pub fn again(&mut self) -> Result<Guard<'_, T, By>, Refusal> {
         Guard::of(self.by.lock(), self.by, self.mutex)
     }
 
-    /// How often the seat holds.
+    /// How often the seat holds the mutex.
     pub fn depth(&mut self) -> u64 {
         self.by.depth()
     }
 
-    /// Makes the mutex new in a forked child, and the guard's seat holds it as often as before. So the guard stays good, and so
-    /// do those that it borrows. Refused: `NoMemory`.
+    /// In a forked child, makes the mutex new. The guard's seat holds it as often as before, so this guard and the guards that
+    /// it borrows stay valid. Refused: `NoMemory`.
     ///
     /// # Safety
     ///
@@ -261,7 +265,7 @@ impl<T: ?Sized, By: Lock> Deref for Guard<'_, T, By> {
 
     #[inline]
     fn deref(&self) -> &T {
-        // SAFETY: the seat holds the mutex while the guard lives, so no other reaches the value.
+        // SAFETY: the seat holds the mutex while the guard lives, so no other seat reaches the value.
         unsafe { &*self.mutex.value.get() }
     }
 }

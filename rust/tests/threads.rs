@@ -100,6 +100,22 @@ fn a_thread_has_one_guard_of_a_mutex() {
     assert_eq!(*mutex.lock().unwrap(), 8);
 }
 
+/// Its place in the queue is passed by, and then another thread can take it.
+#[test]
+fn a_queued_seat_is_dropped() {
+    let mut seats = mutex(2, 9, ()).unwrap();
+    let mutex = seats[0].mutex().clone();
+    let mut second = seats.pop().unwrap();
+    let guard = seats[0].lock().unwrap();
+    assert_eq!(second.try_lock_for(A_WHILE).err(), Some(Refusal::Busy));
+    drop(second);
+    assert_eq!(mutex.seat().err(), Some(Refusal::NoSeat));
+    drop(guard);
+    let mut second = mutex.seat().unwrap();
+    assert_eq!(second.lock().unwrap().depth(), 1);
+    assert_eq!((seats[0].left(), second.left()), (8, 7));
+}
+
 /// The mutex has one seat, which two threads use in turn.
 #[test]
 fn a_living_thread_gives_its_seat_back() {

@@ -220,8 +220,8 @@ public:
 // A condition variable for any mutex. A wait returns only after a notify or when its time is over, but another thread may hold
 // the mutex in between: wait in a loop that tests the condition. Only a wait until a time on a clock that the program defines
 // may return early. The condition variable may be destroyed once all waiting threads are notified, even if they have not
-// returned, if no other notify is under way. In static storage its destructor does nothing, so none is constructed in its place
-// before they have returned.
+// returned, if no other notify is under way. In static storage its destructor does nothing, so no other may be constructed in
+// its place before they have returned.
 class condition_variable {
   using unique_lock = std::unique_lock<recursive_mutex>;
   lfm_condvar raw{};

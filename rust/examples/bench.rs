@@ -18,7 +18,7 @@ use std::{mem::ManuallyDrop, ops::Deref};
 
 const PLACES: usize = 16;
 
-/// What the mutexes guard. It is boxed, so that it is elsewhere than the mutex, as in C and C++.
+/// What the mutexes guard. It is boxed, so that it lies outside the mutex, as in C and C++.
 #[derive(Default)]
 struct State {
     total: u64,
@@ -32,7 +32,7 @@ struct State {
 
 /// A mutex and its condition variables.
 trait Kind {
-    /// What one thread locks the mutex by.
+    /// What one thread locks the mutex with.
     type Own: Send;
     type Held<'a>: DerefMut<Target = Box<State>>;
     type Condition: Default + Sync;
@@ -140,7 +140,7 @@ impl Kind for Std {
 #[cfg(parking_lot)]
 struct ParkingLot<const FAIR: bool>;
 
-/// Its guard, which ends with either unlock.
+/// Its guard, which is dropped by either kind of unlock.
 #[cfg(parking_lot)]
 struct ParkingLotGuard<'a, const FAIR: bool>(ManuallyDrop<parking_lot::MutexGuard<'a, Box<State>>>);
 
@@ -202,7 +202,7 @@ impl<const FAIR: bool> Kind for ParkingLot<FAIR> {
     }
 }
 
-/// Turns of a loop, which take time and nothing else. They take as long wherever they are called.
+/// Turns of a loop that only take time, and take as long from each place that calls them.
 #[inline(never)]
 fn turn(count: u64) {
     for turn in 0..count {
@@ -221,7 +221,7 @@ fn turns_of(nanoseconds: u64) -> u64 {
     nanoseconds * TURNS / (0..2_000).map(took).min().unwrap_or(1).max(1)
 }
 
-/// The processor time of the calling thread, in nanoseconds, which nobody else adds to.
+/// The processor time of the calling thread, in nanoseconds, to which no other thread adds.
 fn own_time() -> u64 {
     const CLOCK_THREAD_CPUTIME_ID: i32 = 3;
     extern "C" {
@@ -234,14 +234,14 @@ fn own_time() -> u64 {
     seconds * 1_000_000_000 + nanoseconds
 }
 
-/// What the function takes of the calling thread's processor time, for each of this many.
+/// The processor time that the function takes of the calling thread, divided by this number.
 fn own_time_of(count: usize, work: impl FnOnce()) -> [f64; 1] {
     let begun = own_time();
     work();
     [(own_time() - begun) as f64 / count as f64]
 }
 
-/// The nanoseconds for each of this many.
+/// The nanoseconds divided by this number.
 fn each(begun: Instant, count: usize) -> f64 {
     begun.elapsed().as_nanos() as f64 / count as f64
 }
@@ -284,7 +284,7 @@ fn among<K: Kind>(count: usize) -> [f64; 1] {
             .wrapping_add(1);
         order.swap(at, (random >> 33) as usize % (at + 1));
     }
-    // the first time round opens them
+    // the first round opens them
     let mut lock = |at: usize| drop(K::lock(&mut owns[order[at % count]]));
     (0..count).for_each(&mut lock);
     own_time_of(PAIRS, || (0..PAIRS).for_each(lock))

@@ -1,5 +1,5 @@
-//! A bounded queue between threads, as one writes it with the standard library: a mutex, two condition variables, and a wait
-//! with a time limit. examples/c and examples/cpp have the same program.
+//! A bounded queue between threads, in the form that it has with the standard library: a mutex, two condition variables, and a
+//! wait with a time limit. examples/c and examples/cpp have the same program.
 use ligdrosa::{Condvar, Mutex, Refusal};
 use std::{collections::VecDeque, thread, time::Duration};
 
@@ -47,7 +47,7 @@ impl Queue {
         Ok(())
     }
 
-    /// Tells the consumers that no number will be put in any more.
+    /// Closes the queue: no number is put in any more.
     fn close(&self) -> Result<(), Refusal> {
         self.state.lock()?.is_closed = true;
         self.not_empty.notify_all();
@@ -77,7 +77,7 @@ fn produce() -> Result<(), Refusal> {
     (1..=NUMBERS_OF_EACH).try_for_each(|number| QUEUE.put(number))
 }
 
-/// The sum of what it takes. If nothing comes for some time, it only tries again.
+/// The sum of what it takes. If no number comes for some time, it tries again.
 fn consume() -> Result<u64, Refusal> {
     let mut sum = 0;
     loop {

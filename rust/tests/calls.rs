@@ -1,5 +1,5 @@
-//! How this crate uses the library's calls. The test program defines them itself, and so links no library: it sees which calls
-//! are made, and gives answers that the library seldom gives. Each test has a thread of its own.
+//! How this crate uses the library's calls. The test program defines them itself, so it links no library. It sees which calls
+//! are made, and gives answers that the library seldom gives. The harness runs each test in a thread of its own.
 use ligdrosa::{mutex, Condvar, Mutex, Refusal, Seat};
 use std::{
     alloc::{GlobalAlloc, Layout, System},
@@ -10,7 +10,7 @@ use std::{
 };
 
 thread_local! {
-    /// The call that answers otherwise than with 0, and its answer.
+    /// The call whose answer is not 0, and that answer.
     static UNUSUAL: Cell<(&'static str, u64)> = const { Cell::new(("", 0)) };
     /// The calls that were made, each with its arguments.
     static MADE: RefCell<Vec<(&'static str, Vec<usize>)>> = const { RefCell::new(Vec::new()) };
@@ -24,10 +24,10 @@ struct Counted;
 #[global_allocator]
 static ALLOCATOR: Counted = Counted;
 
-// SAFETY: the system's allocator does it.
+// SAFETY: the system's allocator does the work.
 unsafe impl GlobalAlloc for Counted {
     unsafe fn alloc(&self, layout: Layout) -> *mut u8 {
-        // SAFETY: the caller promises it.
+        // SAFETY: the caller promises what it requires.
         unsafe { System.alloc(layout) }
     }
 
@@ -35,12 +35,12 @@ unsafe impl GlobalAlloc for Counted {
         if (layout.size(), layout.align()) == (256, 16) {
             FREED.set(FREED.get() + 1);
         }
-        // SAFETY: the caller promises it.
+        // SAFETY: the caller promises what it requires.
         unsafe { System.dealloc(block, layout) }
     }
 }
 
-// scripts/write_c_sides writes the numbers from here
+// a script writes the numbers from here
 const AGAIN: u64 = 1;
 const POSTED: u64 = 4;
 const NOBODY: u64 = 6;
@@ -60,7 +60,7 @@ const SPENT: u64 = 36;
 const BUSY: u64 = 39;
 // to here
 
-/// Defines these calls. What they are given is put into words of 64 bits, as the processor passes it.
+/// Defines these calls. Each argument is a word of 64 bits, as the processor passes it.
 macro_rules! calls {
     ($($name:ident($($argument:ident)*))*) => {
         $(#[no_mangle]
@@ -163,7 +163,7 @@ fn a_call_that_is_refused_gives_no_guard() {
     assert_eq!([Refusal::Busy, Refusal::Spent].map(text), ["busy", "other"]);
 }
 
-/// A thread that held before gets no second guard by the mutex.
+/// A thread that holds already gets no second guard from the mutex.
 #[test]
 fn a_second_lock_is_given_up() {
     let mutex = Mutex::new(());
@@ -208,7 +208,7 @@ fn each_call_of_a_seat() {
     }
 }
 
-/// The library may rely on it that a seat does not move, from the call that takes it to the one that gives it back.
+/// A seat is not moved between the call that takes it and the call that gives it back.
 #[test]
 fn seats_lie_still() {
     let mut seats = mutex(1, 1, ()).unwrap();
@@ -256,13 +256,13 @@ fn the_seat_of_a_living_thread() {
     }
 }
 
-/// A seat is passed by its holder, and one that another call has left behind is taken anew.
+/// A guard passes its seat. A seat of which the library says that it is no longer the mutex's is taken anew.
 #[test]
 fn after_a_fork() {
     let mutex = Arc::new(Mutex::new(()));
     let mut seat = mutex.seat().unwrap();
     let place = last_of("lfm_seat_take");
-    // SAFETY: the library does nothing.
+    // SAFETY: this test's library does nothing.
     unsafe {
         mutex.after_fork().unwrap();
         mutex.lock().unwrap().after_fork().unwrap();
@@ -287,7 +287,7 @@ fn after_a_fork() {
     }
 }
 
-/// A mutex ends with the last that refers to it, also if a seat holds and is not given back.
+/// The mutex is closed when the last reference is dropped, even if a seat holds and is not given back.
 #[test]
 fn a_mutex_is_closed_once() {
     let mutex = Arc::new(Mutex::new(()));
@@ -341,7 +341,7 @@ fn what_waits_and_wakes_tell() {
     }
 }
 
-/// The library finds the seat of a thread that holds by a mutex, but not one in hand.
+/// The library finds the seat of a thread that holds by a mutex, but it doesn't find a seat in hand.
 #[test]
 fn wakes_by_a_holder() {
     let (mutex, condvar) = (Arc::new(Mutex::new(())), Condvar::new());

@@ -8,7 +8,7 @@ use std::{
     thread,
 };
 
-// SAFETY: so the C library has them.
+// SAFETY: the C library has them with these types.
 unsafe extern "C" {
     fn fork() -> c_int;
     safe fn alarm(seconds: c_uint) -> c_uint;
@@ -16,9 +16,9 @@ unsafe extern "C" {
     fn waitpid(child: c_int, status: *mut c_int, options: c_int) -> c_int;
 }
 
-/// Runs this in a forked child, where it must not panic. A child that hangs is ended by its alarm.
+/// Runs this in a forked child and expects that it doesn't panic. An alarm ends a child that hangs.
 fn in_child(act: impl FnOnce()) {
-    // SAFETY: the child makes no calls of std that wait for threads of the parent.
+    // SAFETY: the child calls nothing that waits for threads of the parent: it uses no lock that they may have held.
     let child = unsafe { fork() };
     if child == 0 {
         alarm(20);
@@ -26,7 +26,7 @@ fn in_child(act: impl FnOnce()) {
         _exit(c_int::from(result.is_err()));
     }
     let mut status = -1;
-    // SAFETY: the status is a word.
+    // SAFETY: the status is an int.
     assert_eq!(unsafe { waitpid(child, &mut status, 0) }, child);
     assert_eq!(status, 0, "how the child ends");
 }
@@ -40,7 +40,7 @@ fn add_in_threads(value: &Mutex<u64>) {
     });
 }
 
-/// The thread that forks holds twice, and another waits.
+/// The thread that forks holds twice, and another thread waits.
 #[test]
 fn the_thread_that_forks_holds() {
     static VALUE: Mutex<u64> = Mutex::with_seats(4, 7);
@@ -59,7 +59,7 @@ fn the_thread_that_forks_holds() {
         // SAFETY: the child has made no calls yet, and has one thread. It holds once more than it has guards.
         unsafe {
             VALUE.after_fork().unwrap();
-            guard.after_fork().unwrap(); // a second time changes nothing
+            guard.after_fork().unwrap(); // a second call changes nothing
             FILLED.after_fork();
             assert_eq!((guard.depth(), *guard), (2, 8));
             VALUE.force_unlock();
@@ -123,7 +123,7 @@ fn a_seat_that_holds() {
     });
 }
 
-/// While another thread holds, the child can't use the mutex. Afterwards a child can, though it never called it.
+/// A child that is forked while another thread holds can't use the mutex. A later child can, by a thread that has no seat.
 #[test]
 fn another_thread_holds() {
     let mutex = Arc::new(Mutex::new(7));

@@ -1,5 +1,5 @@
-//! How long it takes to make a mutex: programs make many. To count the processors std reads files, which takes longer than all
-//! else, so this crate doesn't ask it. The test program defines the call by which std opens files: it counts them, and fails.
+//! How long it takes to make a mutex. std opens files to count the processors, which would take longer than everything else, so
+//! this crate must not count them by std. The test program defines the call by which std opens a file: it counts, and fails.
 use ligdrosa::{mutex, Condvar};
 use std::{
     cell::Cell,

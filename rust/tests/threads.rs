@@ -1,8 +1,8 @@
-//! Threads count together, and pass numbers through a buffer, each once. What is refused, and what a guard, a time limit and a
-//! panic do.
+//! Threads count together, and pass numbers through a buffer, each once. Other tests are of refusals, guards, time limits and
+//! panics.
 //!
-//! The library tells ThreadSanitizer what locks order. So under it only races of std are reported, which isn't built for it: in
-//! the test harness, and where threads end or an `Arc` is dropped last.
+//! The library announces to ThreadSanitizer what locks order. So the only races that it reports here are in std, which isn't
+//! compiled for it: in the test harness, at the end of threads, and at the last drop of an `Arc`.
 //!
 //! ```text
 //! RUSTFLAGS='-Zsanitizer=thread -Cunsafe-allow-abi-mismatch=sanitizer' \
@@ -37,7 +37,7 @@ fn threads_count_together() {
     }
 }
 
-/// Three times as many threads as there are seats, but no more at a time.
+/// There are three times as many threads as seats, but at each moment only as many as seats.
 #[test]
 fn threads_count_by_a_static() {
     static COUNT: Mutex<u64> = Mutex::with_seats(8, 0);
@@ -100,7 +100,7 @@ fn a_thread_has_one_guard_of_a_mutex() {
     assert_eq!(*mutex.lock().unwrap(), 8);
 }
 
-/// Its place in the queue is passed by, and then another thread can take it.
+/// The seat's place in the queue is passed by, and then the seat can be taken anew.
 #[test]
 fn a_queued_seat_is_dropped() {
     let mut seats = mutex(2, 9, ()).unwrap();
@@ -165,7 +165,7 @@ fn a_forgotten_guard_holds_on() {
     let mutex = Mutex::new(());
     mem::forget(mutex.lock().unwrap());
     assert_eq!(mutex.lock().err(), Some(Refusal::Holding));
-    // SAFETY: the guard was forgotten.
+    // SAFETY: a guard was forgotten, and no reference to the value is used.
     unsafe { mutex.force_unlock() };
     assert_eq!(mutex.lock().err(), None);
 }

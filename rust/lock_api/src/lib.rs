@@ -1,5 +1,5 @@
-//! Ligdrosa's mutex by the traits of lock_api, for programs that are written for any mutex. It is a crate of its own, since
-//! cargo refuses to build a crate for which it doesn't find lock_api, even if it isn't needed.
+//! Ligdrosa's mutex with the traits of lock_api, for programs that are generic over mutexes. It is a separate crate, since
+//! cargo builds no crate whose dependency it doesn't find, even if that is optional.
 //!
 //! ```
 //! static COUNT: ligdrosa_lock_api::ReentrantMutex<std::cell::Cell<u64>> =
@@ -21,16 +21,16 @@ use std::{
     time::{Duration, Instant},
 };
 
-/// A [`ligdrosa::Mutex`] without a value, whose guards are forgotten. Its calls panic if they are refused, except for tries of a
-/// mutex that is busy or that the thread holds. So does a lock by a thread that holds.
+/// A [`ligdrosa::Mutex`] without a value, whose guards are forgotten. A call that is refused panics, except a try of a mutex
+/// that is busy or that the thread holds. A lock by a thread that holds panics too.
 pub struct RawMutex(ligdrosa::Mutex<()>);
 
-/// A mutex, as that of parking_lot.
+/// A mutex like parking_lot's.
 pub type Mutex<T> = lock_api::Mutex<RawMutex, T>;
 /// A mutex that a thread may lock again while it holds, and whose guards give `&T`.
 pub type ReentrantMutex<T> = lock_api::ReentrantMutex<RawMutex, ThreadId, T>;
 
-/// Whether a call has gained the mutex.
+/// Whether a call acquired the mutex.
 fn has_gained(call: Result<ligdrosa::MutexGuard<'_, ()>, Refusal>) -> bool {
     match call.map(mem::forget) {
         Ok(()) => true,
@@ -42,7 +42,7 @@ fn has_gained(call: Result<ligdrosa::MutexGuard<'_, ()>, Refusal>) -> bool {
 // SAFETY: a ligdrosa mutex has one holder at a time, and its guards stay with their threads.
 unsafe impl lock_api::RawMutex for RawMutex {
     type GuardMarker = GuardNoSend;
-    #[allow(clippy::declare_interior_mutable_const)] // each use is another mutex, as lock_api asks
+    #[allow(clippy::declare_interior_mutable_const)] // each use is another mutex, as lock_api requires
     const INIT: RawMutex = RawMutex(ligdrosa::Mutex::new(()));
 
     fn lock(&self) {
@@ -76,16 +76,16 @@ unsafe impl RawMutexTimed for RawMutex {
     }
 }
 
-/// Tells threads apart by the places of a variable that each has.
+/// Distinguishes threads by the addresses of a thread-local variable.
 pub struct ThreadId;
 
-// SAFETY: two variables that live lie in different places, none of which is 0.
+// SAFETY: the variables of two living threads have different addresses, and none is 0.
 unsafe impl GetThreadId for ThreadId {
     const INIT: ThreadId = ThreadId;
 
     fn nonzero_thread_id(&self) -> NonZeroUsize {
         thread_local!(static OWN: u8 = const { 0 });
         OWN.with(|own| NonZeroUsize::new(ptr::from_ref(own) as usize))
-            .expect("a place")
+            .expect("an address")
     }
 }

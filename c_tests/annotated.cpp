@@ -1,5 +1,5 @@
-// clang's -Wthread-safety understands the mutex and the guard: it has no warning of this file, and with IS_WRONG it warns of a
-// read without the mutex. It is compiled alone.
+// clang's -Wthread-safety understands the mutex and the guard: it warns of nothing in this file, and with IS_WRONG of a read
+// without the mutex. The file is only compiled.
 #include "ligdrosa.hpp"
 
 class counter {

@@ -1,10 +1,10 @@
-// Times Ligdrosa's mutex and condition variable from C and C++, beside pthread's recursive mutex and std::recursive_mutex, all
-// in one process and in turn, so that other load on the machine meets all alike: bench [ROUNDS [MILLISECONDS]]. A line is
+// Times Ligdrosa's mutex and condition variable from C and C++, and pthread's recursive mutex and std::recursive_mutex, in one
+// process and in turn, so that other load on the machine affects them equally: bench [ROUNDS [MILLISECONDS]]. A line is
 //
 //     ROW|LOCK|MEDIAN|LEAST|GREATEST
 //
 // of the rounds: nanoseconds for a lock and an unlock, a round trip, a broadcast or a number through a queue. Rows that end in
-// `most over fewest` say how many times as often the thread that gained the mutex most did so as the one that did so least.
+// `most over fewest` are the most acquisitions of a thread, divided by the fewest of a thread.
 // rust/examples/bench.rs has the same rows. The last rows are what a mutex costs by its number of seats: nanoseconds to open
 // and to close it, and bytes.
 #include <malloc.h>
@@ -39,14 +39,14 @@ static uint64_t now() {
   return uint64_t(std::chrono::duration_cast<std::chrono::nanoseconds>(time).count());
 }
 
-// The processor time of the calling thread, which nobody else adds to.
+// The processor time of the calling thread, to which no other thread adds.
 static uint64_t own_time() {
   struct timespec time;
   clock_gettime(CLOCK_THREAD_CPUTIME_ID, &time);
   return uint64_t(time.tv_sec) * 1000000000 + uint64_t(time.tv_nsec);
 }
 
-// Turns of a loop, which take time and nothing else. They take as long wherever they are called.
+// Turns of a loop that only take time, and take as long from each place that calls them.
 [[gnu::noinline]] static void turn(uint64_t count) {
   for (uint64_t i = 0; i < count; i++) __asm__ volatile("" ::: "memory");
 }
@@ -74,7 +74,7 @@ template <class Lock> static double alone(Lock &lock) {
   return double(own_time() - begun) / pairs;
 }
 
-// The thread holds already, and does so all the while.
+// The thread holds already, all the time.
 template <class Lock> static double deeper(Lock &lock) {
   lock.lock(0);
   double nanoseconds = alone(lock);
@@ -105,7 +105,7 @@ template <class Lock> static double among(size_t count) {
   std::iota(order.begin(), order.end(), size_t(0));
   std::shuffle(order.begin(), order.end(), std::mt19937(1));
   uint64_t begun = 0;
-  // the first time round opens them
+  // the first round opens them
   for (int i = -int(count); i < pairs; i++) {
     if (i == 0) begun = own_time();
     auto &lock = locks[order[(size_t(i) + count) % count]];
@@ -181,7 +181,7 @@ template <class Lock> static double ping_pong(Lock &lock) {
   return nanoseconds / trips;
 }
 
-// One thread wakes this many that wait, again and again: the time from the wake until each of them has held the mutex.
+// One thread repeatedly wakes this many that wait: the time from the wake until each of them has held the mutex.
 template <class Lock> static double broadcast(Lock &lock, int waiters) {
   const int times = 50;
   typename Lock::Condition go, all_wait;
@@ -296,7 +296,7 @@ static void tell_conditions() {
          [=](auto &lock) { return Figures{queue(lock, pairs)}; });
 }
 
-// What was given by malloc and the like.
+// The memory that malloc and the other functions of the C library gave.
 static size_t bytes_given() {
   struct mallinfo2 given = mallinfo2();
   return given.uordblks + given.hblkhd;
@@ -336,7 +336,7 @@ static void tell_costs() {
 int main(int argc, char **argv) {
   if (argc > 1) rounds = std::atoi(argv[1]);
   if (argc > 2) milliseconds = std::atoi(argv[2]);
-  // a second thread has run, so that the C library makes real atomic steps
+  // a second thread runs first: before that the C library makes no atomic steps
   std::thread([] {}).join();
   tell_one_thread();
   tell_threads();

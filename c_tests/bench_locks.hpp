@@ -1,5 +1,5 @@
-// The mutexes that bench.cpp measures, in one form. A thread says its number, 0 and on, with each call. Each mutex has its kind of
-// condition variable, and its form for one thread alone.
+// The mutexes that bench.cpp measures, with one interface. A thread passes its number, from 0 on, with each call. Each mutex
+// has its kind of condition variable, and its form for one thread alone.
 #pragma once
 #include <pthread.h>
 
@@ -39,7 +39,7 @@ template <int SEATS> struct InHandOf {
   };
   using OfOneThread = InHandOf<1>;
 };
-// Its threads are at most this many.
+// The most threads that it has.
 using InHand = InHandOf<33>;
 
 // ligdrosa.h, with seats that find themselves.

@@ -1,5 +1,5 @@
-// A program of two files, one compiled with exceptions and one without. In the first a refused call throws, and in the second it
-// ends the program. Both call by a template of the standard library too. This file is compiled to both.
+// A program of two files, one compiled with exceptions and one without. In the first a refused call throws, and in the second
+// it ends the program. Both also call through a template of the standard library. This file is compiled to both.
 #include <sys/wait.h>
 #include <unistd.h>
 
@@ -10,7 +10,7 @@ void is_refused_without_exceptions();
 void is_refused_without_exceptions_in_a_template();
 void lock_without_exceptions(lfm_mutex *mutex);
 
-// Its second take is refused.
+// The second lock is refused.
 static void lock_twice() {
   lfm::recursive_mutex mutex(1, 1);
   mutex.lock();
@@ -37,7 +37,7 @@ template <class Call> static lfm_status refusal_of(Call call) {
   return LFM_DONE;
 }
 
-// How a child ends that makes this call.
+// The signal that ends a child which makes this call, or 0.
 static int signal_of(void (*call)()) {
   const pid_t child = fork();
   if (child == 0) {

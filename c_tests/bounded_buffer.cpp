@@ -1,5 +1,5 @@
 // A producer and two consumers at a buffer, with lfm::condition_variable and with std::condition_variable_any: each number
-// comes out once. And a lock of two mutexes at a time.
+// comes out once. And std::lock of two mutexes.
 #include <deque>
 #include <thread>
 #include <vector>

@@ -1,7 +1,7 @@
-// What ends early or late: a condition variable that ends while waits of it are about to return, and objects that lock when
-// they end, after the seats of their thread were given back.
+// Destructors that come early or late: that of a condition variable while its waits are about to return, and those of objects
+// that lock after the seats of their thread were given back.
 //
-// The test wraps the system's calls, to stop a thread whose wait is over until another has woken it.
+// The test wraps the system's calls, to stop a thread whose wait is over until another thread has woken it.
 #include <errno.h>
 #include <stdarg.h>
 #include <sys/syscall.h>
@@ -38,7 +38,7 @@ long __wrap_syscall(long number, ...) {
 }
 }
 
-// The waiters need the mutex to return, and the thread that ends the condition variable holds it.
+// The waiters need the mutex to return, and the thread that destroys the condition variable holds it.
 static void a_condition_variable_that_ends_early() {
   const int WAITERS = 3;
   lfm::recursive_mutex mutex;
@@ -64,7 +64,8 @@ static void a_condition_variable_that_ends_early() {
   for (std::thread &waiter : waiters) waiter.join();
 }
 
-// The time of the wait is over, but it is woken before it has left the list. The end of the condition variable waits for that.
+// The time of the wait is over, but it is woken before it has left the list. The destructor of the condition variable waits
+// until it has.
 static void a_condition_variable_with_times_that_ends_early() {
   lfm::recursive_mutex mutex;
   std::unique_ptr<lfm::condition_variable> filled(new lfm::condition_variable());
@@ -98,11 +99,11 @@ struct locks_at_its_end {
   }
 };
 
-// It ends with the program, when the first thread's objects have ended.
+// It is destroyed at the end of the program, after the first thread's objects.
 static locks_at_its_end at_exit;
 
-// Objects that are made before a thread takes its seat, and those that keep data for a thread in pthread's way, end late. Each
-// of many threads finds a seat.
+// Objects that are made before a thread takes its seat are destroyed late, and so is thread-specific data of pthread. Each of
+// many threads finds a seat.
 static void objects_that_end_late() {
   const int THREADS = 10;
   pthread_key_t key;
@@ -119,7 +120,7 @@ static void objects_that_end_late() {
   EXPECT(ended, 2 * THREADS);
 }
 
-// A hold that ends late.
+// A hold that is released late.
 static void a_hold_that_ends_late() {
   for (int i = 0; i < 10; i++)
     std::thread([] {

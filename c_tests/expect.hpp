@@ -1,4 +1,4 @@
-// A wanted answer: a test ends with status 1 at its first wrong one.
+// Compares an answer with the expected one. A test ends with status 1 at its first wrong answer.
 #pragma once
 #include <cstdio>
 #include <cstdlib>

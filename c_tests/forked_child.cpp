@@ -1,7 +1,9 @@
-// A child that is forked while other threads take seats ends at once. Its one thread has seats of the same mutexes, and ends
-// mutexes. If it gave them back, or closed them, it would wait for the other threads, which the child doesn't have.
+// A child that is forked while other threads take seats ends at once. Its one thread has seats of the same mutexes, and
+// destroys mutexes. If it gave the seats back, or closed the mutexes, it would wait for the other threads, which the child
+// doesn't have.
 //
-// The test wraps the take of the library: once the first thread has its seats, a take stops until the child has ended.
+// The test wraps the library's call that takes a seat: once the first thread has its seats, a call stops until the child has
+// ended.
 #include <signal.h>
 #include <sys/wait.h>
 #include <unistd.h>
@@ -29,7 +31,7 @@ uint64_t __wrap_lfm_c_take_seat(void *mutex, void *seat) {
 }
 }
 
-// How the child ends, or -1 if it doesn't within 20 seconds: it is killed then.
+// The status with which the child ends, or -1 if it doesn't end within 20 seconds and is killed.
 static int end_of(pid_t child) {
   int status = -1;
   for (int i = 0; i < 2000; i++) {

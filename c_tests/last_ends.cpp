@@ -1,5 +1,5 @@
-// Whoever gains a mutex last ends it at once, though the unlock of the thread before it may not have returned. And the memory
-// of such mutexes goes back, once the threads that used them take other seats or end.
+// The thread that acquires a mutex last destroys it at once, though the unlock of the thread before it may not have returned.
+// And the memory of such mutexes is freed, once the threads that used them take other seats or end.
 //
 // The test wraps the calls of the library that open and close a mutex, to count those that are open.
 #include <atomic>
@@ -28,7 +28,7 @@ uint64_t __wrap_lfm_c_close(void *mutex) {
 }
 }
 
-// An object that its users end together: the last that gives it up.
+// An object with a count of its users. The last user destroys it.
 struct shared {
   lfm::recursive_mutex mutex{4};
   lfm::condition_variable is_left{};
@@ -46,7 +46,7 @@ static void give_up(shared *object) {
   if (is_last) delete object;
 }
 
-// The owner ends the object as soon as all others have left it.
+// The owner destroys the object as soon as all others have left it.
 static void wait_and_end(shared *object) {
   {
     std::unique_lock<lfm::recursive_mutex> lock(object->mutex);

@@ -1,5 +1,5 @@
-// One thread locks thousands of mutexes. A first lock of one takes about as long among 4,000 that live as among 100, and so do
-// later locks. And the memory of mutexes that another thread ended is given back while the thread goes on.
+// One thread locks thousands of mutexes. A first lock of a mutex takes about as long among 4,000 of them as among 100, and so
+// do later locks. And the memory of mutexes that another thread destroyed is freed while the thread goes on.
 //
 // The test wraps the calls of the library that open and close a mutex, to count those that are open.
 #include <time.h>
@@ -38,14 +38,14 @@ static void lock_and_unlock(lfm::recursive_mutex &mutex) {
   mutex.unlock();
 }
 
-// For how many nanoseconds this thread has run.
+// The processor time of this thread, in nanoseconds.
 static double run_time() {
   timespec time;
   clock_gettime(CLOCK_THREAD_CPUTIME_ID, &time);
   return double(time.tv_sec) * 1e9 + double(time.tv_nsec);
 }
 
-// How long a lock and an unlock of FEW mutexes from this one on take, each, the shortest of some times.
+// How long a lock and an unlock take, on average over FEW mutexes from this one on: the least of some measurements.
 static double locks(std::vector<lfm::recursive_mutex> &all, size_t begin, int times) {
   double least = 1e30;
   for (int i = 0; i < times; i++) {
@@ -69,7 +69,7 @@ static void mutexes_that_live() {
   EXPECT(locks(all, MANY - FEW, 20) < 10 * later_among_few, true);
 }
 
-// Another thread ends each mutex that this one has locked.
+// Another thread destroys each mutex that this one has locked.
 static void mutexes_that_end() {
   const size_t before = open_mutexes;
   size_t most = 0;

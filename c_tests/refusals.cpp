@@ -1,5 +1,5 @@
-// Which calls are refused, and that a refusal is an error of the standard library. And seats: those in hand, those of more
-// threads than a mutex has seats, and those of a mutex that ends before the threads that used it.
+// Which calls are refused, and that a refusal is an error of the standard library. And seats: seats in hand, more threads than
+// a mutex has seats, and a mutex that is destroyed before the threads that used it end.
 #include <atomic>
 #include <thread>
 #include <vector>

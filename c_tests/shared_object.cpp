@@ -1,5 +1,5 @@
-// A program and a shared object that hides its symbols each make a mutex, their first. A thread that has a seat of the
-// program's mutex and calls the other gains the other, and not the program's.
+// A program and a shared object that hides its symbols each make their first mutex. A thread that has a seat of the program's
+// mutex and locks the other acquires the other, and not the program's.
 //
 // This file is compiled twice: with IS_SHARED_OBJECT it makes the shared object.
 #include "ligdrosa.hpp"
@@ -19,7 +19,7 @@ lfm::recursive_mutex *mutex_of_shared_object() {
 
 #include "expect.hpp"
 
-// Whether another thread gains the mutex at once.
+// Whether another thread acquires the mutex at once.
 static bool is_free(lfm::recursive_mutex &mutex) {
   bool is_gained = false;
   std::thread([&] {

@@ -1,6 +1,6 @@
-// A mutex of static storage is there before the program's first constructor runs, and after its last destructor: the
+// A mutex of static storage can be locked before the program's first constructor runs and after its last destructor: the
 // constructor of another global locks it, and so do threads after main, for the first time or while the program ends. And
-// threads that come and go then give their seats back.
+// threads that start and end at that time give their seats back.
 #include <atomic>
 #include <cstdlib>
 #include <thread>
@@ -37,7 +37,7 @@ static void wait_for_locks(int more) {
 
 static struct first_of_all {
   first_of_all() { lock_all(); }
-  // All other globals have ended. The thread that main let go still locks.
+  // All other globals are destroyed. The thread that main has detached still locks.
   ~first_of_all() { wait_for_locks(10); }
 } first;
 

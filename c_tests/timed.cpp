@@ -1,5 +1,5 @@
-// Locks and waits with a time limit, on the system's clocks and on one of the program's own: none gives up before its time, the
-// longest times are no trouble, and no item is lost between waits that give up and wakes that come.
+// Locks and waits with a time limit, on the system's clocks and on one that the program defines: none returns before its time
+// is over, the longest times work, and no item is lost between waits whose time is over and wakes.
 #include <atomic>
 #include <deque>
 #include <limits>
@@ -16,7 +16,7 @@ using unique_lock = std::unique_lock<lfm::recursive_timed_mutex>;
 
 static const milliseconds SHORT(20);
 
-// It goes half as fast as the system's.
+// A clock that goes half as fast as the system's.
 struct slow_clock {
   using duration = std::chrono::duration<double, std::milli>;
   using rep = duration::rep;
@@ -40,7 +40,7 @@ static void locks_that_give_up() {
   lfm::recursive_timed_mutex mutex;
   unique_lock lock(mutex, SHORT);
   EXPECT(lock.owns_lock(), true);
-  EXPECT(mutex.try_lock_for(SHORT), true); // once more
+  EXPECT(mutex.try_lock_for(SHORT), true); // a second hold
   mutex.unlock();
   elsewhere([&] {
     lasts(SHORT, [&] { EXPECT(mutex.try_lock_for(SHORT), false); });
@@ -56,7 +56,7 @@ static void locks_that_give_up() {
   });
 }
 
-// Locks for the longest times there are, of a mutex that is given up meanwhile.
+// Locks with the longest times that there are, of a mutex that is released meanwhile.
 static void locks_that_gain() {
   lfm::recursive_timed_mutex mutex;
   std::atomic<int> waiting{0};
@@ -90,10 +90,10 @@ static void waits_that_end() {
   EXPECT(condition.wait_until(lock, system_clock::time_point::min()) == timeout, true);
   EXPECT(condition.wait_for(lock, hours::min()) == timeout, true);
   EXPECT(condition.wait_for(lock, SHORT, [] { return true; }), true);
-  EXPECT(mutex.depth(), 1u); // after each of these it holds
+  EXPECT(mutex.depth(), 1u); // after each of these waits the thread holds
 }
 
-// Waits for the longest times there are, which another thread ends.
+// Waits with the longest times that there are, which another thread ends.
 static void waits_that_are_woken() {
   lfm::recursive_timed_mutex mutex;
   lfm::condition_variable condition;
@@ -122,7 +122,7 @@ static void waits_that_are_woken() {
   waker.join();
 }
 
-// Two producers and two consumers, whose waits often end as they are woken: each item comes out once.
+// Two producers and two consumers. The times of their waits are often over as they are woken. Each item comes out once.
 static void items_between() {
   const int EACH = 5000;
   lfm::recursive_timed_mutex mutex;

@@ -1,4 +1,4 @@
-// Without exceptions and types at run time, a call that is refused ends the program with a text.
+// Without exceptions and run-time type information, a call that is refused ends the program with a text.
 #include <signal.h>
 #include <sys/wait.h>
 #include <unistd.h>
@@ -13,7 +13,7 @@
 #error "it is compiled with -fno-exceptions and -fno-rtti"
 #endif
 
-// What a child that makes this call writes. It has to end by an abort.
+// What a child writes that makes this call. It has to end by an abort.
 template <class Call> static std::string last_words(Call call) {
   int ends[2];
   EXPECT(pipe(ends), 0);
@@ -49,7 +49,7 @@ int main() {
     condition.wait(lock);
   }), text_of(LFM_NESTED));
   EXPECT(last_words([] { lfm::recursive_mutex too_many(4096); }), text_of(LFM_LIMIT));
-  // what is not refused works as ever
+  // a call that is not refused works as with exceptions
   int count = 0;
   auto add = [&] {
     for (int i = 0; i < 1000; i++) {

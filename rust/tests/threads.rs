@@ -107,7 +107,10 @@ fn a_queued_seat_is_dropped() {
     let mutex = seats[0].mutex().clone();
     let mut second = seats.pop().unwrap();
     let guard = seats[0].lock().unwrap();
-    assert_eq!(second.try_lock_for(A_WHILE).err(), Some(Refusal::Busy));
+    while second.left() == 9 {
+        // on a busy machine the time may be over before it queues, and then the call uses no take
+        assert_eq!(second.try_lock_for(A_WHILE).err(), Some(Refusal::Busy));
+    }
     drop(second);
     assert_eq!(mutex.seat().err(), Some(Refusal::NoSeat));
     drop(guard);

@@ -207,7 +207,8 @@ impl<T: ?Sized + fmt::Debug> fmt::Debug for Mutex<T> {
 /// mutex.lock().unwrap();
 /// ```
 ///
-/// `Guard<T>` is the guard of a [`Seat`](crate::Seat), and [`MutexGuard`] that of a [`Mutex`].
+/// `Guard<T>` is the guard of a [`Seat`](crate::Seat), and [`MutexGuard`] that of a [`Mutex`]. The trait `Lock` and the types that
+/// have it are private.
 #[must_use = "a guard that is dropped at once releases its hold"]
 pub struct Guard<'a, T: ?Sized, By: Lock = RawSeat> {
     pub(crate) by: &'a By,

@@ -1,5 +1,4 @@
 pub mod Ranges
-pub mod Parts
 pub mod Totals
 pub mod Tenths
 pub mod Broadcasts

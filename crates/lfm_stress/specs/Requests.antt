@@ -3,7 +3,7 @@ use Rattle.std.specs.Prelude.{◌≡◌, ℕ, List, Some, ⊤}
 use Rattle.lfm_text.specs.Text.{number_of}
 use Rattle.lfm_stress.specs.declared.arguments.Request.{Request}
 use Rattle.lfm_stress.specs.declared.arguments.Request.TheVariants.{Run, Refused, Other, Unread}
-use Rattle.lfm_stress.specs.declared.plan.Locking.{Locking}
+use Rattle.lfm_test_tools.specs.declared.locking.Locking.{Locking}
 use Rattle.lfm_stress.specs.Ranges.{refusal_of}
 
 -- this locking and these two words, the threads and the turns, may be asked so: the plan has the locking and their numbers, and a

@@ -1,7 +1,8 @@
 //! What the command line asks for.
 ghost use Rattle.lfm_stress.specs.Requests.{AsksFor};
 
-use crate::plan::{Load, Locking, OutOfRange, Plan};
+use crate::plan::{Load, OutOfRange, Plan};
+use lfm_test_tools::locking::Locking;
 use lfm_text::read_number;
 use std::env;
 use std::io::ErrorKind;

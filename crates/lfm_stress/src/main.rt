@@ -6,9 +6,7 @@
 
 mod arguments;
 mod commands;
-mod dealing;
 mod loads;
-mod parts;
 mod plan;
 mod progress;
 mod running;

@@ -3,6 +3,8 @@
 ghost use Rattle.std.specs.Prelude.{◌≡◌, ◌≤◌, IfOk, IfErr, None, Some};
 ghost use Rattle.lfm_stress.specs.Ranges.{most_threads, least_threads, most_turns, refusal_of, seats_of};
 
+use lfm_test_tools::locking::Locking;
+
 /// The fewest threads of a load that takes any number of them.
 pub const LEAST_THREADS: u64 = 1;
 
@@ -89,34 +91,6 @@ impl Load {
         match self {
             Load::Lock | Load::Mixed | Load::PingPong | Load::Broadcast => MOST_TURNS,
             Load::Buffer => MOST_ITEMS,
-        }
-    }
-}
-
-/// How the threads of a run come to hold the mutex or the monitor.
-#[derive(Clone, Copy, Debug, PartialEq, Eq)]
-pub enum Locking {
-    /// By `lock` and `enter`: a thread queues at once.
-    InOrder,
-    /// By `lock_barging` and `hold`: a thread tries for a bounded while before it queues.
-    Barging,
-}
-
-impl Locking {
-    /// The locking of this name. None if no locking has it.
-    pub fn named(name: &str) -> Option<Locking> {
-        match name {
-            "in_order" => Some(Locking::InOrder),
-            "barging" => Some(Locking::Barging),
-            _ => None,
-        }
-    }
-
-    /// The name.
-    pub fn name(self) -> &'static str {
-        match self {
-            Locking::InOrder => "in_order",
-            Locking::Barging => "barging",
         }
     }
 }

@@ -1,4 +1,3 @@
-pub mod Places
 pub mod Slots
 pub mod Ours
 pub mod Hands

@@ -6,8 +6,6 @@ mod begun_waits;
 #[cfg(test)]
 mod calls;
 #[cfg(test)]
-mod dealing;
-#[cfg(test)]
 mod driving;
 pub mod in_hand;
 #[cfg(test)]
@@ -17,18 +15,13 @@ mod many_waiters;
 #[cfg(test)]
 pub mod pairs;
 #[cfg(test)]
-mod parts;
-#[cfg(test)]
 mod past_the_condvar;
-pub mod places;
 #[cfg(test)]
 mod refusals;
 #[cfg(test)]
 mod refused_calls;
 #[cfg(test)]
 mod repeated_waits;
-#[cfg(test)]
-mod shared_calls;
 #[cfg(test)]
 mod steps;
 #[cfg(test)]

@@ -2,8 +2,6 @@
 //! Of the tests of the running mutex, `races`, `flags` and `many_seats` start none; others that start none are in `lfm_tests`.
 #![tactic(auto)]
 
-#[cfg(test)]
-mod adding;
 pub mod condvar;
 pub mod monitor;
 #[cfg(test)]

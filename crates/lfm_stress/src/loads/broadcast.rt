@@ -3,11 +3,11 @@
 //! which waits on the second condvar. That one adds 1 and wakes all, and each adds 1 again. So with n threads the number is
 //! t (2 n + 1) before turn t, n more once all have come, and 1 more once the broadcast is made.
 ghost use Rattle.std.specs.Prelude.{◌≡◌};
-ghost use Rattle.lfm_stress.specs.Parts.{OfShared};
+ghost use Rattle.lfm_test_tools.specs.Parts.{OfShared};
 ghost use Rattle.lfm_stress.specs.Broadcasts.{come, woken};
 
-use crate::parts::{Part, Shared, Side};
 use crate::progress::Tenth;
+use lfm_test_tools::two_condvars::parts::{Part, Shared, Side};
 use std::sync::Wait;
 
 /// The number once all of this number of threads have come to this turn.
@@ -46,7 +46,7 @@ fn broadcast<R: Wait>(rt: &R, shared: &Shared, tenth: Tenth, threads: u64, mut p
         shared.lock(rt, &mut part);
         if shared.wait_until(rt, &mut part, Side::Second, come(threads, turn)) {
             shared.add_one(&mut part);
-            shared.wake_all(rt, &mut part);
+            let _ = shared.wake_all(rt, &mut part);
         }
         shared.unlock(&mut part);
     }

@@ -4,13 +4,14 @@
 ghost use Rattle.std.specs.Prelude.{◌≡◌, ◌+◌, ◌*◌, ◌≤◌, All, IfOk};
 ghost use Rattle.lfm_monitor.specs.Belongs.{OfMonitor};
 
-use crate::plan::{Locking, Plan};
+use crate::plan::Plan;
 use crate::progress::{TENTHS, Tenth};
 use crate::sums::Sums;
 use lfm_buffer::{Buffer, BufferOp, BufferReply};
 use lfm_model::{Refusal, replay};
 use lfm_monitor::{CriticalSection, Monitor, Pass};
 use lfm_mutex::Pace;
+use lfm_test_tools::locking::Locking;
 use std::alloc::{AllocError, Global};
 use std::io;
 use std::sync::Wait;

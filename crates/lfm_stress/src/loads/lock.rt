@@ -1,8 +1,8 @@
 //! `lock`: in a turn a thread waits for the mutex, adds 1 to the number under it, and gives the mutex on.
-ghost use Rattle.lfm_stress.specs.Parts.{OfShared};
+ghost use Rattle.lfm_test_tools.specs.Parts.{OfShared};
 
-use crate::parts::{Part, Shared};
 use crate::progress::Tenth;
+use lfm_test_tools::two_condvars::parts::{Part, Shared};
 use std::sync::Wait;
 
 /// The turns of one thread in this tenth of a run.

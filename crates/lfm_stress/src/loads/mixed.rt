@@ -1,9 +1,9 @@
 //! `mixed`: in every other turn a thread tries to gain the mutex, and in the turns between it waits for it. If it gained the
 //! mutex, it adds 1 to the number under it, and gives the mutex on.
-ghost use Rattle.lfm_stress.specs.Parts.{OfShared};
+ghost use Rattle.lfm_test_tools.specs.Parts.{OfShared};
 
-use crate::parts::{Part, Shared};
 use crate::progress::Tenth;
+use lfm_test_tools::two_condvars::parts::{Part, Shared};
 use std::sync::Wait;
 
 /// Tries to gain the mutex in turns 0, 2, 4 and on, and waits for it in the others. Returns whether it was gained.

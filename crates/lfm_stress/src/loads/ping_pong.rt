@@ -1,10 +1,10 @@
 //! `ping_pong`: two threads take turns, each with a condvar of its own. In a turn a thread gains the mutex, waits until the
 //! other has had its turn, adds 1 to the number under the mutex, wakes the other, and unlocks. So before turn n of the first
 //! the number is 2 n, and before that of the second 2 n + 1.
-ghost use Rattle.lfm_stress.specs.Parts.{OfShared};
+ghost use Rattle.lfm_test_tools.specs.Parts.{OfShared};
 
-use crate::parts::{Part, Shared, Side};
 use crate::progress::Tenth;
+use lfm_test_tools::two_condvars::parts::{Part, Shared, Side};
 use std::sync::Wait;
 
 /// The turns of one thread in this tenth of a run. The thread with seat 1 begins.

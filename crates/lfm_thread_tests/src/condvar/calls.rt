@@ -74,23 +74,6 @@ pub fn wait<R: Wait>(
     condvar.wait(rt, cond, mutex, seat)
 }
 
-/// `wait_while`, while the number in hand is less than this.
-pub fn wait_while_less<R: Wait>(
-    rt: &R,
-    condvar: &Condvar,
-    cond: &mut CondSeat,
-    mutex: &Mutex<u64>,
-    seat: &mut Seat<u64>,
-    least: u64,
-) -> Result<(), Refusal>
-    requires seat { OfMutex seat.old mutex.now }
-    requires cond { OfCondvar cond.old condvar.now }
-    ensures seat { OfMutex seat.new mutex.now }
-    ensures cond { OfCondvar cond.new condvar.now }
-{
-    condvar.wait_while(rt, cond, mutex, seat, |number| *number < least)
-}
-
 /// `begin_wait`.
 pub fn begin_wait<R: Wait>(
     rt: &R,

@@ -1,12 +1,10 @@
 //! A wake of all: 32 threads wait on one condvar, and each is woken once, in the order of the tickets.
-ghost use Rattle.lfm_thread_tests.specs.Places.{OfShared};
+ghost use Rattle.lfm_test_tools.specs.Parts.{OfShared};
 
-use crate::adding::add_one;
-use crate::condvar::dealing::{Left, shared_by};
-use crate::condvar::parts::{Part, take_parts};
-use crate::condvar::places::{Place, Shared};
-use crate::condvar::shared_calls::Side;
 use crate::seeing::sees;
+use lfm_test_tools::two_condvars::dealing::{Left, shared_in_order};
+use lfm_test_tools::two_condvars::parts::{Part, Shared, Side};
+use lfm_test_tools::two_condvars::tasks::{Task, perform_all};
 use std::process::Abort;
 use std::sync::Wait;
 use std::test::Fail;
@@ -14,95 +12,95 @@ use std::test::Fail;
 const WAITERS: u64 = 32;
 
 /// Adds 1 to the number, and tells it on the second condvar if all have done so.
-fn come<R: Wait>(rt: &R, shared: &Shared, place: &mut Place)
-    requires { OfShared place.old shared.now }
-    ensures { OfShared place.new shared.now }
+fn come<R: Wait>(rt: &R, shared: &Shared, part: &mut Part)
+    requires { OfShared part.old shared.now }
+    ensures { OfShared part.new shared.now }
 {
-    if add_one(&mut place.seat) < WAITERS {
+    if shared.add_one(part) < WAITERS {
         return;
     }
-    let _ = shared.wake_one(rt, place, Side::Second);
+    shared.wake_one(rt, part, Side::Second);
 }
 
 /// Comes and waits on the first condvar, in one hold. Adds 1 to the number again once it was woken.
-fn wait_once<R: Wait>(rt: &R, shared: &Shared, mut place: Place) -> Place
-    requires { OfShared place shared.now }
+fn wait_once<R: Wait>(rt: &R, shared: &Shared, mut part: Part) -> Part
+    requires { OfShared part shared.now }
     ensures { OfShared result shared.now }
 {
-    let _ = shared.lock(rt, &mut place);
-    come(rt, shared, &mut place);
-    let _ = shared.wait(rt, &mut place, Side::First);
-    place.seen.number = add_one(&mut place.seat);
-    let _ = shared.unlock(&mut place);
-    place
+    shared.lock(rt, &mut part);
+    come(rt, shared, &mut part);
+    shared.wait(rt, &mut part, Side::First);
+    part.seen.number = shared.add_one(&mut part);
+    shared.unlock(&mut part);
+    part
 }
 
 /// Waits on the second condvar until all have come. The last tells it once, so one wait is enough.
-fn wait_for_all<R: Wait>(rt: &R, shared: &Shared, place: &mut Place)
-    requires { OfShared place.old shared.now }
-    ensures { OfShared place.new shared.now }
+fn wait_for_all<R: Wait>(rt: &R, shared: &Shared, part: &mut Part)
+    requires { OfShared part.old shared.now }
+    ensures { OfShared part.new shared.now }
 {
-    if place.number() >= WAITERS {
+    if part.number() >= WAITERS {
         return;
     }
-    let _ = shared.wait(rt, place, Side::Second);
+    shared.wait(rt, part, Side::Second);
 }
 
 /// Wakes all at once when all have come, while it holds the mutex; and again, when nobody waits.
-fn wake_twice<R: Wait>(rt: &R, shared: &Shared, mut place: Place) -> Place
-    requires { OfShared place shared.now }
+fn wake_twice<R: Wait>(rt: &R, shared: &Shared, mut part: Part) -> Part
+    requires { OfShared part shared.now }
     ensures { OfShared result shared.now }
 {
-    let _ = shared.lock(rt, &mut place);
-    wait_for_all(rt, shared, &mut place);
-    let woken = shared.wake_all(rt, &mut place);
-    let again = shared.wake_all(rt, &mut place);
-    place.seen.woken = woken.ok().zip(again.ok());
-    let _ = shared.unlock(&mut place);
-    place
+    shared.lock(rt, &mut part);
+    wait_for_all(rt, shared, &mut part);
+    let woken = shared.wake_all(rt, &mut part);
+    let again = shared.wake_all(rt, &mut part);
+    part.seen.wakes = woken.ok().zip(again.ok());
+    shared.unlock(&mut part);
+    part
 }
 
 /// Seat 1 wakes, and the others wait.
 struct WakesOrWaits;
 
-impl<R: Wait> Part<R> for WakesOrWaits {
-    /// The part of this place, by its seat's number.
-    fn take(&self, rt: &R, shared: &Shared, place: Place) -> Place {
-        if place.seat.number().get() == 1 {
-            wake_twice(rt, shared, place)
+impl<R: Wait> Task<R> for WakesOrWaits {
+    /// What the thread with this part does, by its seat's number.
+    fn perform(&self, rt: &R, shared: &Shared, part: Part) -> Part {
+        if part.seat.number().get() == 1 {
+            wake_twice(rt, shared, part)
         } else {
-            wait_once(rt, shared, place)
+            wait_once(rt, shared, part)
         }
     }
 }
 
-/// How many places have this ticket, and found what all with smaller tickets left.
-fn times(places: &[Place], ticket: u64) -> u64 {
+/// How many parts have this ticket, and found what all with smaller tickets left.
+fn times(parts: &[Part], ticket: u64) -> u64 {
     let mut times = 0u64;
-    for place in places {
-        let in_turn = place.seen.number == WAITERS.wrapping_add(ticket);
-        if place.seen.ticket == ticket && in_turn {
+    for part in parts {
+        let in_turn = part.seen.number == WAITERS.wrapping_add(ticket);
+        if part.seen.ticket == ticket && in_turn {
             times = times.wrapping_add(1);
         }
     }
     times
 }
 
-/// What the place that woke has seen.
-fn woken(places: &[Place]) -> Option<(u64, u64)> {
-    for place in places {
-        if let Some(woken) = place.seen.woken {
-            return Some(woken);
+/// How many the thread that wakes has woken, in each of its two wakes.
+fn wakes(parts: &[Part]) -> Option<(u64, u64)> {
+    for part in parts {
+        if let Some(wakes) = part.seen.wakes {
+            return Some(wakes);
         }
     }
     None
 }
 
-/// The first wake met all, the second nobody, and each ticket was one place's, in its turn.
-fn each_was_woken_once<R: Abort>(rt: &R, places: &[Place]) {
-    sees(rt, "the wakes", &woken(places), &Some((WAITERS, 0)));
+/// The first wake met all, the second nobody, and each ticket was one part's, in its turn.
+fn each_was_woken_once<R: Abort>(rt: &R, parts: &[Part]) {
+    sees(rt, "the wakes", &wakes(parts), &Some((WAITERS, 0)));
     for ticket in 1..=WAITERS {
-        assert_eq!(*rt; times(places, ticket), 1, "ticket {ticket}");
+        assert_eq!(*rt; times(parts, ticket), 1, "ticket {ticket}");
     }
 }
 
@@ -125,10 +123,10 @@ fn all_were_sent<R: Abort>(rt: &R, left: &Left) {
 
 #[test]
 fn all_who_wait_are_woken_once(rt: HostRuntime) -> Result<(), Fail> {
-    let (shared, places) = shared_by(rt.alloc(), WAITERS + 1).ok_or("places")?;
-    let places = take_parts(&rt, &shared, places, &WakesOrWaits)?;
-    each_was_woken_once(&rt, &places);
-    let left = shared.close(rt.alloc(), places).ok_or("all are back")?;
+    let (shared, parts) = shared_in_order(rt.alloc(), WAITERS + 1).ok_or("parts")?;
+    let parts = perform_all(&rt, &shared, parts, &WakesOrWaits)?;
+    each_was_woken_once(&rt, &parts);
+    let left = shared.close(rt.alloc(), parts).ok_or("all are back")?;
     all_were_sent(&rt, &left);
     Ok(())
 }

@@ -6,10 +6,10 @@ ghost use Rattle.lfm_thread_tests.specs.Hands.{OfCalled};
 ghost use mathlib.Core.Option.{some};
 ghost use lib.ListN.{get_elem?};
 
-use crate::condvar::dealing::last_cond_seat;
 use crate::condvar::in_hand::InHand;
 use lfm_condvar::{CondSeat, Condvar};
 use lfm_mutex::{Kept, Mutex, Seat};
+use lfm_test_tools::two_condvars::dealing::last_cond_seat;
 use std::alloc::Global;
 
 /// The two seats of a mutex that has two.

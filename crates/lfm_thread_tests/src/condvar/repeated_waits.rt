@@ -1,17 +1,15 @@
 //! Waits for as long as a condition on the number holds: none if it is false at once, one for each wake that finds it true,
 //! and refusals.
-ghost use Rattle.lfm_thread_tests.specs.Places.{OfShared};
+ghost use Rattle.lfm_test_tools.specs.Parts.{OfShared};
 
-use crate::adding::add_one;
-use crate::condvar::dealing::shared_by;
 use crate::condvar::driving::{on_one_condvar, on_two_condvars};
-use crate::condvar::parts::{Part, take_parts};
-use crate::condvar::places::{Place, Shared};
-use crate::condvar::shared_calls::Side;
 use crate::condvar::steps::{By, Step};
 use crate::seeing::sees;
 use lfm_model::{Asked, How, Refusal, SeatNo, Unlocked};
 use lfm_mutex::Holder;
+use lfm_test_tools::two_condvars::dealing::shared_in_order;
+use lfm_test_tools::two_condvars::parts::{Part, Shared, Side};
+use lfm_test_tools::two_condvars::tasks::{Task, perform_all};
 use std::sync::Wait;
 use std::test::Fail;
 
@@ -94,64 +92,64 @@ const ADDS: u64 = 3;
 
 /// Adds 1, tells it on the second condvar, and waits on the first one while the number is less than one more than what the
 /// other thread adds. Notes what it then finds.
-fn wait_for_all<R: Wait>(rt: &R, shared: &Shared, mut place: Place) -> Place
-    requires { OfShared place shared.now }
+fn wait_for_all<R: Wait>(rt: &R, shared: &Shared, mut part: Part) -> Part
+    requires { OfShared part shared.now }
     ensures { OfShared result shared.now }
 {
-    let _ = shared.lock(rt, &mut place);
-    let _ = add_one(&mut place.seat);
-    let _ = shared.wake_one(rt, &mut place, Side::Second);
-    let _ = shared.wait_while_less(rt, &mut place, Side::First, ADDS + 1);
-    place.seen.number = place.number();
-    let _ = shared.unlock(&mut place);
-    place
+    shared.lock(rt, &mut part);
+    shared.add_one(&mut part);
+    shared.wake_one(rt, &mut part, Side::Second);
+    shared.wait_until(rt, &mut part, Side::First, ADDS + 1);
+    part.seen.number = part.number();
+    shared.unlock(&mut part);
+    part
 }
 
 /// Adds 1 in each of its holds, once the other thread has begun, and wakes that. Since it leaves the mutex to the other then,
 /// which it has queued, the other looks after each.
-fn add_and_wake<R: Wait>(rt: &R, shared: &Shared, mut place: Place) -> Place
-    requires { OfShared place shared.now }
+fn add_and_wake<R: Wait>(rt: &R, shared: &Shared, mut part: Part) -> Part
+    requires { OfShared part shared.now }
     ensures { OfShared result shared.now }
 {
     'adds: for _ in 0..ADDS {
-        let _ = shared.lock(rt, &mut place);
-        let _ = shared.wait_while_less(rt, &mut place, Side::Second, 1);
-        let _ = add_one(&mut place.seat);
-        let _ = shared.wake_one(rt, &mut place, Side::First);
-        let _ = shared.unlock(&mut place);
+        shared.lock(rt, &mut part);
+        shared.wait_until(rt, &mut part, Side::Second, 1);
+        shared.add_one(&mut part);
+        shared.wake_one(rt, &mut part, Side::First);
+        shared.unlock(&mut part);
     }
-    place
+    part
 }
 
 /// Seat 1 waits, and the other adds.
 struct WaitsOrAdds;
 
-impl<R: Wait> Part<R> for WaitsOrAdds {
-    /// The part of this place, by its seat's number.
-    fn take(&self, rt: &R, shared: &Shared, place: Place) -> Place {
-        if place.seat.number().get() == 1 {
-            wait_for_all(rt, shared, place)
+impl<R: Wait> Task<R> for WaitsOrAdds {
+    /// What the thread with this part does, by its seat's number.
+    fn perform(&self, rt: &R, shared: &Shared, part: Part) -> Part {
+        if part.seat.number().get() == 1 {
+            wait_for_all(rt, shared, part)
         } else {
-            add_and_wake(rt, shared, place)
+            add_and_wake(rt, shared, part)
         }
     }
 }
 
-/// What the places found, one of which noted nothing.
-fn found(places: &[Place]) -> u64 {
+/// What the parts found, one of which noted nothing.
+fn found(parts: &[Part]) -> u64 {
     let mut found = 0u64;
-    for place in places {
-        found = found.wrapping_add(place.seen.number);
+    for part in parts {
+        found = found.wrapping_add(part.seen.number);
     }
     found
 }
 
 #[test]
 fn waits_end_if_the_condition_is_false(rt: HostRuntime) -> Result<(), Fail> {
-    let (shared, places) = shared_by(rt.alloc(), 2).ok_or("places")?;
-    let places = take_parts(&rt, &shared, places, &WaitsOrAdds)?;
-    sees(&rt, "the number that was found", &found(&places), &4);
-    let left = shared.close(rt.alloc(), places).ok_or("all are back")?;
+    let (shared, parts) = shared_in_order(rt.alloc(), 2).ok_or("parts")?;
+    let parts = perform_all(&rt, &shared, parts, &WaitsOrAdds)?;
+    sees(&rt, "the number that was found", &found(&parts), &4);
+    let left = shared.close(rt.alloc(), parts).ok_or("all are back")?;
     sees(&rt, "the number", &left.number, &4);
     // it waited before each of the three that were added
     sees(&rt, "the first condvar's numbers", &left.first, &(3, 3));

@@ -5,15 +5,14 @@ ghost use Rattle.lfm_mutex.specs.Belongs.{OfMutex, limits_of};
 ghost use Rattle.lfm_condvar.specs.Belongs.{OfCondvar, cond_limits};
 ghost use Rattle.lfm_thread_tests.specs.Hands.{OfCalled};
 
-use crate::condvar::calls::{
-    ask, begin_wait, receive, send_lock, unlock, wait_while_less, wake_one,
-};
+use crate::condvar::calls::{ask, begin_wait, receive, send_lock, unlock, wake_one};
 use crate::condvar::in_hand::{Called, InHand};
 use crate::condvar::refused_calls::{wait, wake};
 use crate::seeing::answers;
 use lfm_condvar::{CondSeat, Condvar};
 use lfm_model::{Asked, How, Refusal, SeatNo, Unlocked};
 use lfm_mutex::{Holder, Mutex, Seat};
+use lfm_test_tools::two_condvars::calls::wait_while_less;
 use std::process::Abort;
 use std::sync::Wait;
 

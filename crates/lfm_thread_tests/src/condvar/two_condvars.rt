@@ -1,13 +1,11 @@
-//! Two condvars on one mutex: four threads take turns, two for even numbers and two for odd ones. A thread that waits for its
-//! turn waits on the condvar of its side, and each turn wakes one of the other side.
-ghost use Rattle.lfm_thread_tests.specs.Places.{OfShared};
+//! Four threads take turns over two condvars of one mutex: those of one side wait on one of them, and each turn wakes one of the
+//! other side.
+ghost use Rattle.lfm_test_tools.specs.Parts.{OfShared};
 
-use crate::adding::add_one;
-use crate::condvar::dealing::{Left, shared_by};
-use crate::condvar::parts::{Part, take_parts};
-use crate::condvar::places::{Place, Seen, Shared};
-use crate::condvar::shared_calls::Side;
 use crate::seeing::sees;
+use lfm_test_tools::two_condvars::dealing::{Left, shared_in_order};
+use lfm_test_tools::two_condvars::parts::{Counts, Part, Seen, Shared, Side};
+use lfm_test_tools::two_condvars::tasks::{Task, perform_all};
 use std::process::Abort;
 use std::sync::Wait;
 use std::test::Fail;
@@ -19,19 +17,19 @@ const TURNS: u64 = 500;
 const ALL_TURNS: u64 = 2_000;
 
 /// Waits until the number is even for the first side, or odd for the second. Each wait is ended by another thread's turn.
-fn wait_for_turn<R: Wait>(rt: &R, shared: &Shared, place: &mut Place, side: Side)
-    requires { OfShared place.old shared.now }
-    ensures { OfShared place.new shared.now }
+fn wait_for_turn<R: Wait>(rt: &R, shared: &Shared, part: &mut Part, side: Side)
+    requires { OfShared part.old shared.now }
+    ensures { OfShared part.new shared.now }
 {
     'waiting: for _ in 0..ALL_TURNS {
-        if Side::of(place.number()) == side {
+        if Side::of(part.number()) == side {
             break;
         }
-        let _ = shared.wait(rt, place, side);
+        shared.wait(rt, part, side);
     }
 }
 
-/// Counts the turn, if it is the place's own.
+/// Counts the turn, if it is that of the part's side.
 fn count_turn(seen: &mut Seen, is_own: bool) {
     if is_own {
         seen.turns = seen.turns.wrapping_add(1);
@@ -39,57 +37,39 @@ fn count_turn(seen: &mut Seen, is_own: bool) {
 }
 
 /// One turn: adds 1 to the number, and wakes one of the other side.
-fn take_turn<R: Wait>(rt: &R, shared: &Shared, place: &mut Place, side: Side)
-    requires { OfShared place.old shared.now }
-    ensures { OfShared place.new shared.now }
+fn take_turn<R: Wait>(rt: &R, shared: &Shared, part: &mut Part, side: Side)
+    requires { OfShared part.old shared.now }
+    ensures { OfShared part.new shared.now }
 {
-    let _ = shared.lock(rt, place);
-    wait_for_turn(rt, shared, place, side);
-    let is_own = Side::of(place.number()) == side;
-    count_turn(&mut place.seen, is_own);
-    let _ = add_one(&mut place.seat);
-    let _ = shared.wake_one(rt, place, side.other());
-    let _ = shared.unlock(place);
+    shared.lock(rt, part);
+    wait_for_turn(rt, shared, part, side);
+    let is_own = Side::of(part.number()) == side;
+    count_turn(&mut part.seen, is_own);
+    shared.add_one(part);
+    shared.wake_one(rt, part, side.other());
+    shared.unlock(part);
 }
 
 /// All turns of one thread. Seats of even numbers take the even turns.
-fn take_turns<R: Wait>(rt: &R, shared: &Shared, mut place: Place) -> Place
-    requires { OfShared place shared.now }
+fn take_turns<R: Wait>(rt: &R, shared: &Shared, mut part: Part) -> Part
+    requires { OfShared part shared.now }
     ensures { OfShared result shared.now }
 {
-    let side = Side::of(place.seat.number().get());
+    let side = Side::of(part.seat.number().get());
     'turns: for _ in 0..TURNS {
-        take_turn(rt, shared, &mut place, side);
+        take_turn(rt, shared, &mut part, side);
     }
-    place
+    part
 }
 
-/// Each place takes turns, on the side of its seat's number.
+/// Each thread takes turns, on the side of its seat's number.
 struct TakesTurns;
 
-impl<R: Wait> Part<R> for TakesTurns {
-    /// All turns of this place.
-    fn take(&self, rt: &R, shared: &Shared, place: Place) -> Place {
-        take_turns(rt, shared, place)
+impl<R: Wait> Task<R> for TakesTurns {
+    /// All turns of this part.
+    fn perform(&self, rt: &R, shared: &Shared, part: Part) -> Part {
+        take_turns(rt, shared, part)
     }
-}
-
-/// How often the places waited.
-fn all_waits(places: &[Place]) -> u64 {
-    let mut waits = 0u64;
-    for place in places {
-        waits = waits.wrapping_add(place.seen.waits);
-    }
-    waits
-}
-
-/// How many turns were taken by the threads that they were for.
-fn all_turns(places: &[Place]) -> u64 {
-    let mut turns = 0u64;
-    for place in places {
-        turns = turns.wrapping_add(place.seen.turns);
-    }
-    turns
 }
 
 /// All turns were taken, each condvar sent as many as it had added, and together they sent each wait.
@@ -113,16 +93,11 @@ fn each_wait_was_sent<R: Abort>(rt: &R, left: &Left, waits: u64) {
 
 #[test]
 fn two_condvars_of_one_mutex(rt: HostRuntime) -> Result<(), Fail> {
-    let (shared, places) = shared_by(rt.alloc(), 4).ok_or("places")?;
-    let places = take_parts(&rt, &shared, places, &TakesTurns)?;
-    let waits = all_waits(&places);
-    sees(
-        &rt,
-        "the turns taken in turn",
-        &all_turns(&places),
-        &ALL_TURNS,
-    );
-    let left = shared.close(rt.alloc(), places).ok_or("all are back")?;
-    each_wait_was_sent(&rt, &left, waits);
+    let (shared, parts) = shared_in_order(rt.alloc(), 4).ok_or("parts")?;
+    let parts = perform_all(&rt, &shared, parts, &TakesTurns)?;
+    let counts = Counts::of(&parts);
+    sees(&rt, "the turns taken in turn", &counts.turns, &ALL_TURNS);
+    let left = shared.close(rt.alloc(), parts).ok_or("all are back")?;
+    each_wait_was_sent(&rt, &left, counts.waits);
     Ok(())
 }

@@ -4,7 +4,6 @@ ghost use Rattle.lfm_mutex.specs.Belongs.{OfMutex, limits_of};
 ghost use Rattle.lfm_condvar.specs.Belongs.{OfCondvar, cond_limits};
 ghost use Rattle.lfm_thread_tests.specs.Hands.{OfCalled};
 
-use crate::adding::add_one;
 use crate::condvar::calls::{unlock, wait, wake_all, wake_one};
 use crate::condvar::in_hand::InHand;
 use crate::condvar::pairs::{closed, in_hand_of_one_condvar};
@@ -12,6 +11,7 @@ use crate::seeing::{holds, sees};
 use lfm_condvar::{CondSeat, Condvar};
 use lfm_model::{Refusal, SeatNo};
 use lfm_mutex::{Mutex, Seat};
+use lfm_test_tools::adding::add_one;
 use std::process::Abort;
 use std::sync::Wait;
 use std::test::Fail;

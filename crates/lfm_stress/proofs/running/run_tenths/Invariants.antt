@@ -1,5 +1,5 @@
 use Rattle.std.specs.Prelude.{All}
-use Rattle.lfm_stress.specs.Parts.{OfShared}
+use Rattle.lfm_test_tools.specs.Parts.{OfShared}
 use Rattle.lfm_stress.proofs.running.run_tenths.Given as goal
 
 -- the parts stay those of the mutex and its condvars

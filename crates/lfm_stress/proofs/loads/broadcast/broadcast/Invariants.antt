@@ -1,4 +1,4 @@
-use Rattle.lfm_stress.specs.Parts.{OfShared}
+use Rattle.lfm_test_tools.specs.Parts.{OfShared}
 use Rattle.lfm_stress.proofs.loads.broadcast.broadcast.Given as goal
 
 -- the part stays one of the mutex and its condvars

@@ -1,4 +1,4 @@
-use Rattle.lfm_thread_tests.specs.Places.{OfShared}
+use Rattle.lfm_test_tools.specs.Parts.{OfShared}
 use Rattle.lfm_thread_tests.proofs.condvar.repeated_waits.add_and_wake.Given as goal
 
 abbrev pub invariant-adds : goal.invariant-adds

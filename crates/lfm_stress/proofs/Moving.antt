@@ -1,4 +1,4 @@
--- What a closure holds that works with the monitor of a buffer may be used by several threads.
+-- Several threads may use the closure that works with the monitor of a buffer.
 use Rattle.lfm_monitor.specs.contracts.monitor.Monitor as Monitor
 use Rattle.lfm_monitor.proofs.Moving.{monitor_sync}
 use Rattle.lfm_buffer.proofs.Buffer.TheSendSync as BufferSend
@@ -23,7 +23,7 @@ use denote.Struct.Tuple as Tuple
 abbrev pub guarded : RattleType
 guarded = Monitor.the_row Buffer.the_row BufferOp.the_row BufferReply.the_row BufferObject.ghosts
 
--- what the closure holds: where it runs, the monitor, and what is to be moved
+-- what the closure captures: the runtime's handle, the monitor, and what is to be moved
 abbrev pub captures : NamedLft → NamedLft → NamedLft → RattleType → List RattleType
 captures runs lent told T = (Field.shr_ref_field runs (param 0 T) tt).row ∷ (Field.shr_ref_field lent guarded tt).row ∷ (Field.shr_ref_field told Delivery.the_row tt).row ∷ []
 

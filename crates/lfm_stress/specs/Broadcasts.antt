@@ -1,7 +1,7 @@
--- The number under the mutex as threads come and are woken by broadcasts. Each addition is 1.
+-- The number under the mutex in `broadcast`, as waiters come and are woken. Each addition is 1.
 use Rattle.std.specs.Prelude.{◌+◌, ◌*◌, ◌%◌, ◌^◌, ℕ}
 
--- once all threads have come to this turn: in each turn before it they came and were woken, and the broadcast was made
+-- once all waiters have come to this turn: in each turn before it they came and were woken, and the broadcast was made
 abbrev pub come : ℕ → ℕ → ℕ
 come threads turn = (turn * ((threads * 2 % 2 ^ 64 + 1) % 2 ^ 64) % 2 ^ 64 + threads) % 2 ^ 64
 

@@ -1,12 +1,12 @@
 -- What a run must leave: how many additions were counted, or items taken out of the buffer; how many threads were woken; and
--- which number, or sum of the items.
+-- the number, or the sum of the items.
 use Rattle.std.specs.Prelude.{ℕ, ◌+◌, ◌*◌, ◌/◌, Bool, nat_eq, nat_le, ◌&&◌}
 use Rattle.lfm_stress.specs.declared.plan.Load.{Load}
 use Rattle.lfm_stress.specs.declared.plan.Load.TheVariants.{Lock, Mixed, PingPong, Broadcast, Buffer}
 use Rattle.lfm_stress.specs.declared.sums.Sums.{Sums}
 
--- how many additions this number of threads make, each in this number of turns. In a broadcast each thread that waits adds 1 as it
--- comes and 1 as it was woken, and the one that wakes adds 1. Of the buffer's items it is how many are taken out.
+-- How many additions this number of threads make, each in this number of turns. In `broadcast` each waiter adds 1 as it comes
+-- and 1 once it was woken, and the broadcaster adds 1. In `buffer` it is how many items are taken out.
 abbrev pub additions_of : Load → ℕ → ℕ → ℕ
 additions_of Lock threads turns = threads * turns
 additions_of Mixed threads turns = threads * turns
@@ -14,8 +14,8 @@ additions_of PingPong threads turns = threads * turns
 additions_of Broadcast threads turns = (threads * 2 + 1) * turns
 additions_of Buffer threads turns = turns
 
--- how many of them must be made at least: of `mixed` those of the turns that lock, and that of the first turn of all, a try that
--- finds the mutex free; of another load all
+-- How many of them must be made at least. In `mixed` these are the additions of the turns that lock, and that of the first try
+-- of all, which finds the mutex free. In another load these are all.
 abbrev pub least_of : Load → ℕ → ℕ → ℕ
 least_of Lock threads turns = additions_of Lock threads turns
 least_of Mixed threads turns = threads * (turns / 2) + 1
@@ -31,7 +31,7 @@ woken_of PingPong threads turns = 0
 woken_of Broadcast threads turns = threads * turns
 woken_of Buffer threads turns = 0
 
--- the number after this number of additions, or the sum of this number of items, which are 1, 2, 3 and on
+-- the number after this number of additions, or the sum of this number of items, which are 1, 2, 3 and so on
 abbrev pub number_of : Load → ℕ → ℕ
 number_of Lock made = made
 number_of Mixed made = made
@@ -39,8 +39,8 @@ number_of PingPong made = made
 number_of Broadcast made = made
 number_of Buffer made = made * (made + 1) / 2
 
--- nothing is lost: as many additions were counted as there must be, each thread that waited was woken each time, and the number
--- is that of the additions
+-- Nothing is lost: as many additions were counted as there must be, each waiter was woken each time, and the number is that of
+-- the additions.
 abbrev pub is_exact : Load → ℕ → ℕ → Sums → Bool
 is_exact load threads turns sums =
     nat_le (least_of load threads turns) sums.made

@@ -15,13 +15,13 @@ pub enum Request {
     Run(Plan),
     /// A run whose numbers are out of range.
     Refused(Load, OutOfRange),
-    /// Something else: there are not four words, or no load or locking has this name, or a word is no number.
+    /// Any other command line: not four words, an unknown load or locking, or a word that is no number.
     Other,
-    /// Nothing can be told: the arguments themselves found no memory.
+    /// The arguments could not be read, because there was no memory for them.
     Unread,
 }
 
-/// What the program's arguments ask for. It takes memory.
+/// What the program's arguments ask for. It requests memory.
 pub fn requested<R: Env + AllocGlobal>(rt: &R) -> Request {
     let mut words = match env::args(rt) {
         Ok(words) => words,

@@ -14,13 +14,13 @@ use std::time::Clock;
 /// The status of a run in which nothing was lost.
 const EXACT: u8 = 0;
 
-/// The status of a run in which something was lost, or that did not come to its end.
+/// The status of a run in which something was lost, or that did not reach its end.
 const NOT_EXACT: u8 = 1;
 
-/// The status of a command line that asks for nothing the program does.
+/// The status of a command line that is refused.
 const USAGE: u8 = 2;
 
-/// Does what the command line asks for, and gives the exit status. Messages go to standard error.
+/// Does what the command line asks for, and returns the exit status. Messages go to standard error.
 pub fn run<R: Env + AllocGlobal + Print + Eprint + Threads + Wait + Sync + Clock>(rt: &R) -> u8 {
     match requested(rt) {
         Request::Run(plan) => status(rt, plan),
@@ -41,7 +41,7 @@ pub fn run<R: Env + AllocGlobal + Print + Eprint + Threads + Wait + Sync + Clock
     }
 }
 
-/// Says which number is out of the range of its load, and what the range is.
+/// Prints which number is out of the range of its load, and what the range is.
 fn tell_range<R: Eprint>(rt: &R, load: Load, refusal: OutOfRange) {
     let name = load.name();
     let (what, least, most) = match refusal {
@@ -51,14 +51,14 @@ fn tell_range<R: Eprint>(rt: &R, load: Load, refusal: OutOfRange) {
     let _ = eprintln!(rt; "lfm_stress: {what} of {name} is {least} to {most}");
 }
 
-/// The status of a run, in which nothing was lost or something was.
+/// The status of a run that is exact, or that is not.
 fn status_of(exact: bool) -> u8
     ensures { result ≡ (if exact then 0 else 1) }
 {
     if exact { EXACT } else { NOT_EXACT }
 }
 
-/// The status of a run of this plan.
+/// Makes a run of this plan, and returns its status.
 fn status<R: AllocGlobal + Print + Eprint + Threads + Wait + Sync + Clock>(
     rt: &R,
     plan: Plan,
@@ -72,7 +72,7 @@ fn status<R: AllocGlobal + Print + Eprint + Threads + Wait + Sync + Clock>(
     }
 }
 
-/// Makes a run of this plan and says what it left. Returns whether nothing was lost.
+/// Makes a run of this plan and prints what it left. Returns whether nothing was lost.
 fn made<R: AllocGlobal + Print + Threads + Wait + Sync + Clock>(
     rt: &R,
     plan: Plan,

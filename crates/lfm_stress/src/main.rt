@@ -1,7 +1,7 @@
-//! The program `lfm_stress`: many threads make very many calls on one mutex, its condition variables or a monitor, and in the
-//! end no addition, no wake and no item may be lost.
+//! The program `lfm_stress`: many threads make millions of calls on one mutex, its condition variables or a monitor. At the end
+//! no addition, no wake-up and no item may be lost.
 //!
-//! It shows what no proof says: that real threads get to the end of long runs. It is run by hand, by `scripts/stress`.
+//! It tests what is not proved: that real threads reach the end of long runs. `scripts/stress` runs it, by hand.
 #![tactic(auto)]
 
 mod arguments;

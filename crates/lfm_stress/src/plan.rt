@@ -1,5 +1,5 @@
-//! What a run does: a load, how its threads lock, by how many threads, and how often. The turns of `buffer` are the items that
-//! go through it.
+//! What a run does: its load, how its threads lock, how many threads there are, and how many turns each makes. The turns of
+//! `buffer` are the items that go through it.
 ghost use Rattle.std.specs.Prelude.{◌≡◌, ◌≤◌, IfOk, IfErr, None, Some};
 ghost use Rattle.lfm_stress.specs.Ranges.{most_threads, least_threads, most_turns, refusal_of, seats_of};
 
@@ -28,11 +28,11 @@ pub const MOST_ITEMS: u64 = 800_000;
 pub enum Load {
     /// Each thread locks, adds 1 and unlocks.
     Lock,
-    /// Each thread tries and locks in turn. A try that meets another's hold adds nothing.
+    /// Each thread tries and locks by turns. A try that finds the mutex held adds nothing.
     Mixed,
     /// Two threads take turns. Each waits for the other's turn on a condvar.
     PingPong,
-    /// Threads wait on a condvar, and one more wakes them all at once.
+    /// Threads wait on a condvar, and one further thread wakes all of them at once.
     Broadcast,
     /// Two threads put items into a bounded buffer, which a monitor guards, and two take them out.
     Buffer,
@@ -104,8 +104,8 @@ pub enum OutOfRange {
     Turns,
 }
 
-/// What keeps this load from being run with this number of threads and of turns of each, the threads first. None if nothing
-/// does.
+/// Why this load can't be run with this number of threads and this number of turns for each. The threads are checked first.
+/// None if it can be run.
 pub fn refusal_of(load: Load, threads: u64, turns: u64) -> Option<OutOfRange>
     ensures { result ≡ refusal_of load threads turns }
 {
@@ -130,8 +130,8 @@ pub struct Plan {
 }
 
 impl Plan {
-    /// The plan of this load and this locking, with this number of threads and of turns of each. It is refused if one of the
-    /// numbers is out of range, the threads first.
+    /// The plan of this load and this locking, with this number of threads and of turns for each. It is refused if one of the
+    /// numbers is out of range. The threads are checked first.
     pub fn new(load: Load, locking: Locking, threads: u64, turns: u64) -> Result<Plan, OutOfRange>
         ensures allowed { IfOk result (λ p. (p.load ≡ load) × (p.locking ≡ locking) × (p.threads ≡ threads) × (p.turns ≡ turns)
             × (refusal_of load threads turns ≡ None)) }
@@ -155,7 +155,7 @@ impl Plan {
         self.load
     }
 
-    /// How the threads come to hold.
+    /// How the threads acquire the mutex or the monitor.
     pub fn locking(self) -> Locking
         ensures { result ≡ self.locking }
     {
@@ -170,8 +170,8 @@ impl Plan {
         self.threads
     }
 
-    /// How many seats the mutex and its condvars must have: one for each thread, and at a broadcast one for the thread that
-    /// wakes them all.
+    /// How many seats the mutex and its condvars must have: one for each thread, and in `broadcast` one more, for the thread
+    /// that wakes the others.
     pub fn seats(self) -> u64
         ensures { result ≡ seats_of self.load self.threads }
     {

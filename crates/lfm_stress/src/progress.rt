@@ -1,11 +1,11 @@
-//! A run goes on by tenths of its turns. After each of them all threads have ended, and a line says how far the run is.
+//! A run is made by tenths of its turns. After each tenth all threads have ended, and a line reports how far the run is.
 ghost use Rattle.std.specs.Prelude.{◌≡◌, ◌≤◌, ◌+◌, ◌*◌, ◌/◌};
 ghost use Rattle.lfm_stress.specs.Tenths.{until};
 
 use crate::plan::Plan;
 use std::io;
 
-/// How many parts of a run there are.
+/// How many tenths a run has.
 pub const TENTHS: u64 = 10;
 
 /// The turns of a tenth: the first of them, and the one after the last. Turns count from 0.
@@ -25,7 +25,7 @@ fn until(turns: u64, tenths: u64) -> u64
 }
 
 impl Tenth {
-    /// The turns of the tenth that comes after `done` of them.
+    /// The turns of the tenth after `done` tenths.
     pub fn of(plan: Plan, done: u64) -> Tenth
         requires { done + 1 ≤ 10 }
         ensures { (result.from ≡ until plan.turns done) × (result.to ≡ until plan.turns (done + 1)) }
@@ -37,7 +37,7 @@ impl Tenth {
         }
     }
 
-    /// Says that this tenth is made.
+    /// Prints that this tenth is made.
     pub fn print<R: Print>(self, rt: &R, plan: Plan) -> io::Result<()> {
         let (load, locking) = (plan.load().name(), plan.locking().name());
         let (threads, turns) = (plan.threads(), plan.turns());

@@ -1,4 +1,5 @@
-//! A run over a mutex and its condvars: in each tenth every part is one thread's, and after the last the number is taken out.
+//! A run over a mutex and its condvars. In each tenth of it, each part is used by a thread of its own. After the last tenth
+//! the mutex is closed, and its number is compared with what the threads counted.
 ghost use Rattle.std.specs.Prelude.{◌≡◌, All, IfOk};
 ghost use Rattle.lfm_test_tools.specs.Parts.{OfShared};
 
@@ -16,9 +17,9 @@ use std::sync::Wait;
 use std::thread::Threads;
 use std::time::Clock;
 
-/// Makes a run of this plan, and says after each tenth how far it is. It takes memory, starts threads and joins them all. An
-/// error if the number of processors or the time can't be told, a line is not written, or no memory is found before the end of
-/// the last turn. The number is 0 if a seat holds or sleeps at the end, or is not back, or if no memory is found to sort the
+/// Makes a run of this plan, and prints after each tenth how far it is. It requests memory, starts threads and joins them all.
+/// It is an error if the number of processors or the time can't be read, a line can't be written, or there is no memory for the
+/// parts and threads. The number is 0 if a seat holds, sleeps or is missing at the end, or if there is no memory to sort the
 /// seats.
 pub fn run<R: Threads + Wait + Sync + Clock + AllocGlobal + Print>(
     rt: &R,
@@ -75,7 +76,7 @@ impl<R: Wait> Task<R> for Turns {
             Load::Mixed => mixed::take_turns(rt, shared, tenth, part),
             Load::PingPong => ping_pong::take_turns(rt, shared, tenth, part),
             Load::Broadcast => broadcast::take_turns(rt, shared, tenth, self.plan.threads(), part),
-            // its items go through a monitor, which has passes in place of parts
+            // its items go through a monitor, which has passes instead of parts
             Load::Buffer => part,
         }
     }

@@ -28,7 +28,7 @@ fn additions_of(plan: Plan) -> u64
     }
 }
 
-/// How many of them must be made at least. In `mixed` these are one for each turn that locks, and one for the very first try,
+/// How many of them must be made at least. In `mixed` these are one for each turn that locks, and one for the first try of all,
 /// which finds the mutex free.
 fn least_of(plan: Plan) -> u64
     ensures { result ≡ least_of plan.load plan.threads plan.turns }
@@ -49,7 +49,7 @@ fn woken_of(plan: Plan) -> u64
     }
 }
 
-/// The number after `made` additions, or the sum of `made` items, which are 1, 2, 3 and on.
+/// The number after `made` additions, or the sum of `made` items, which are 1, 2, 3 and so on.
 fn number_of(plan: Plan, made: u64) -> u64
     requires { made ≤ additions_of plan.load plan.threads plan.turns }
     ensures { result ≡ number_of plan.load made }
@@ -62,8 +62,8 @@ fn number_of(plan: Plan, made: u64) -> u64
 }
 
 impl Sums {
-    /// Whether nothing was lost in a run of this plan: no addition and no item is missing, but for additions of tries that met
-    /// another's hold, each broadcast woke each thread that waited, and the number is what the additions make.
+    /// Whether nothing was lost in a run of this plan: no addition and no item is missing, except additions of tries that found
+    /// the mutex held; each broadcast woke each thread that waited; and the number is what the additions make.
     pub fn is_exact(self, plan: Plan) -> bool
         ensures { result ≡ is_exact plan.load plan.threads plan.turns self }
     {
@@ -73,7 +73,7 @@ impl Sums {
             && self.number == number_of(plan, self.made)
     }
 
-    /// Says what a run of this plan left, and whether nothing was lost.
+    /// Prints what a run of this plan left, and whether nothing was lost.
     pub fn print<R: Print>(self, rt: &R, plan: Plan) -> io::Result<()> {
         let (load, locking) = (plan.load().name(), plan.locking().name());
         let threads = plan.threads();

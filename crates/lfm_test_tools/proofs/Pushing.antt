@@ -1,4 +1,4 @@
--- What holds of all of a list holds of it with one more at its end.
+-- If a fact holds of each item of a list and of one further item, it holds of each item of the list with that item at its end.
 use Rattle.std.specs.Prelude.{All}
 use Rattle.std.proofs.Common.{◌≡◌, ℕ, List, [], ◌∷◌, ◌++◌}
 use Rattle.lfm_mutex.proofs.Lists.{all_by_place, each_of_all}

@@ -5,8 +5,8 @@ use Rattle.lfm_condvar.specs.Belongs.{OfCondvar, cond_limits}
 use Rattle.lfm_test_tools.specs.declared.two_condvars.parts.Part.{Part}
 use Rattle.lfm_test_tools.specs.declared.two_condvars.parts.Shared.{Shared}
 
--- The part's seats are those of this mutex and of its condvars, which have no more seats than the mutex. This is a record, so
--- that a proof of many calls compares it by the part and what it belongs to, and not by all that it says of them.
+-- The part's seats are seats of this mutex and of its condvars, which have no more seats than the mutex. This is a record, so
+-- that a proof of many calls compares it by the part and what it belongs to, and not by its fields.
 pub record OfShared (p : Part) (s : Shared) : Type 0 where
   pub seat : OfMutex p.seat s.mutex
   pub first : OfCondvar p.first s.first

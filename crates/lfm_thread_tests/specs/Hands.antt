@@ -6,8 +6,8 @@ use Rattle.lfm_condvar.specs.declared.condvar.Condvar.{Condvar}
 use Rattle.lfm_condvar.specs.Belongs.{OfCondvar, cond_limits}
 use Rattle.lfm_thread_tests.specs.declared.condvar.in_hand.InHand.{InHand}
 
--- All that is in hand is of this mutex and of these condvars, which have no more seats than the mutex. This is a record, so that
--- a proof of many calls compares it by what is in hand and what is called, and not by all that it says of them.
+-- All seats in hand are seats of this mutex and of these condvars, which have no more seats than the mutex. This is a record,
+-- so that a proof of many calls compares it by the seats in hand and what is called, and not by its fields.
 pub record OfCalled (h : InHand) (m : Mutex ℕ) (c d : Condvar) : Type 0 where
   pub first : OfMutex h.first m
   pub second : OfMutex h.second m

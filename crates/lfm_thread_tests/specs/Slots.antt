@@ -5,7 +5,7 @@ use Rattle.lfm_thread_tests.specs.declared.monitor.slot.SlotOp.{SlotOp}
 use Rattle.lfm_thread_tests.specs.declared.monitor.slot.SlotOp.TheVariants.{Put, Take}
 use Rattle.lfm_thread_tests.specs.declared.monitor.slot.SlotReply.{SlotReply}
 
--- a pair is put into an empty slot alone
+-- a pair is put only into an empty slot
 abbrev pub put_into : Option (ℕ × ℕ) → ℕ × ℕ → Option (ℕ × ℕ)
 put_into None x = Some x
 put_into (Some y) x = Some y

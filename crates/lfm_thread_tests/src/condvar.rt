@@ -1,5 +1,5 @@
-//! Tests of the running condvar: two threads of which one waits, a wait in its two halves, a send past the condvar, 32 threads
-//! that are woken at once, two condvars of one mutex, waits while a condition holds, refusals and limits.
+//! Tests of the running condvar: two threads of which one waits, a wait in two halves, a send past the condvar, 32 threads that
+//! are woken at once, two condvars of one mutex, waits while a condition holds, refusals and limits.
 
 #[cfg(test)]
 mod begun_waits;

@@ -1,6 +1,6 @@
 //! Memory that runs out while a condvar or a monitor is made, in the rounds of a mutex and in the run of a script, also as a
-//! thread is started. Each test whose name contains `memory` passes also if a request was refused: it then checks that nothing
-//! was written, and says that memory was refused. A script lets each single request of these tests fail in turn.
+//! thread is started. Each test whose name contains `memory` also passes if a request was refused: it then checks that nothing
+//! was written, and prints that memory was refused. A script lets each request of these tests fail, one in each run.
 ghost use Rattle.lfm_mutex.specs.AllSeats.{SeatsOf};
 ghost use Rattle.lfm_mutex.specs.Belongs.{OfMutex};
 
@@ -76,7 +76,7 @@ fn work_and_memory(rt: HostRuntime) {
     }
 }
 
-/// Both seats of a mutex make one round, which adds 1, or memory is refused, no round is made and both seats are back.
+/// Both seats of a mutex make one round, which adds 1. Or memory is refused: then no round is made, and both seats are back.
 fn rounds_or_hands_back<R: Abort + Print + Threads + Wait + Sync>(
     rt: &R,
     mutex: Mutex<u64>,
@@ -94,7 +94,7 @@ fn rounds_or_hands_back<R: Abort + Print + Threads + Wait + Sync>(
     );
     let (seats, wanted) = match run {
         Ok(seats) => (seats, 2),
-        // refused before a thread was started, or as one was to be
+        // memory was refused before a thread was started, or as one was started
         Err(not_started) => {
             tells_refused(rt);
             (not_started.jobs, 0)

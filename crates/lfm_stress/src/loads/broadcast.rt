@@ -1,7 +1,7 @@
-//! `broadcast`: threads wait on the first condvar, and one more wakes them all at once. In a turn each of the threads adds 1 to
-//! the number under the mutex as it comes, and then waits, in one hold; the last that comes wakes the one that broadcasts,
-//! which waits on the second condvar. That one adds 1 and wakes all, and each adds 1 again. So with n threads the number is
-//! t (2 n + 1) before turn t, n more once all have come, and 1 more once the broadcast is made.
+//! `broadcast`: threads wait on the first condvar, and one further thread wakes all of them at once. In a turn each waiter adds
+//! 1 to the number under the mutex as it comes, and then waits, in one hold. The last that comes wakes the broadcaster, which
+//! waits on the second condvar. The broadcaster adds 1 and wakes all, and each waiter adds 1 again. So with n waiters the
+//! number is t (2 n + 1) before turn t, n more once all have come, and 1 more once the broadcast is made.
 ghost use Rattle.std.specs.Prelude.{◌≡◌};
 ghost use Rattle.lfm_test_tools.specs.Parts.{OfShared};
 ghost use Rattle.lfm_stress.specs.Broadcasts.{come, woken};
@@ -10,7 +10,7 @@ use crate::progress::Tenth;
 use lfm_test_tools::two_condvars::parts::{Part, Shared, Side};
 use std::sync::Wait;
 
-/// The number once all of this number of threads have come to this turn.
+/// The number once all waiters, which are this number of threads, have come to this turn.
 fn come(threads: u64, turn: u64) -> u64
     ensures { result ≡ come threads turn }
 {
@@ -25,7 +25,7 @@ fn woken(threads: u64, turn: u64) -> u64
     come(threads, turn).wrapping_add(1)
 }
 
-/// The turns of one thread in this tenth of a run, in which this number of threads wait. The one with seat 1 broadcasts.
+/// The turns of one thread in this tenth of a run with this number of waiters. The thread with seat 1 broadcasts.
 pub fn take_turns<R: Wait>(rt: &R, shared: &Shared, tenth: Tenth, threads: u64, part: Part) -> Part
     requires { OfShared part shared.now }
     ensures { OfShared result shared.now }
@@ -37,7 +37,7 @@ pub fn take_turns<R: Wait>(rt: &R, shared: &Shared, tenth: Tenth, threads: u64, 
     }
 }
 
-/// The turns of the thread that broadcasts.
+/// The turns of the broadcaster.
 fn broadcast<R: Wait>(rt: &R, shared: &Shared, tenth: Tenth, threads: u64, mut part: Part) -> Part
     requires { OfShared part shared.now }
     ensures { OfShared result shared.now }
@@ -53,7 +53,7 @@ fn broadcast<R: Wait>(rt: &R, shared: &Shared, tenth: Tenth, threads: u64, mut p
     part
 }
 
-/// The turns of a thread that waits.
+/// The turns of a waiter.
 fn wait<R: Wait>(rt: &R, shared: &Shared, tenth: Tenth, threads: u64, mut part: Part) -> Part
     requires { OfShared part shared.now }
     ensures { OfShared result shared.now }

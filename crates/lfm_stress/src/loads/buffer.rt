@@ -1,6 +1,7 @@
-//! `buffer`: two threads put the numbers 1, 2, 3 and on into a bounded buffer, the first the odd ones and the second the even
-//! ones, and two take them out. A monitor with two conditions guards the buffer: whoever finds it full, or empty, waits on one
-//! of them. Each tenth of a run has a monitor of its own, with room for all that its threads may write into the journal.
+//! `buffer`: two threads put the numbers 1, 2, 3 and so on into a bounded buffer, the first the odd ones and the second the
+//! even ones, and two take them out. A monitor guards the buffer. It has two conditions: a thread that finds the buffer full
+//! waits on one, and a thread that finds it empty on the other. Each tenth of a run has a monitor of its own, whose journal has
+//! room for all entries of its threads.
 ghost use Rattle.std.specs.Prelude.{◌≡◌, ◌+◌, ◌*◌, ◌≤◌, All, IfOk};
 ghost use Rattle.lfm_monitor.specs.Belongs.{OfMonitor};
 
@@ -22,26 +23,26 @@ use std::time::Clock;
 /// Two threads put in, and two take out.
 const MOVERS: u64 = 4;
 
-/// The conditions of the monitor: a thread that found the buffer empty waits on the first, and one that found it full on the
+/// The conditions of the monitor. A thread that found the buffer empty waits on the first, and one that found it full on the
 /// second.
 const NOT_EMPTY: u64 = 1;
 
 const NOT_FULL: u64 = 2;
 
-/// The items of a tenth, and what the threads that take them out have got of them.
+/// The items of a tenth, and how many of them have been taken out.
 #[derive(Drop)]
 pub struct Delivery {
     tenth: Tenth,
-    /// How the threads come to hold the monitor.
+    /// How the threads acquire the monitor.
     locking: Locking,
-    /// How many items were got.
+    /// How many items were taken out.
     got: AtomicU64,
     /// Their sum.
     sum: AtomicU64,
 }
 
 impl Delivery {
-    /// The items of this tenth, of which none is got yet.
+    /// The items of this tenth, of which none has been taken out.
     fn new(tenth: Tenth, locking: Locking) -> Delivery {
         Delivery {
             tenth,
@@ -52,9 +53,9 @@ impl Delivery {
     }
 }
 
-/// Sends the items of this plan through the buffer, and says after each tenth how far it is. It takes memory, starts threads
-/// and joins them all. An error if the number of processors or the time can't be told, a line is not written, or no memory is
-/// found.
+/// Sends the items of this plan through the buffer, and prints after each tenth how far it is. It requests memory, starts
+/// threads and joins them all. It is an error if the number of processors or the time can't be read, a line can't be written,
+/// or there is no memory.
 pub fn run<R: Threads + Wait + Sync + Clock + AllocGlobal + Print>(
     rt: &R,
     plan: Plan,
@@ -77,7 +78,7 @@ pub fn run<R: Threads + Wait + Sync + Clock + AllocGlobal + Print>(
     })
 }
 
-/// Sends these items through the buffer. An item counts if a thread got it and the journal has it in its turn.
+/// Sends these items through the buffer. An item counts if a thread took it out and the journal has it in order.
 fn move_tenth<R: Threads + Wait + Sync>(
     rt: &R,
     alloc: Global,
@@ -92,9 +93,9 @@ fn move_tenth<R: Threads + Wait + Sync>(
     })
 }
 
-/// How many entries of the journal each thread may write in a tenth. An item costs it two, a take and an op, and so does each
-/// wait. A wait ends by a wake, and each condition has one wake for each item. So a thread with half of the items writes at
-/// most three entries for each item of the tenth, even if it gets all the wakes of its condition.
+/// How many journal entries each thread may write in a tenth. An item costs it two, a take and an op, and so does each wait. A
+/// wait ends by a wake-up, and each condition has one wake-up for each item. So a thread with half of the items writes at most
+/// three entries for each item of the tenth, even if it gets all wake-ups of its condition.
 fn entries_of(tenth: Tenth) -> u64 {
     tenth
         .to
@@ -103,8 +104,8 @@ fn entries_of(tenth: Tenth) -> u64 {
         .saturating_add(8)
 }
 
-/// A monitor round an empty buffer, of this pace, with a pass for each mover, which may write this number of entries. It takes
-/// memory.
+/// A monitor around an empty buffer, with this pace, and a pass for each mover, which may write this number of entries. It
+/// requests memory.
 fn new_monitor(
     alloc: Global,
     pace: Pace,
@@ -119,7 +120,7 @@ fn new_monitor(
     Ok((monitor, passes))
 }
 
-/// Sends the items of a tenth through the buffer. Returns how many of them the journal has in turn.
+/// Sends the items of a tenth through the buffer. Returns how many of them the journal has in order.
 fn moved<R: Threads + Wait + Sync>(
     rt: &R,
     alloc: Global,
@@ -135,7 +136,7 @@ fn moved<R: Threads + Wait + Sync>(
     Ok(in_turn(delivery.tenth, &replies))
 }
 
-/// Every pass works in a thread of its own.
+/// Each pass works in a thread of its own.
 fn move_all<R: Threads + Wait + Sync>(
     rt: &R,
     monitor: &Monitor<Buffer>,
@@ -183,8 +184,8 @@ fn work<R: Wait>(
     pass
 }
 
-/// A section that puts an item into the buffer, or takes one out, as soon as it can. Then it wakes one that waits for what the
-/// move brought: an item, or room. It answers the item that was taken out, or 0 if one was put in.
+/// A section that puts an item into the buffer, or takes one out, as soon as it can. Then it wakes one thread that waits for
+/// what the move brought: an item, or room. It answers the item that was taken out, or 0 if one was put in.
 #[derive(Clone, Copy)]
 struct Move {
     op: BufferOp,
@@ -193,7 +194,7 @@ struct Move {
 impl<R: Wait> CriticalSection<Buffer, R> for Move {
     type Answer = u64;
 
-    /// Makes the move, and wakes one that waits for what it brought. The number of the round is not used.
+    /// Makes the move, and wakes one thread that waits for what it brought. The number of the round is not used.
     fn execute(
         &self,
         rt: &R,
@@ -292,8 +293,8 @@ fn make<R: Wait>(
     unreachable!()
 }
 
-/// How many items of a tenth the replies have, each in the order in which its thread put them in, and so no item twice. None
-/// counts that comes out of turn, nor any that comes after it from the same thread.
+/// How many items of a tenth the replies have in the order in which their thread put them in, so that none counts twice. An
+/// item that is out of order does not count, nor does a later one from the same thread.
 fn in_turn(tenth: Tenth, replies: &[BufferReply]) -> u64 {
     let mut due = (tenth.from.wrapping_add(1), tenth.from.wrapping_add(2));
     let mut count = 0u64;

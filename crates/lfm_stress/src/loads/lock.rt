@@ -1,4 +1,4 @@
-//! `lock`: in a turn a thread waits for the mutex, adds 1 to the number under it, and gives the mutex on.
+//! `lock`: in a turn a thread locks, adds 1 to the number under the mutex, and unlocks.
 ghost use Rattle.lfm_test_tools.specs.Parts.{OfShared};
 
 use crate::progress::Tenth;

@@ -1,12 +1,12 @@
-//! `mixed`: in every other turn a thread tries to gain the mutex, and in the turns between it waits for it. If it gained the
-//! mutex, it adds 1 to the number under it, and gives the mutex on.
+//! `mixed`: in every other turn a thread tries to acquire the mutex, and in the turns between it waits for it. If it acquired
+//! the mutex, it adds 1 to the number under it, and unlocks.
 ghost use Rattle.lfm_test_tools.specs.Parts.{OfShared};
 
 use crate::progress::Tenth;
 use lfm_test_tools::two_condvars::parts::{Part, Shared};
 use std::sync::Wait;
 
-/// Tries to gain the mutex in turns 0, 2, 4 and on, and waits for it in the others. Returns whether it was gained.
+/// Tries to acquire the mutex in turns 0, 2, 4 and so on, and waits for it in the others. Returns whether it was acquired.
 fn gain<R: Wait>(rt: &R, shared: &Shared, part: &mut Part, turn: u64) -> bool
     requires { OfShared part.old shared.now }
     ensures { OfShared part.new shared.now }

@@ -1,6 +1,6 @@
-//! `ping_pong`: two threads take turns, each with a condvar of its own. In a turn a thread gains the mutex, waits until the
-//! other has had its turn, adds 1 to the number under the mutex, wakes the other, and unlocks. So before turn n of the first
-//! the number is 2 n, and before that of the second 2 n + 1.
+//! `ping_pong`: two threads take turns, each with a condvar of its own. In a turn a thread locks, waits until the other has had
+//! its turn, adds 1 to the number under the mutex, wakes the other, and unlocks. So the number is 2 n before turn n of the
+//! first thread, and 2 n + 1 before turn n of the second.
 ghost use Rattle.lfm_test_tools.specs.Parts.{OfShared};
 
 use crate::progress::Tenth;
@@ -38,7 +38,7 @@ fn play<R: Wait>(rt: &R, shared: &Shared, tenth: Tenth, player: u64, mut part: P
     part
 }
 
-/// Gains the mutex, waits until the number is this, and adds 1.
+/// Locks, waits until the number is this, and adds 1.
 fn add_when_due<R: Wait>(rt: &R, shared: &Shared, part: &mut Part, own: Side, due: u64)
     requires { OfShared part.old shared.now }
     ensures { OfShared part.new shared.now }

@@ -1,5 +1,5 @@
-//! A wait in its two halves, by one thread: once the first has returned, the list is free and the seat sleeps, so that a wake
-//! of another seat sends it.
+//! A wait in its two halves, by one thread. Once the first half has returned, the list is free and the seat sleeps, so that a
+//! wake of another seat sends it.
 
 use crate::condvar::driving::on_one_condvar;
 use crate::condvar::steps::{By, Step};
@@ -7,8 +7,8 @@ use crate::seeing::sees;
 use lfm_model::{Asked, How, Refusal, SeatNo, Unlocked};
 use std::test::Fail;
 
-/// The first seat begins to wait, and finds nothing that has sent it. The second seat sends it, and it comes to hold by a
-/// receive of its own.
+/// The first seat begins to wait, and its receive finds that it was not sent. The second seat sends it, and it acquires the
+/// mutex by a receive.
 fn two_halves() -> [(By, Step); 8] {
     let first_was_sent = Ok(Some((SeatNo::known(1), 1)));
     [

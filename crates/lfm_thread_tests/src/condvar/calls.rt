@@ -1,5 +1,5 @@
-//! Calls of a mutex round a number and of a condvar, with no more of their contracts than the tests need: seats stay those of
-//! the mutex and the condvar. No test stands here.
+//! Calls of a mutex around a number and of a condvar, with no more of their contracts than the tests need: seats stay those of
+//! the mutex and the condvar. It has no test.
 ghost use Rattle.std.specs.Prelude.{◌≤◌};
 ghost use Rattle.lfm_mutex.specs.Belongs.{OfMutex, limits_of};
 ghost use Rattle.lfm_condvar.specs.Belongs.{OfCondvar, cond_limits};

@@ -1,4 +1,4 @@
-//! Steps that one thread makes on a new mutex and its condvars, which are closed then. No test stands here.
+//! Steps that one thread makes on a new mutex and its condvars. Then the condvars are closed. It has no test.
 
 use crate::condvar::in_hand::Called;
 use crate::condvar::pairs::{
@@ -12,8 +12,8 @@ use std::sync::Wait;
 /// The numbers of a condvar that is closed.
 pub type Numbers = (u64, u64);
 
-/// Makes these steps on a mutex round 7, whose seats may take this often, and on two condvars for seat 1 alone, each of which
-/// has one cond seat that may take once. Returns the numbers of both condvars.
+/// Makes these steps on a mutex around 7, whose seats have this budget, and on two condvars for seat 1 alone, each with one
+/// cond seat, which has one take. Returns the numbers of both condvars.
 pub fn on_two_condvars<R: Wait + Abort>(
     rt: &R,
     alloc: Global,
@@ -32,7 +32,7 @@ pub fn on_two_condvars<R: Wait + Abort>(
     one.zip(other)
 }
 
-/// Makes these steps on a mutex round this number, and on one condvar with a cond seat for each of its seats. Returns the
+/// Makes these steps on a mutex around this number, and on one condvar with a cond seat for each of its seats. Returns the
 /// numbers of the condvar.
 pub fn on_one_condvar<R: Wait + Abort>(
     rt: &R,

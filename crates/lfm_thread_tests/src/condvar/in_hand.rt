@@ -1,8 +1,8 @@
-//! A mutex and two condvars that one thread calls, and the seats of theirs that it has in hand. The calls stand in `steps`.
+//! A mutex and two condvars that one thread calls, and the seats that it has in hand. The calls are in `steps`.
 use lfm_condvar::{CondSeat, Condvar};
 use lfm_mutex::{Mutex, Seat};
 
-/// What is called: a mutex and two condvars, which may be one and the same.
+/// What is called: a mutex and two condvars, which may be the same one.
 #[derive(Clone, Copy)]
 pub struct Called<'a> {
     pub mutex: &'a Mutex<u64>,

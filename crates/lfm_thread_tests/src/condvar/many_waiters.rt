@@ -11,7 +11,7 @@ use std::test::Fail;
 
 const WAITERS: u64 = 32;
 
-/// Adds 1 to the number, and tells it on the second condvar if all have done so.
+/// Adds 1 to the number, and wakes the thread of seat 1 on the second condvar if all have done so.
 fn come<R: Wait>(rt: &R, shared: &Shared, part: &mut Part)
     requires { OfShared part.old shared.now }
     ensures { OfShared part.new shared.now }
@@ -22,7 +22,7 @@ fn come<R: Wait>(rt: &R, shared: &Shared, part: &mut Part)
     shared.wake_one(rt, part, Side::Second);
 }
 
-/// Comes and waits on the first condvar, in one hold. Adds 1 to the number again once it was woken.
+/// Comes and waits on the first condvar, in one hold. Once woken, adds 1 to the number again.
 fn wait_once<R: Wait>(rt: &R, shared: &Shared, mut part: Part) -> Part
     requires { OfShared part shared.now }
     ensures { OfShared result shared.now }
@@ -35,7 +35,7 @@ fn wait_once<R: Wait>(rt: &R, shared: &Shared, mut part: Part) -> Part
     part
 }
 
-/// Waits on the second condvar until all have come. The last tells it once, so one wait is enough.
+/// Waits on the second condvar until all have come. Only the last that comes wakes it, so one wait is enough.
 fn wait_for_all<R: Wait>(rt: &R, shared: &Shared, part: &mut Part)
     requires { OfShared part.old shared.now }
     ensures { OfShared part.new shared.now }
@@ -46,7 +46,7 @@ fn wait_for_all<R: Wait>(rt: &R, shared: &Shared, part: &mut Part)
     shared.wait(rt, part, Side::Second);
 }
 
-/// Wakes all at once when all have come, while it holds the mutex; and again, when nobody waits.
+/// Once all have come, wakes all of them while it holds the mutex. Then it wakes again, when no thread waits.
 fn wake_twice<R: Wait>(rt: &R, shared: &Shared, mut part: Part) -> Part
     requires { OfShared part shared.now }
     ensures { OfShared result shared.now }
@@ -74,7 +74,7 @@ impl<R: Wait> Task<R> for WakesOrWaits {
     }
 }
 
-/// How many parts have this ticket, and found what all with smaller tickets left.
+/// How many parts had this ticket, and found the number as all with smaller tickets left it.
 fn times(parts: &[Part], ticket: u64) -> u64 {
     let mut times = 0u64;
     for part in parts {
@@ -86,7 +86,7 @@ fn times(parts: &[Part], ticket: u64) -> u64 {
     times
 }
 
-/// How many the thread that wakes has woken, in each of its two wakes.
+/// How many threads each of the two wakes of seat 1 woke.
 fn wakes(parts: &[Part]) -> Option<(u64, u64)> {
     for part in parts {
         if let Some(wakes) = part.seen.wakes {
@@ -96,7 +96,7 @@ fn wakes(parts: &[Part]) -> Option<(u64, u64)> {
     None
 }
 
-/// The first wake met all, the second nobody, and each ticket was one part's, in its turn.
+/// The first wake woke all, the second woke none, and each ticket was that of one part, in order.
 fn each_was_woken_once<R: Abort>(rt: &R, parts: &[Part]) {
     sees(rt, "the wakes", &wakes(parts), &Some((WAITERS, 0)));
     for ticket in 1..=WAITERS {
@@ -104,7 +104,7 @@ fn each_was_woken_once<R: Abort>(rt: &R, parts: &[Part]) {
     }
 }
 
-/// All added to the number twice, and each condvar sent as many as it had added.
+/// Each waiter added to the number twice, and each condvar sent as many as it had added.
 fn all_were_sent<R: Abort>(rt: &R, left: &Left) {
     sees(rt, "the number", &left.number, &(2 * WAITERS));
     sees(

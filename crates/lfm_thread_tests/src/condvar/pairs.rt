@@ -1,4 +1,4 @@
-//! A mutex and a condvar that have two seats each, and a condvar that has one, with seats in hand.
+//! A mutex and a condvar with two seats each, and a condvar with one. The seats are in hand.
 ghost use Rattle.std.specs.Prelude.{◌≡◌, ℕ, [], IfSome};
 ghost use Rattle.lfm_mutex.specs.Belongs.{OfMutex, limits_of};
 ghost use Rattle.lfm_condvar.specs.Belongs.{OfCondvar, cond_limits};
@@ -34,7 +34,7 @@ fn two_cond_seats(condvar: &Condvar, mut seats: Vec<CondSeat>) -> Option<(CondSe
     Some((first, second))
 }
 
-/// A mutex round this value, and its two seats, each of which may take this often.
+/// A mutex around this value, and its two seats, each with this budget.
 pub fn mutex_of_two<T: Kept>(
     alloc: Global,
     budget: u64,
@@ -51,7 +51,7 @@ pub fn mutex_of_two<T: Kept>(
     Some((mutex, first, second))
 }
 
-/// A condvar, and its two cond seats, each of which may take this often.
+/// A condvar, and its two cond seats, each with this budget.
 pub fn condvar_of_two(alloc: Global, budget: u64) -> Option<(Condvar, CondSeat, CondSeat)>
     ensures seats { IfSome result (λ r. OfCondvar r.1 r.0 × OfCondvar r.2 r.0) }
     ensures two { IfSome result (λ r. (cond_limits r.0).seats ≡ 2) }
@@ -63,7 +63,7 @@ pub fn condvar_of_two(alloc: Global, budget: u64) -> Option<(Condvar, CondSeat, 
     Some((condvar, first, second))
 }
 
-/// A condvar, and its one cond seat, which may take once.
+/// A condvar, and its one cond seat, which has one take.
 pub fn condvar_of_one(alloc: Global) -> Option<(Condvar, CondSeat)>
     ensures seat { IfSome result (λ r. OfCondvar r.1 r.0) }
     ensures one { IfSome result (λ r. (cond_limits r.0).seats ≡ 1) }
@@ -75,7 +75,7 @@ pub fn condvar_of_one(alloc: Global) -> Option<(Condvar, CondSeat)>
     Some((condvar, seat))
 }
 
-/// A mutex round 7, whose seats may take this often, and two condvars for seat 1 alone. All seats are in hand.
+/// A mutex around 7, whose seats have this budget, and two condvars for seat 1 alone. All seats are in hand.
 pub fn in_hand_of_two_condvars(
     alloc: Global,
     budget: u64,
@@ -94,7 +94,7 @@ pub fn in_hand_of_two_condvars(
     Some((mutex, one_condvar, other_condvar, hand))
 }
 
-/// A mutex round this number, whose seats may take this often, and a condvar for both of them. All seats are in hand.
+/// A mutex around this number, whose seats have this budget, and a condvar for both of them. All seats are in hand.
 pub fn in_hand_of_one_condvar(
     alloc: Global,
     budget: u64,
@@ -113,7 +113,7 @@ pub fn in_hand_of_one_condvar(
     Some((mutex, condvar, hand))
 }
 
-/// Hands the cond seat back, in this empty list, which must close the condvar that has one: returns its numbers.
+/// Closes the condvar, which has one cond seat, with that in this empty list. Returns its numbers. None if it can't be closed.
 pub fn closed_by_one(
     condvar: Condvar,
     cond: CondSeat,
@@ -126,7 +126,7 @@ pub fn closed_by_one(
     condvar.close(room).ok()
 }
 
-/// Hands both cond seats back, in this empty list, which must close the condvar: returns its numbers.
+/// Closes the condvar with both cond seats in this empty list. Returns its numbers. None if it can't be closed.
 pub fn closed(
     condvar: Condvar,
     first: CondSeat,

@@ -1,4 +1,4 @@
-//! A seat that waits is sent past the condvar: its place in the list stays behind.
+//! A seat that waits is sent past the condvar: its place stays in the list.
 ghost use Rattle.lfm_mutex.specs.Belongs.{OfMutex};
 ghost use Rattle.lfm_condvar.specs.Belongs.{OfCondvar};
 ghost use Rattle.lfm_thread_tests.specs.Hands.{OfCalled};
@@ -65,7 +65,7 @@ fn wait_twice<R: Wait>(
     }
 }
 
-/// Sends seat 1 until that goes well.
+/// Sends seat 1 until a send is not refused.
 fn send_the_other(mutex: &Mutex<u64>, mut seat: Seat<u64>) -> Sent
     requires { OfMutex seat mutex.now }
     ensures { OfMutex result.seat mutex.now }
@@ -88,19 +88,19 @@ fn send_the_other(mutex: &Mutex<u64>, mut seat: Seat<u64>) -> Sent
     }
 }
 
-/// The send ended the first wait, and its place in the list stood in the way of the second.
+/// The send ended the first wait. The place that it left in the list made the second wait be refused.
 fn the_first_wait_was_sent<R: Abort>(rt: &R, waited: &Waited, sent: &Sent) {
-    holds(rt, "a send went well", sent.sent);
+    holds(rt, "a send was not refused", sent.sent);
     holds(
         rt,
-        "each send before it met nobody who waits",
+        "each send before it was refused as NotWaiting",
         sent.only_not_waiting,
     );
     sees(rt, "the ticket of the first wait", &waited.ticket, &Some(1));
     holds(rt, "the second wait was refused as Busy", waited.busy);
 }
 
-/// One thread waits twice with the first seat, and another sends that with the second. Returns the cond seat that is left too.
+/// One thread waits twice with the first seat, and another sends it with the second. Also returns the cond seat that is left.
 fn sends_past<R: Threads + Wait + Sync>(
     rt: &R,
     mutex: &Mutex<u64>,

@@ -1,6 +1,6 @@
 //! Calls that a condvar refuses, each for the first of its causes. After a refusal the readers answer as before, and no
-//! ticket was given. Each seat has two takes, the one condvar's cond seat one, and the other's none once it has woken nobody.
-//! Both condvars are for user seat 1 alone.
+//! ticket was given. Each seat has two takes. The cond seat of the one condvar has one take, and that of the other none after
+//! its first wake. Both condvars are for user seat 1 alone.
 
 use crate::condvar::driving::on_two_condvars;
 use crate::condvar::steps::{By, Step};
@@ -8,16 +8,16 @@ use crate::seeing::sees;
 use lfm_model::{Asked, How, Refusal, SeatNo, Unlocked};
 use std::test::Fail;
 
-/// The other cond seat gives its one take for a wake of nobody, and then has none left. The first seat doesn't hold, and then
-/// holds; the second falls asleep. Its calls are refused for that, whatever cond seat they have. The first seat holds once and
-/// then twice, and gives both holds up to the second, whose number is above the condvars' seats. Then each seat makes its last
-/// take, and could not make the one that ends a wait.
+/// The other cond seat uses its one take in a wake that finds no waiter, and then has none left. The first seat doesn't hold,
+/// and then holds; the second falls asleep, and its calls are refused for that, with either cond seat. The first seat holds
+/// once and then twice, and hands the mutex off to the second, whose number is above the condvars' seats. Then each seat makes
+/// its last take, and could not make the one that ends a wait.
 fn refused_in_order() -> [(By, Step); 27] {
     [
         (By::FirstOnOther, Step::WakeOne(Ok(None))),
         (By::FirstOnOther, Step::Wake(Refusal::Spent)),
-        // it doesn't hold, and so would find the cond seat spent
         (By::First, Step::Wait(Refusal::NotOwner)),
+        // not Spent: that the seat doesn't hold is checked first
         (By::FirstOnOther, Step::Wait(Refusal::NotOwner)),
         (By::First, Step::Ask(Ok(Asked::Held(How::Free)))),
         (By::Second, Step::Ask(Ok(Asked::Asleep))),

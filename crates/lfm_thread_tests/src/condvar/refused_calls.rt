@@ -1,4 +1,4 @@
-//! Calls of a condvar that tell why they were refused, if the readers of the seats answer as before. No test stands here.
+//! Calls of a condvar that return why they were refused, if the readers of the seats answer as before. It has no test.
 ghost use Rattle.std.specs.Prelude.{◌≤◌};
 ghost use Rattle.lfm_mutex.specs.Belongs.{OfMutex, limits_of};
 ghost use Rattle.lfm_condvar.specs.Belongs.{OfCondvar, cond_limits};
@@ -8,7 +8,7 @@ use lfm_model::{Refusal, SeatNo};
 use lfm_mutex::{Holder, Mutex, Seat};
 use std::sync::Wait;
 
-/// What the readers tell of a seat, its mutex and a cond seat.
+/// What the readers of a seat, its mutex and a cond seat answer.
 #[derive(Clone, Copy, PartialEq, Eq)]
 struct Readings {
     depth: u32,
@@ -22,7 +22,7 @@ struct Readings {
 }
 
 impl Readings {
-    /// What they tell now.
+    /// What they answer now.
     fn of(mutex: &Mutex<u64>, seat: &mut Seat<u64>, cond: &CondSeat) -> Readings
         requires { OfMutex seat.old mutex.now }
         ensures { OfMutex seat.new mutex.now }

@@ -1,5 +1,5 @@
-//! Waits for as long as a condition on the number holds: none if it is false at once, one for each wake that finds it true,
-//! and refusals.
+//! Waits for as long as a condition on the number holds: no wait if it is false at once, one further wait after each wake-up
+//! that finds it true, and refusals.
 ghost use Rattle.lfm_test_tools.specs.Parts.{OfShared};
 
 use crate::condvar::driving::{on_one_condvar, on_two_condvars};
@@ -13,8 +13,8 @@ use lfm_test_tools::two_condvars::tasks::{Task, perform_all};
 use std::sync::Wait;
 use std::test::Fail;
 
-/// The seat holds a number that is 7, and the condition that it is less than 7 is false: it holds as before, also in a deeper
-/// hold.
+/// The seat holds, and the number is 7, so the condition that it is less than 7 is false: the seat holds as before, also in a
+/// deeper hold.
 fn need_not_wait() -> [(By, Step); 8] {
     [
         (By::First, Step::Ask(Ok(Asked::Held(How::Free)))),
@@ -34,9 +34,9 @@ fn no_wait_if_the_condition_is_false(rt: HostRuntime) -> Result<(), Fail> {
     Ok(())
 }
 
-/// Neither seat waits on a condvar for seat 1 alone, of whose mutex each seat has two takes. The first doesn't hold, and then
-/// holds twice; the second sleeps. Then the second is above the condvar's seats, and the first makes its last take, so that it
-/// could not make the one that ends a wait.
+/// No call waits. The condvar is for seat 1 alone, and each seat has two takes. The first seat doesn't hold, and then holds
+/// twice; the second sleeps. Then the second holds, and its number is above the condvar's seats. Then the first makes its last
+/// take, so that it could not make the one that ends a wait.
 fn refused_as_wait() -> [(By, Step); 17] {
     let to_second = Ok(Unlocked::Granted(SeatNo::known(2)));
     [
@@ -66,7 +66,7 @@ fn wait_while_is_refused_as_wait(rt: HostRuntime) -> Result<(), Fail> {
     Ok(())
 }
 
-/// The first seat begins to wait, and the second sends it past the condvar, so that its place in the list stays.
+/// The first seat begins to wait, and the second sends it past the condvar, so that its place stays in the list.
 fn is_sent_past() -> [(By, Step); 7] {
     [
         (By::First, Step::Ask(Ok(Asked::Held(How::Free)))),
@@ -82,7 +82,7 @@ fn is_sent_past() -> [(By, Step); 7] {
 #[test]
 fn wait_while_finds_its_place_in_the_list(rt: HostRuntime) -> Result<(), Fail> {
     let numbers = on_one_condvar(&rt, rt.alloc(), 7, &is_sent_past());
-    // the wait that was sent past it was added, and is not sent
+    // the wait that was sent past the condvar was added, and is not counted as sent
     sees(&rt, "the numbers", &numbers, &Some((0, 1)));
     Ok(())
 }
@@ -90,8 +90,8 @@ fn wait_while_finds_its_place_in_the_list(rt: HostRuntime) -> Result<(), Fail> {
 /// How often the second thread adds 1, in a hold of its own each time.
 const ADDS: u64 = 3;
 
-/// Adds 1, tells it on the second condvar, and waits on the first one while the number is less than one more than what the
-/// other thread adds. Notes what it then finds.
+/// Adds 1, wakes the other thread on the second condvar, and waits on the first until the number is one more than all that the
+/// other thread adds. Notes the number that it then finds.
 fn wait_for_all<R: Wait>(rt: &R, shared: &Shared, mut part: Part) -> Part
     requires { OfShared part shared.now }
     ensures { OfShared result shared.now }
@@ -105,8 +105,8 @@ fn wait_for_all<R: Wait>(rt: &R, shared: &Shared, mut part: Part) -> Part
     part
 }
 
-/// Adds 1 in each of its holds, once the other thread has begun, and wakes that. Since it leaves the mutex to the other then,
-/// which it has queued, the other looks after each.
+/// Adds 1 in each of its holds, once the other thread has begun, and wakes that thread. The wake queues the other thread, so
+/// the unlock hands the mutex off to it, and it reads the number after each addition.
 fn add_and_wake<R: Wait>(rt: &R, shared: &Shared, mut part: Part) -> Part
     requires { OfShared part shared.now }
     ensures { OfShared result shared.now }
@@ -135,7 +135,7 @@ impl<R: Wait> Task<R> for WaitsOrAdds {
     }
 }
 
-/// What the parts found, one of which noted nothing.
+/// The sum of the numbers that the parts noted. One of the two noted none.
 fn found(parts: &[Part]) -> u64 {
     let mut found = 0u64;
     for part in parts {
@@ -151,7 +151,7 @@ fn waits_end_if_the_condition_is_false(rt: HostRuntime) -> Result<(), Fail> {
     sees(&rt, "the number that was found", &found(&parts), &4);
     let left = shared.close(rt.alloc(), parts).ok_or("all are back")?;
     sees(&rt, "the number", &left.number, &4);
-    // it waited before each of the three that were added
+    // it waited before each of the three additions
     sees(&rt, "the first condvar's numbers", &left.first, &(3, 3));
     sees(
         &rt,

@@ -1,5 +1,5 @@
-//! Calls of the two seats that one thread has in hand, each with what it must answer, made in order. A call that must be
-//! refused must also leave what the readers of its seats answer. No test stands here.
+//! Calls of the two seats that one thread has in hand, each with what it must answer, made in order. After a call that must be
+//! refused, the readers of its seats must answer as before. It has no test.
 ghost use Rattle.std.specs.Prelude.{◌≤◌};
 ghost use Rattle.lfm_mutex.specs.Belongs.{OfMutex, limits_of};
 ghost use Rattle.lfm_condvar.specs.Belongs.{OfCondvar, cond_limits};
@@ -28,9 +28,9 @@ pub enum Step {
     /// A `wait_while`, while the number in hand is less than this.
     WaitWhileLess(u64, Result<(), Refusal>),
     WakeOne(Result<Option<(SeatNo, u64)>, Refusal>),
-    /// A `wait` that is refused so.
+    /// A `wait` with this refusal.
     Wait(Refusal),
-    /// A `wake_one` and a `wake_all` that are refused so.
+    /// A `wake_one` and a `wake_all`, each with this refusal.
     Wake(Refusal),
     /// At which depth the seat holds.
     Depth(u32),
@@ -40,7 +40,7 @@ pub enum Step {
     CondTakes(u64),
 }
 
-/// Which of the two seats makes a step. It does so on the one condvar if the other is not named.
+/// Which of the two seats makes a step, and on which condvar. It is the one condvar if the other is not named.
 #[derive(Clone, Copy)]
 pub enum By {
     First,
@@ -49,7 +49,7 @@ pub enum By {
     SecondOnOther,
 }
 
-/// Makes a step with this place among the steps, and checks that it answers as it must.
+/// Makes the step at this index, and checks its answer.
 fn make<R: Wait + Abort>(
     rt: &R,
     condvar: &Condvar,

@@ -38,7 +38,7 @@ struct Woke {
     spent: bool,
 }
 
-/// Reads the number under the mutex; 0 if the seat did not come to hold.
+/// Reads the number under the mutex; 0 if the seat did not acquire it.
 fn read<R: Wait>(rt: &R, mutex: &Mutex<u64>, seat: &mut Seat<u64>) -> u64
     requires { OfMutex seat.old mutex.now }
     ensures { OfMutex seat.new mutex.now }
@@ -117,7 +117,7 @@ fn read_and_wake<R: Wait>(
     }
 }
 
-/// The calls of a thread that is alone answer as they should: nobody waits, and it doesn't hold.
+/// The calls of a thread that is alone answer as they should: no seat waits, and its seat doesn't hold.
 fn alone<R: Wait + Abort>(
     rt: &R,
     mutex: &Mutex<u64>,
@@ -139,7 +139,7 @@ fn alone<R: Wait + Abort>(
     sees(rt, "wait", &waited, &Err(Refusal::NotOwner));
 }
 
-/// The first wake met the wait, the second met nobody, and the third was refused.
+/// The first wake ended the wait, the second found no waiter, and the third was refused.
 fn one_wake_ended_the_wait<R: Abort>(rt: &R, woke: &Woke, waited: &Waited) {
     sees(
         rt,
@@ -147,13 +147,14 @@ fn one_wake_ended_the_wait<R: Abort>(rt: &R, woke: &Woke, waited: &Waited) {
         &woke.first,
         &Some((SeatNo::known(2), 1)),
     );
-    holds(rt, "the second wake met nobody", woke.none);
+    holds(rt, "the second wake found no waiter", woke.none);
     holds(rt, "the third wake was refused as Spent", woke.spent);
     sees(rt, "the ticket of the wait", &waited.ticket, &Some(1));
     sees(rt, "the depth after the wait", &waited.depth, &1);
 }
 
-/// One thread waits with the second seat, and another wakes it with the first, once its calls have answered alone.
+/// One thread waits with the second seat, and another wakes it with the first. Before these threads start, the calls of the
+/// first seat are tested alone.
 fn wakes_the_other<R: Threads + Wait + Abort + Sync>(
     rt: &R,
     mutex: &Mutex<u64>,

@@ -1,5 +1,5 @@
-//! Calls of a monitor round a total, with no more of their contracts than the tests need: the pass stays the monitor's. No test
-//! stands here.
+//! Calls of a monitor around a total, with no more of their contracts than the tests need: the pass stays the monitor's. It has
+//! no test.
 ghost use Rattle.lfm_thread_tests.specs.Ours.{Ours};
 
 use lfm_model::{Refusal, Total, TotalOp};
@@ -20,7 +20,7 @@ pub fn hold<R: Wait, S: CriticalSection<Total, R>>(
     monitor.hold(rt, pass, round, section)
 }
 
-/// `apply_until`, up to a reply that is at least this.
+/// `apply_until`, until a reply is at least this.
 pub fn apply_until<R: Wait>(
     rt: &R,
     monitor: &Monitor<Total>,
@@ -35,7 +35,7 @@ pub fn apply_until<R: Wait>(
     monitor.apply_until(rt, pass, condition, op, |total| *total >= least)
 }
 
-/// Enters this number of times, and adds 1 in each hold if it is to.
+/// Enters this number of times, and adds 1 in each hold if `adds` is true.
 pub fn deepen<R: Wait>(
     rt: &R,
     monitor: &Monitor<Total>,

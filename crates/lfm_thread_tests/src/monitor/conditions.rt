@@ -1,12 +1,12 @@
-//! Waits and wakes that a monitor refuses, each for the first of its causes, and what its calls answer if nobody waits.
+//! Waits and wakes that a monitor refuses, each for the first of its causes, and what its calls answer if no pass waits.
 use crate::monitor::driving::{one_makes, two_make};
 use crate::monitor::steps::{By, Step};
 use lfm_model::{Asked, How, Locked, Refusal, SeatNo, TotalOp, Unlocked};
 use std::test::Fail;
 
-/// Nobody waits, and the first pass doesn't hold; then it holds once and twice. The second sleeps, and is refused everything
-/// but a receive. None of these calls has written anything but the first take of the first pass. It gives its two holds up to
-/// the second pass, and that leaves.
+/// No pass waits, and the first doesn't hold; then it holds once and twice. The second sleeps, and is refused everything except
+/// a receive. Of these calls only the first take of the first pass has written an entry. Then the first pass leaves both holds,
+/// which hands the monitor off to the second, and the second leaves.
 fn refused_and_left() -> [(By, Step); 24] {
     let to_second = Ok(Unlocked::Granted(SeatNo::known(2)));
     [
@@ -42,8 +42,8 @@ fn conditions(rt: HostRuntime) -> Result<(), Fail> {
     two_make(&rt, rt.alloc(), 8, 1, &refused_and_left())
 }
 
-/// The pass uses up its two entries while it holds. Then the take that ends a wait could not be written; that there is no
-/// condition 7 is not looked at. It wakes nobody, leaves, and may not hold again.
+/// The pass uses up its two entries while it holds. Then the take that ends a wait could not be written. A wait on condition 7
+/// is refused for that too, although there is no such condition. The pass wakes no other, leaves, and may not hold again.
 const SPENT: [Step; 9] = [
     Step::Enter(Ok(Locked::Held(How::Free))),
     Step::Apply(TotalOp::Add(1), Ok(1)),

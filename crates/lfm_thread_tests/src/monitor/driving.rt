@@ -1,4 +1,4 @@
-//! Steps that one thread makes on a new monitor, by its one pass or its two. No test stands here.
+//! Steps that one thread makes on a new monitor, by its one pass or its two. It has no test.
 
 use crate::monitor::passes::{closed_by_one, monitor_of_one, monitor_of_two};
 use crate::monitor::steps::{By, Step, make_all, make_alone};

@@ -11,7 +11,7 @@ fn refused(alloc: Global, passes: u64, entries: u64, conditions: u64) -> Option<
     Monitor::new(alloc, passes, entries, conditions, Total(0)).err()
 }
 
-/// How many passes, entries and conditions no monitor can have.
+/// Numbers of passes, entries and conditions that no monitor can have.
 const TOO_FEW_OR_MANY: [(u64, u64, u64); 5] = [
     (0, 1, 0),
     (4_096, 1, 0),

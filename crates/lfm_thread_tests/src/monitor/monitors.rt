@@ -19,7 +19,7 @@ use std::test::Fail;
 /// The object and the journal of a monitor that is closed.
 type Closed = (Total, Vec<Entry<TotalOp>>);
 
-/// Hands the first of two passes back, which must not close the monitor yet: returns what is missing, and all three again.
+/// Hands back only the first of two passes, so the monitor must not be closed. Returns all three again, and what is missing.
 fn kept_alone(
     monitor: Monitor<Total>,
     first: Pass<Total>,
@@ -44,7 +44,7 @@ fn entry(seat: SeatNo, what: What<TotalOp>) -> Entry<TotalOp> {
     Entry { seat, what }
 }
 
-/// What the two passes write down in `a_monitor_in_one_thread`.
+/// What the two passes write into the journal in `a_monitor_in_one_thread`.
 fn written() -> [Entry<TotalOp>; 6] {
     let first = SeatNo::known(1);
     let second = SeatNo::known(2);
@@ -58,8 +58,8 @@ fn written() -> [Entry<TotalOp>; 6] {
     ]
 }
 
-/// The first pass holds and adds 5, and leaves the second to hold, which asked; that adds 7, and leaves the first to hold,
-/// which asked again, and reads the total that both came to.
+/// The first pass holds, adds 5, and hands the monitor off to the second, which asked. The second adds 7, and hands off to the
+/// first, which asked again and reads the total of both.
 fn turns() -> [(By, Step); 17] {
     let to_first = Ok(Unlocked::Granted(SeatNo::known(1)));
     let to_second = Ok(Unlocked::Granted(SeatNo::known(2)));
@@ -84,8 +84,8 @@ fn turns() -> [(By, Step); 17] {
     ]
 }
 
-/// The two passes of a new monitor take their turns, and are handed back. Returns what was missing before the second was, and
-/// what the monitor is closed with.
+/// The two passes of a new monitor take their turns, and are handed back. Returns what was missing before the second was back,
+/// and what the monitor is closed with.
 fn taken_in_turns<R: Wait + Abort>(rt: &R, alloc: Global) -> Option<(Missing, Closed)> {
     let (monitor, mut first, mut second) = monitor_of_two(alloc, 8, 0)?;
     make_all(rt, &monitor, &mut first, &mut second, &turns());

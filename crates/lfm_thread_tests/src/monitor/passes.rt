@@ -1,5 +1,4 @@
-//! A monitor is made, with one or two passes that may make commands, and is closed once they are handed back. No test stands
-//! here.
+//! A monitor is made, with one or two passes that may make commands, and is closed once they are handed back. It has no test.
 ghost use Rattle.lfm_monitor.specs.Belongs.{OfMonitor};
 ghost use Rattle.lfm_program.specs.Workers.{ReadyFor};
 ghost use Rattle.std.specs.Prelude.{◌≡◌, ℕ, [], IfSome};
@@ -10,7 +9,7 @@ use lfm_model::{Entry, Total, TotalOp};
 use lfm_monitor::{Monitor, Pass};
 use std::alloc::Global;
 
-/// A monitor round 0, and its passes.
+/// A monitor around 0, and its passes.
 fn opened(
     alloc: Global,
     passes: u64,
@@ -25,7 +24,7 @@ fn opened(
     Some((monitor, passes))
 }
 
-/// A monitor round 0 and its one pass, which may write this number of entries.
+/// A monitor around 0 and its one pass, which may write this number of entries.
 pub fn monitor_of_one(
     alloc: Global,
     entries: u64,
@@ -38,7 +37,7 @@ pub fn monitor_of_one(
     Some((monitor, pass))
 }
 
-/// A monitor round 0 and its two passes, each of which may write this number of entries.
+/// A monitor around 0 and its two passes, each of which may write this number of entries.
 pub fn monitor_of_two(
     alloc: Global,
     entries: u64,
@@ -52,7 +51,7 @@ pub fn monitor_of_two(
     Some((monitor, first, second))
 }
 
-/// Hands the one pass back, in this empty list, which must close the monitor: returns its object.
+/// Closes the monitor with its one pass in this empty list. Returns its object. None if it can't be closed.
 pub fn closed_by_one(
     monitor: Monitor<Total>,
     pass: Pass<Total>,
@@ -66,7 +65,7 @@ pub fn closed_by_one(
     Some(total)
 }
 
-/// Hands both passes back, in this empty list, which must close the monitor: returns its object and its journal.
+/// Closes the monitor with both passes in this empty list. Returns its object and its journal. None if it can't be closed.
 pub fn closed_by_two(
     monitor: Monitor<Total>,
     first: Pass<Total>,

@@ -7,15 +7,15 @@ use std::ops::ControlFlow;
 use std::sync::Wait;
 use std::test::Fail;
 
-/// How many numbers go through the slot: 1, 2, 3 and on. The first producer puts in the odd ones, the second the even ones.
+/// How many numbers go through the slot: 1, 2, 3 and so on. The first producer puts in the odd ones, the second the even ones.
 const NUMBERS: u64 = 4_000;
 
 /// How many pairs of numbers each of the four threads puts in, or takes out.
 const PAIRS: u64 = 1_000;
 
-/// How many entries of the journal a thread may write. A pair costs it two, a take and an op, and so does each wait. A wait
-/// ends by a wake, and each condition has one wake for each pair, 2,000 in all. So a thread writes at most 6,000 entries, even
-/// if it gets all the wakes of its condition. The journal has room for 1,048,576.
+/// How many journal entries a thread may write. A pair costs it two, a take and an op, and so does each wait. A wait ends by a
+/// wake-up, and each condition has one wake-up for each pair, 2,000 in all. So a thread writes at most 6,000 entries, even if
+/// it gets all wake-ups of its condition. The journal has room for 1,048,576.
 const ENTRIES: u64 = 6_000;
 
 /// The condition of those that found the slot empty, and of those that found it full.
@@ -34,7 +34,7 @@ fn op_of(pass: u64, turn: u64) -> SlotOp {
 }
 
 /// Moves one pair in each of its rounds: makes the pass's op until it succeeds, with a wait on a condition before each further
-/// try, and then wakes one that waits on the other condition.
+/// try, and then wakes one pass that waits on the other condition.
 struct MovesPairs;
 
 impl<R: Wait> CriticalSection<Slot, R> for MovesPairs {
@@ -59,8 +59,8 @@ impl<R: Wait> CriticalSection<Slot, R> for MovesPairs {
     }
 }
 
-/// The odd and the even number that come next after those that were taken out. None if some number came out of turn: the
-/// odd ones are 1, 3, 5 and on, and the even ones 2, 4, 6 and on, each of them once.
+/// The odd and the even number that come next after those that were taken out. None if a number was out of order: the odd ones
+/// are 1, 3, 5 and so on, and the even ones 2, 4, 6 and so on, each of them once.
 fn next_numbers(replies: &[SlotReply]) -> Option<(u64, u64)> {
     let mut odd = 1u64;
     let mut even = 2u64;

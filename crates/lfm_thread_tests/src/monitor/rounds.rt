@@ -12,7 +12,7 @@ use std::thread::Threads;
 /// What is known of a pass that has made its rounds: its number, its depth and how many entries are its own.
 type Ended = (u64, u32, u64);
 
-/// Adds the number of the round to the total, and breaks off in the round with this number.
+/// Adds the number of the round to the total, and ends the rounds after the round with this number.
 #[derive(Clone, Copy)]
 struct AddsRounds {
     last: u64,
@@ -48,8 +48,8 @@ fn ended(alloc: Global, passes: &[Pass<Total>]) -> Result<Vec<Ended>, AllocError
     Ok(ended)
 }
 
-/// Three passes that may write this number of entries make this number of rounds, and break off in the last. Returns what is
-/// known of each pass, and the total that the monitor is closed with.
+/// Three passes that may write this number of entries make at most this number of rounds, and end after the last. Returns what
+/// is known of each pass, and the total that the monitor is closed with.
 fn rounded<R: Threads + Wait + Sync>(
     rt: &R,
     alloc: Global,
@@ -66,7 +66,7 @@ fn rounded<R: Threads + Wait + Sync>(
     Ok((ended, total))
 }
 
-/// Checks that all three passes are back in their order, and none holds, with this number of entries of each, and the total.
+/// Checks that all three passes are back in their order, that none holds, how many entries each wrote, and the total.
 fn sees_ended<R: Abort>(rt: &R, ended: &[Ended], mine: u64, total: Total, wanted: u64) {
     let passes = [(1, 0, mine), (2, 0, mine), (3, 0, mine)];
     assert_eq!(*rt; *ended, *passes.as_slice());

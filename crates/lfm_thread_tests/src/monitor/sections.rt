@@ -57,8 +57,8 @@ impl<R: Wait> CriticalSection<Total, R> for AddsToSome {
     }
 }
 
-/// Enters this number of times more, and gives none of these holds up. In each it adds 1, if it is to. Answers how often the
-/// pass holds then.
+/// Enters this number of further times, and leaves none of these holds. In each it adds 1 if `adds` is true. Answers the depth
+/// at which the pass then holds.
 #[derive(Clone, Copy)]
 struct Deepens {
     holds: u64,
@@ -68,7 +68,7 @@ struct Deepens {
 impl<R: Wait> CriticalSection<Total, R> for Deepens {
     type Answer = u64;
 
-    /// Enters on, and leaves the holds to be given up.
+    /// Enters, and leaves none of its holds: the monitor must end them.
     fn execute(
         &self,
         rt: &R,
@@ -82,13 +82,13 @@ impl<R: Wait> CriticalSection<Total, R> for Deepens {
     }
 }
 
-/// Answers the number of its round, and adds 1,000 for each hold.
+/// Answers the number of its round, plus 1,000 for each hold.
 struct TellsRound;
 
 impl<R: Wait> CriticalSection<Total, R> for TellsRound {
     type Answer = u64;
 
-    /// Reads nothing of the monitor: only the pass's depth and the round.
+    /// Reads only the pass's depth and the round.
     fn execute(
         &self,
         rt: &R,
@@ -101,7 +101,7 @@ impl<R: Wait> CriticalSection<Total, R> for TellsRound {
     }
 }
 
-/// Enters this number of times more, and executes a section inside of this one, in round 9.
+/// Enters this number of further times, and executes a section inside of this one, in round 9.
 #[derive(Clone, Copy)]
 struct Nests {
     holds: u64,
@@ -110,7 +110,7 @@ struct Nests {
 impl<R: Wait> CriticalSection<Total, R> for Nests {
     type Answer = u64;
 
-    /// Deepens, and holds once more within.
+    /// Deepens its hold, and executes the inner section in one more.
     fn execute(
         &self,
         rt: &R,
@@ -125,7 +125,7 @@ impl<R: Wait> CriticalSection<Total, R> for Nests {
 }
 
 /// A pass of a new monitor that may write this number of entries makes the first steps, executes the section in round 8, which
-/// must answer so, and makes the last steps. Then nobody holds.
+/// must answer this, and makes the last steps. Then no pass holds.
 fn executes<R: Wait + Abort, S: CriticalSection<Total, R, Answer = u64>>(
     rt: &R,
     alloc: Global,
@@ -274,7 +274,7 @@ fn refused_section_inside_of_a_section(rt: HostRuntime) -> Result<(), Fail> {
     executes(&rt, rt.alloc(), 1, &[], &section, full, &after)
 }
 
-/// What a section would see that is not executed: in one that is, the pass holds.
+/// A step that would fail in a section that is executed, since the pass holds there. The section must not be executed.
 const NEVER: [Step; 1] = [Step::Depth(0)];
 
 #[test]

@@ -1,4 +1,4 @@
-//! Calls of the passes of a monitor, each with what it must answer, made in order by one thread. No test stands here.
+//! Calls of the passes of a monitor, each with what it must answer, made in order by one thread. It has no test.
 ghost use Rattle.lfm_thread_tests.specs.Ours.{Ours};
 
 use crate::monitor::calls::apply_until;
@@ -16,7 +16,7 @@ pub enum Step {
     Enter(Result<Locked, Refusal>),
     TryReceive(Result<Option<How>, Refusal>),
     Apply(TotalOp, Result<u64, Refusal>),
-    /// `apply_until`, on the condition with this number, of an op whose reply is to be at least this.
+    /// `apply_until`, on the condition with this number, of an op until its reply is at least this.
     ApplyUntil(u64, TotalOp, u64, Result<u64, Refusal>),
     Leave(Result<Unlocked, Refusal>),
     /// The first number of these three is that of the condition.
@@ -38,7 +38,7 @@ pub enum By {
     Second,
 }
 
-/// Makes a step with this place among the steps, and checks that it answers as it must.
+/// Makes the step at this index, and checks its answer.
 fn make<R: Wait + Abort>(
     rt: &R,
     monitor: &Monitor<Total>,

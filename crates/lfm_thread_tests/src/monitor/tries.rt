@@ -1,4 +1,4 @@
-//! Ops that a pass makes until the reply is what it looks for: at once, after waits, and refused.
+//! Ops that a pass makes until it gets the reply that it needs: at once, after waits, and refused.
 
 use crate::monitor::calls::apply_until;
 use crate::monitor::driving::{one_makes, two_make};
@@ -42,27 +42,27 @@ fn try_of_a_deeper_hold_that_goes_well_at_once(rt: HostRuntime) -> Result<(), Fa
     Ok(())
 }
 
-/// A try of an op whose reply is not the one looked for, on the condition with this number, and the refusal of its wait.
-fn in_vain(condition: u64, refusal: Refusal) -> Step {
+/// A try of an op whose reply is not the one needed, on the condition with this number, and the refusal of its wait.
+fn refused_try(condition: u64, refusal: Refusal) -> Step {
     Step::ApplyUntil(condition, TotalOp::Add(1), 1_000, Err(refusal))
 }
 
-/// There is no such condition, then the hold is deeper, then there is no entry for the wait, and then none for the op.
+/// There is no such condition; then the hold is too deep; then no entry is left for the wait, and then none for the op.
 fn refused_waits() -> [Step; 16] {
     [
         ENTERS,
-        in_vain(2, Refusal::NoSuchSeat),
+        refused_try(2, Refusal::NoSuchSeat),
         Step::Depth(1),
         Step::Mine(2),
         Step::Enter(Ok(Locked::Again(2))),
-        in_vain(1, Refusal::Nested),
+        refused_try(1, Refusal::Nested),
         Step::Depth(2),
         Step::Mine(3),
         Step::Leave(Ok(Unlocked::Still(1))),
-        in_vain(1, Refusal::Spent),
+        refused_try(1, Refusal::Spent),
         Step::Depth(1),
         Step::Mine(4),
-        in_vain(1, Refusal::Spent),
+        refused_try(1, Refusal::Spent),
         Step::Depth(1),
         Step::Mine(4),
         Step::Leave(Ok(Unlocked::Free)),
@@ -80,12 +80,12 @@ fn try_whose_wait_is_refused_was_made(rt: HostRuntime) -> Result<(), Fail> {
 /// The first pass doesn't hold, and then holds; the second sleeps.
 fn not_made() -> [(By, Step); 9] {
     [
-        (By::First, in_vain(1, Refusal::NotOwner)),
+        (By::First, refused_try(1, Refusal::NotOwner)),
         (By::First, Step::Depth(0)),
         (By::First, Step::Mine(0)),
         (By::First, ENTERS),
         (By::Second, Step::Ask(Ok(Asked::Asleep))),
-        (By::Second, in_vain(1, Refusal::Asleep)),
+        (By::Second, refused_try(1, Refusal::Asleep)),
         (By::Second, Step::Depth(0)),
         (By::Second, Step::Mine(0)),
         (By::First, Step::Apply(TotalOp::Read, Ok(0))),
@@ -106,9 +106,9 @@ const ADDED: u64 = 2;
 /// How much the second pass adds, 1 in each hold.
 const ADDS: u64 = 3;
 
-/// The first pass adds 1, and reads until the total is one more than what the second adds. The second adds 1 in each of its
-/// rounds, once the first has begun, and wakes the first. Since it leaves the monitor to the first then, which it has queued,
-/// the first reads after each of its ops.
+/// The first pass adds 1, and reads until the total is one more than all that the second adds. The second adds 1 in each of its
+/// rounds, once the first has begun, and wakes the first. The wake queues the first, so the end of the round hands the monitor
+/// off to it, and it reads the total after each addition.
 struct Roles;
 
 impl<R: Wait> CriticalSection<Total, R> for Roles {
@@ -166,7 +166,7 @@ fn tries_end_at_the_first_reply_that_is_looked_for(rt: HostRuntime) -> Result<()
     sees(&rt, "the total", &total, &Total(4));
     let (_, replies) = replay(rt.alloc(), Total(0), &journal)?;
     let own = to_the_first(rt.alloc(), &journal, &replies)?;
-    // its own op, a first look, and a look after each of the three that were added
+    // its own op, a first read, and a read after each of the three additions
     assert_eq!(rt; own.as_slice(), [1, 1, 2, 3, 4].as_slice());
     Ok(())
 }

@@ -1,4 +1,5 @@
-//! When a seat that locks by `lock_barging` queues: not while its pace lets it try, and then as a seat that locks by `lock`.
+//! When a seat that locks by `lock_barging` queues: not while its pace lets it try, and after that as a seat that locks by
+//! `lock`.
 ghost use Rattle.std.specs.Prelude.{All};
 ghost use Rattle.lfm_mutex.specs.Belongs.{OfMutex};
 
@@ -18,10 +19,10 @@ use std::time::{Clock, Duration};
 /// How long seat 1 holds each time, in milliseconds.
 const HELD: u64 = 1;
 
-/// How many holds seat 1 makes if nobody may queue.
+/// How many holds seat 1 makes if no seat may queue.
 const SOME_HOLDS: u64 = 20;
 
-/// How many holds seat 1 makes at most until somebody queues.
+/// How many holds seat 1 makes at most until a seat queues.
 const MANY_HOLDS: u64 = 20_000;
 
 /// How many holds seat 1 makes at most, and whether it has ended.
@@ -32,7 +33,7 @@ struct Holding {
 }
 
 /// Holds the mutex at most this many times, each time for a while, until an unlock finds a seat in the queue. Returns whether
-/// one did. The seat gains the mutex by `try_lock`, so that it never queues itself.
+/// one did. The seat acquires the mutex by `try_lock`, so that it never queues itself.
 fn hold_until_one_queues<R: Wait + Clock>(
     rt: &R,
     mutex: &Mutex<u64>,
@@ -58,8 +59,8 @@ fn hold_until_one_queues<R: Wait + Clock>(
     unreachable!()
 }
 
-/// Locks by `lock_barging` again and again, until the seat comes to hold from the queue or seat 1 has ended. Returns whether
-/// the seat was the first to come from the queue.
+/// Locks by `lock_barging` again and again, until the seat acquires the mutex from the queue or seat 1 has ended. Returns
+/// whether the seat was the first that acquired it from the queue.
 fn barge_until_queued<R: Wait>(
     rt: &R,
     mutex: &Mutex<u64>,
@@ -113,7 +114,7 @@ fn take_parts<R: Threads + Wait + Clock + Sync>(
 }
 
 /// Seat 1 holds at most this many times, and seat 2 barges at this pace. Returns whether seat 1 found a seat in the queue, and
-/// whether seat 2 came from the queue.
+/// whether seat 2 acquired the mutex from the queue.
 fn barged<R: Threads + Wait + Clock + Sync>(
     rt: &R,
     alloc: Global,

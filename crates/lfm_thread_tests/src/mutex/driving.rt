@@ -1,5 +1,5 @@
-//! How a schedule is driven through the core's state and through a running mutex. Each line stands beside the turn that it is
-//! to end with. No test stands here.
+//! How a schedule is driven through the core's state and through a running mutex. Each line is paired with the turn with which
+//! it must end. It has no test.
 ghost use Rattle.std.specs.Prelude.{All};
 ghost use Rattle.lfm_core.specs.text.Grammar.{HasFewSteps};
 ghost use Rattle.lfm_mutex.specs.Belongs.{OfMutex};
@@ -41,7 +41,7 @@ fn drives_as(
     as_expected
 }
 
-/// Whether the line of this number, which counts from 0, is to end with this turn.
+/// Whether the line with this number, counted from 0, must end with this turn.
 fn is_turn(expected: &[Driven], index: usize, turn: Turn) -> bool {
     match expected.get(index) {
         Some((_, wanted)) => *wanted == turn,
@@ -58,7 +58,7 @@ fn are_turns(expected: &[Driven], turns: &[Turn]) -> bool {
     as_expected
 }
 
-/// Whether each line ends with its turn, of the core's state.
+/// Whether each line ends with its turn on the core's state.
 fn runs_as(alloc: Global, schedule: &Schedule, expected: &[Driven]) -> Result<bool, Fail>
     requires { All (λ l. HasFewSteps l.act) schedule.now.lines.items }
 {
@@ -67,13 +67,13 @@ fn runs_as(alloc: Global, schedule: &Schedule, expected: &[Driven]) -> Result<bo
     Ok(are_turns(expected, &turns))
 }
 
-/// Whether each line ends with its turn, of a new running mutex.
+/// Whether each line ends with its turn on a new running mutex.
 fn drives_new_as(alloc: Global, schedule: &Schedule, expected: &[Driven]) -> Result<bool, Fail> {
     let (mutex, mut seats) = Mutex::new(alloc, schedule.seats, schedule.budget, 0u64)?;
     Ok(drives_as(&mutex, seats.as_mut_slice(), &schedule.lines, expected))
 }
 
-/// Whether each line ends with its turn, of the core's state and of a running mutex of these sizes.
+/// Whether each line ends with its turn, both on the core's state and on a running mutex of these sizes.
 pub fn goes(alloc: Global, sizes: &str, expected: &[Driven]) -> Result<bool, Fail> {
     let text = schedule_of(alloc, sizes, expected)?;
     let schedule = read_schedule(alloc, &text)?;

@@ -1,4 +1,4 @@
-//! A mutex round a flag that is up when it is made: one thread holds it, finds the flag up, and lowers it.
+//! A mutex around a flag that is up when the mutex is made: one thread holds it, finds the flag up, and lowers it.
 ghost use Rattle.std.specs.Prelude.{◌≡◌, []};
 ghost use Rattle.lfm_mutex.specs.Belongs.{Beside, OfMutex};
 
@@ -21,7 +21,7 @@ fn lower(seat: &mut Seat<bool>) -> Option<bool>
     Some(found)
 }
 
-/// The seat holds, finds the flag up and lowers it, and gives the mutex on.
+/// The seat locks, finds the flag up, lowers it, and unlocks.
 fn lower_in_one_hold<R: Abort>(rt: &R, mutex: &Mutex<bool>, seat: &mut Seat<bool>)
     requires { OfMutex seat.old mutex.now }
     ensures { OfMutex seat.new mutex.now }
@@ -34,7 +34,7 @@ fn lower_in_one_hold<R: Abort>(rt: &R, mutex: &Mutex<bool>, seat: &mut Seat<bool
     sees(rt, "unlock", &unlocked, &Ok(Unlocked::Free));
 }
 
-/// Hands both seats back, in this empty list, which must close the mutex: returns its flag.
+/// Closes the mutex with both seats in this empty list. Returns its flag. None if it can't be closed.
 fn closed(
     mutex: Mutex<bool>,
     first: Seat<bool>,

@@ -1,4 +1,4 @@
-//! A mutex of as many seats as there may be, each with the greatest budget.
+//! A mutex with the greatest number of seats, each with the greatest budget.
 ghost use Rattle.std.specs.Prelude.{◌≡◌, ◌<◌, All, vec_len};
 ghost use Rattle.lfm_mutex.specs.Belongs.{Beside, OfMutex};
 
@@ -18,7 +18,7 @@ type Answers = (
     Result<Unlocked, Refusal>,
 );
 
-/// `ask` of the seat at a place.
+/// `ask` of the seat at an index.
 fn ask(mutex: &Mutex<u64>, seats: &mut Vec<Seat<u64>>, at: usize) -> Result<Asked, Refusal>
     requires at { at < vec_len seats.old }
     requires belong { All (λ s. OfMutex s mutex.now) seats.old.items }
@@ -28,7 +28,7 @@ fn ask(mutex: &Mutex<u64>, seats: &mut Vec<Seat<u64>>, at: usize) -> Result<Aske
     mutex.ask(&mut seats[at])
 }
 
-/// `unlock` of the seat at a place.
+/// `unlock` of the seat at an index.
 fn unlock(mutex: &Mutex<u64>, seats: &mut Vec<Seat<u64>>, at: usize) -> Result<Unlocked, Refusal>
     requires at { at < vec_len seats.old }
     requires belong { All (λ s. OfMutex s mutex.now) seats.old.items }
@@ -38,7 +38,7 @@ fn unlock(mutex: &Mutex<u64>, seats: &mut Vec<Seat<u64>>, at: usize) -> Result<U
     mutex.unlock(&mut seats[at])
 }
 
-/// `try_receive` of the seat at a place.
+/// `try_receive` of the seat at an index.
 fn try_receive(
     mutex: &Mutex<u64>,
     seats: &mut Vec<Seat<u64>>,
@@ -52,7 +52,7 @@ fn try_receive(
     mutex.try_receive(&mut seats[at])
 }
 
-/// The last seat gains the mutex, seat 1 queues and is granted it, and releases it.
+/// The last seat acquires the mutex, and seat 1 queues, is granted it, and releases it.
 fn hand_over(mutex: &Mutex<u64>, seats: &mut Vec<Seat<u64>>) -> Answers
     requires all { vec_len seats.old ≡ 4095 }
     requires belong { All (λ s. OfMutex s mutex.now) seats.old.items }

@@ -1,11 +1,11 @@
-//! A mutex of a pace of its own. No test stands here.
+//! A mutex with a given pace. It has no test.
 ghost use Rattle.std.specs.Prelude.{All, IfSome};
 ghost use Rattle.lfm_mutex.specs.Belongs.{OfMutex};
 
 use lfm_mutex::{Mutex, Pace, Seat};
 use std::alloc::Global;
 
-/// A mutex round 0 of this pace, and its seats, with this number of seats and this budget of each.
+/// A mutex around 0 with this pace and this number of seats, and its seats, each with this budget.
 pub fn paced(
     alloc: Global,
     pace: Pace,

@@ -1,4 +1,4 @@
-//! Races whose steps one thread makes by hand: each line of a schedule stands beside the last turn that it makes.
+//! Races whose steps one thread makes by hand. Each line of a schedule is paired with the turn with which it must end.
 ghost use Rattle.std.specs.Prelude.{◌<◌, ◌≤◌};
 
 use crate::mutex::driving::goes;
@@ -25,12 +25,12 @@ const SENT: Turn = Turn::Ended(Answer::Sent);
 
 const NOT_WAITING: Turn = Turn::Refused(Why::By(Refusal::NotWaiting));
 
-/// What `lock` ends with that takes a post over by the record with this stamp.
+/// The end of a `lock` that takes over a post through the record with this stamp.
 fn queued(stamp: u64) -> Turn {
     Turn::Ended(Answer::Asked(Asked::Held(How::Queued(stamp))))
 }
 
-/// What `unlock` ends with that serves this seat.
+/// The end of an `unlock` that serves this seat.
 fn granted(seat: u64) -> Turn
     requires above { 0 < seat }
     requires within { seat ≤ 65535 }
@@ -38,7 +38,7 @@ fn granted(seat: u64) -> Turn
     Turn::Ended(Answer::Unlocked(Unlocked::Granted(SeatNo::known(seat))))
 }
 
-/// What `receive` ends with in a seat that holds.
+/// The end of a `receive` of a seat that then holds.
 fn received(how: How) -> Turn {
     Turn::Ended(Answer::Got(Some(how)))
 }

@@ -36,8 +36,8 @@ fn are_back(seats: &[Seat<u64>]) -> bool {
     are_back
 }
 
-/// Four seats with this budget make this number of rounds, and are handed back in their order. Returns the value that the
-/// mutex, made round 0, is closed with.
+/// Four seats with this budget make this number of rounds, and are handed back in their order. Returns the value with which the
+/// mutex, made around 0, is closed.
 fn rounded<R: Threads + Wait + Sync, M: Round<R>>(
     rt: &R,
     alloc: Global,
@@ -121,7 +121,7 @@ fn refusal_ends_the_rounds_of_one_seat(rt: HostRuntime) -> Result<(), Fail> {
     Ok(())
 }
 
-/// Adds 1 to a total below 100. From another it returns early.
+/// Adds 1 to a total below 100. At any other total it returns early.
 struct AddsUpTo100;
 
 impl<R: Wait> Round<R> for AddsUpTo100 {
@@ -150,7 +150,7 @@ fn sections_that_return_early(rt: HostRuntime) -> Result<(), Fail> {
     Ok(())
 }
 
-/// Adds 1, if it comes to hold at once. Counts the sections that were executed, and those that found the mutex held.
+/// Adds 1 if it acquires the mutex at once. Counts the sections that were executed, and those that found the mutex held.
 #[derive(Clone, Copy)]
 struct TriesToAdd<'a> {
     executed: &'a AtomicU64,
@@ -193,14 +193,14 @@ fn sections_that_never_wait(rt: HostRuntime) -> Result<(), Fail> {
     Ok(())
 }
 
-/// Waits until all four seats have come to this round.
+/// Waits until all four seats have reached this round.
 #[derive(Clone, Copy)]
 struct Meets<'a> {
     all: &'a Barrier,
 }
 
 impl<R: Wait> Round<R> for Meets<'_> {
-    /// Comes to the barrier, without the mutex.
+    /// Waits at the barrier, without the mutex.
     fn make(
         &self,
         rt: &R,

@@ -1,4 +1,4 @@
-//! A thread that has to wait long sleeps: it takes hardly any processor time.
+//! A thread that waits long sleeps: it uses hardly any processor time.
 ghost use Rattle.std.specs.Prelude.{All, IfOk};
 ghost use Rattle.lfm_mutex.specs.Belongs.{Beside, OfMutex};
 
@@ -14,22 +14,21 @@ use std::time::{Clock, CpuClock, Duration};
 /// How long seat 1 holds, in milliseconds.
 const HELD: u64 = 200;
 
-/// More processor time, in milliseconds, than some thousand looks at a word and a sleep take, even if they are built for
-/// debugging.
+/// More processor time, in milliseconds, than some thousand polls of a word and a sleep take, even in a debug build.
 const MOST_BUSY: u64 = 50;
 
 /// What a thread saw of its lock.
 #[derive(Clone, Copy, Drop)]
 struct Report {
-    /// Whether it came to hold.
+    /// Whether it acquired the mutex.
     held: bool,
     /// The time until then.
     took: Duration,
-    /// The processor time that the thread used until then. None if it can't be told.
+    /// The processor time that the thread used until then. None if it can't be read.
     busy: Option<Duration>,
 }
 
-/// Holds the mutex a while after both threads have come to the barrier.
+/// Holds the mutex for a while after both threads have reached the barrier.
 fn hold<R: Wait + Clock>(rt: &R, mutex: &Mutex<u64>, seat: &mut Seat<u64>, both: &Barrier)
     requires { OfMutex seat.old mutex.now }
 {
@@ -39,7 +38,7 @@ fn hold<R: Wait + Clock>(rt: &R, mutex: &Mutex<u64>, seat: &mut Seat<u64>, both:
     let _ = mutex.unlock(seat);
 }
 
-/// The processor time that this thread has used so far. None if it can't be told.
+/// The processor time that this thread has used so far. None if it can't be read.
 fn busy_until_now<R: CpuClock>(rt: &R) -> Option<Duration> {
     rt.thread_cpu_time().ok()
 }
@@ -97,7 +96,7 @@ fn reports<R: Threads + Wait + Clock + CpuClock + Sync>(
     thread::map_vec(rt, seats, &|seat| take_part(rt, mutex, seat, &both))
 }
 
-/// Checks that a thread came to hold, and took hardly any processor time until then.
+/// Checks that a thread acquired the mutex, and used hardly any processor time until then.
 fn sees_slept<R: Abort>(rt: &R, report: Report) {
     assert!(rt; report.held);
     let Some(busy) = report.busy else {

@@ -22,7 +22,7 @@ enum Barging {
     AllSeats,
 }
 
-/// How many threads lock, how often each does, which is its budget, and how.
+/// How many threads lock, how often each does, which is also its budget, and by which call.
 #[derive(Clone, Copy)]
 struct Run {
     threads: u64,
@@ -31,11 +31,11 @@ struct Run {
     pace: Pace,
 }
 
-/// A seat, and what its thread saw of it.
+/// A seat, and what its thread saw.
 #[derive(Drop)]
 struct Worker {
     seat: Seat<u64>,
-    /// How often the seat came to hold.
+    /// How often the seat acquired the mutex.
     holds: u64,
     /// Whether the seat has no take left.
     spent: bool,
@@ -138,7 +138,7 @@ fn lock_in_threads<R: Threads + Wait + Sync>(
     thread::map_vec(rt, seats, &|seat| lock_times(rt, mutex, seat, run))
 }
 
-/// How often all workers came to hold.
+/// How often all workers acquired the mutex.
 fn all_holds(workers: &[Worker]) -> u64 {
     let mut holds = 0u64;
     for worker in workers {
@@ -147,8 +147,8 @@ fn all_holds(workers: &[Worker]) -> u64 {
     holds
 }
 
-/// This number of threads try this often, which is their budget. Returns their holds, and the value that the mutex is closed
-/// with.
+/// This number of threads try this often, which is also their budget. Returns their holds, and the value with which the mutex
+/// is closed.
 fn tried<R: Threads + Sync>(
     rt: &R,
     alloc: Global,
@@ -174,8 +174,8 @@ fn all_spent(workers: &[Worker]) -> bool {
     true
 }
 
-/// The threads of a run lock, and once more than their budget. Returns whether each was refused as Spent then, and the value
-/// that the mutex is closed with.
+/// The threads of a run lock once more than their budget. Returns whether each was then refused as Spent, and the value with
+/// which the mutex is closed.
 fn locked<R: Threads + Wait + Sync>(rt: &R, alloc: Global, run: Run) -> Result<(bool, u64), Fail> {
     let (mutex, seats) = paced(alloc, run.pace, run.threads, run.times).ok_or("a mutex")?;
     let workers = lock_in_threads(rt, &mutex, seats, run)?;
@@ -202,7 +202,7 @@ fn try_by_two_threads(rt: HostRuntime) -> Result<(), Fail> {
     Ok(())
 }
 
-/// Checks that each thread of a run made all its additions, and was refused as Spent then.
+/// Checks that each thread of a run made all its additions, and was then refused as Spent.
 fn sees_locked<R: Threads + Wait + Sync + Abort>(
     rt: &R,
     alloc: Global,
@@ -263,7 +263,7 @@ fn barge_beside_threads_that_lock(rt: HostRuntime) -> Result<(), Fail> {
     sees_locked(&rt, rt.alloc(), run)
 }
 
-/// Seat 2 is granted the mutex in some rounds, and naps on the same word in the next.
+/// Seat 2 is granted the mutex in some rounds, and naps on the same word in the next round.
 #[test]
 fn nap_after_a_grant(rt: HostRuntime) -> Result<(), Fail> {
     let run = Run {

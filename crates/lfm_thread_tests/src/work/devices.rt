@@ -1,4 +1,4 @@
-//! What a run of a script makes of readers and writers that fail, or give without end.
+//! Runs of scripts with readers and writers that fail, or readers without an end.
 use crate::work::scripts::{WAITED, WAITING, answered};
 use lfm_program::{OpenGate, WorkFault};
 use lfm_test_tools::devices::{
@@ -8,7 +8,7 @@ use std::process::Abort;
 use std::sync::Wait;
 use std::thread::Threads;
 
-/// The run of a script that can't be read to its end: what it answers, and how many bytes it writes.
+/// What the run of a script answers that can't be read to its end, and how many bytes it writes.
 fn read_in_part<R: AllocGlobal + Threads + Wait + Sync>(
     rt: &R,
     reads: u64,
@@ -29,7 +29,7 @@ fn fails_at_each_read(rt: HostRuntime) {
     }
 }
 
-/// Scripts with what is written of each: a report, and the line of a fault.
+/// Scripts with what is written for each: a report, and the line of a fault.
 fn written_texts() -> [(&'static [u8], &'static [u8]); 2] {
     [
         (WAITING.as_slice(), WAITED.as_slice()),
@@ -37,7 +37,7 @@ fn written_texts() -> [(&'static [u8], &'static [u8]); 2] {
     ]
 }
 
-/// A run whose writer has less room than its text needs writes what there is room for.
+/// A run whose writer has less room than its text needs writes as much as there is room for.
 fn fails_without_room<R: AllocGlobal + Threads + Wait + Sync + Abort>(
     rt: &R,
     script: &[u8],
@@ -66,7 +66,7 @@ fn fails_after_each_written_byte(rt: HostRuntime) {
     }
 }
 
-/// The run of a script whose writer can't be flushed: what it answers, and what it writes.
+/// What the run of a script answers whose writer can't be flushed, and what it writes.
 fn unflushed<R: AllocGlobal + Threads + Wait + Sync>(
     rt: &R,
     script: &[u8],
@@ -89,7 +89,7 @@ fn fails_at_the_flush(rt: HostRuntime) {
     }
 }
 
-/// The run of an input that has no end: what it answers, and what it writes.
+/// What the run of an input without an end answers, and what it writes.
 fn endless<R: AllocGlobal + Threads + Wait + Sync>(
     rt: &R,
     byte: u8,

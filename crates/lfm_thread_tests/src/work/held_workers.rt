@@ -14,7 +14,7 @@ struct ClosedGate;
 impl Gate for ClosedGate {
     ghost stops = { λ _ worker command. (worker ≡ 1) × (command ≡ 1) };
 
-    /// Whether the worker may make the command: not worker 1 its first.
+    /// False for the first command of worker 1 alone.
     fn before(&self, worker: u64, command: u64) -> bool {
         match (worker, command) {
             (1, 1) => false,
@@ -23,7 +23,7 @@ impl Gate for ClosedGate {
     }
 }
 
-/// Holds worker 2 before its first command, and stops it there if worker 1 comes to its second meanwhile.
+/// Holds worker 2 before its first command, and stops it there if worker 1 meanwhile reaches its second.
 #[derive(Drop)]
 struct HoldingGate {
     passed_by: AtomicBool,
@@ -32,7 +32,7 @@ struct HoldingGate {
 impl Gate for HoldingGate {
     ghost stops = { λ _ worker command. (worker ≡ 2) × (command ≡ 1) };
 
-    /// Keeps worker 2 for some turns, and notes that worker 1 has come to its second command.
+    /// Keeps worker 2 for some turns, and notes whether worker 1 has reached its second command.
     fn before(&self, worker: u64, command: u64) -> bool {
         match (worker, command) {
             (1, 2) => {
@@ -73,6 +73,6 @@ fn a_held_gate(rt: HostRuntime) {
     let script = b"workers 2 1\n1 until 1 3\n1 add 1\n2 add 3\n2 all 1\n";
     let text = b"worker 1 adds 1 sum 1\nworker 2 adds 1 sum 3\ntotal 4\nlawful\n";
     comes_to(&rt, script, &gate, Ok(true), text, 0);
-    // worker 1 came to its second command
+    // worker 1 reached its second command
     assert!(rt; gate.passed_by.load(Ordering::SeqCst));
 }

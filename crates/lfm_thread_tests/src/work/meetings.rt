@@ -17,7 +17,7 @@ fn two_meet(rt: HostRuntime) {
     );
     assert!(rt; first);
     assert!(rt; second);
-    // Both have arrived, so nobody is held any more.
+    // Both have arrived, so no worker is held any more.
     assert!(rt; gate.before(1, 1));
     assert!(rt; gate.before(2, 1));
 }
@@ -26,7 +26,7 @@ fn two_meet(rt: HostRuntime) {
 fn one_comes_alone(rt: HostRuntime) {
     let gate = Meet::new(1000);
     assert!(rt; !gate.before(1, 1));
-    // After it gave up, no arrival is answered true: not the other's, and not its own again.
+    // After it gave up, each arrival is answered false: the other's, and its own again.
     assert!(rt; !gate.before(2, 1));
     assert!(rt; !gate.before(1, 1));
     assert!(rt; !gate.before(2, 1));
@@ -47,7 +47,7 @@ fn the_second_comes_alone(rt: HostRuntime) {
 fn one_comes_twice(rt: HostRuntime) {
     let gate = Meet::new(MANY_TURNS / 10_000);
     let at_gate = &gate;
-    // Both threads come as worker 1: neither may take the other for worker 2.
+    // Both threads come as worker 1. Neither may count as worker 2.
     let (first, second) = join(
         &rt,
         move || at_gate.before(1, 1),

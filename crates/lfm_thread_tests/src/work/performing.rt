@@ -7,7 +7,7 @@ use lfm_monitor::{Monitor, Pass};
 use lfm_program::{Command, Gate, Meet, OpenGate, Performed, perform};
 use std::sync::Wait;
 
-/// The turns for which a worker looks for the other.
+/// The turns for which a worker polls for the other.
 const TURNS: u64 = 1000;
 
 /// Waits until the other worker has added.
@@ -16,7 +16,7 @@ const WAITS: [Command; 1] = [Command::Until(1, 3)];
 /// Adds and wakes.
 const ADDS: [Command; 2] = [Command::Add(3), Command::All(1)];
 
-/// `perform`, of whose contract the tests need that the pass may make more commands.
+/// `perform`. Of its contract the tests need only that the pass may make further commands.
 fn performed<R: Wait, G: Gate>(
     rt: &R,
     monitor: &Monitor<Total>,
@@ -30,7 +30,7 @@ fn performed<R: Wait, G: Gate>(
     perform(rt, monitor, pass, commands, gate)
 }
 
-/// Two workers that are to meet make their commands one after the other. How they ended, the first worker's in front.
+/// Two workers that are to meet make their commands one after the other. Returns how they ended, the first worker first.
 fn perform_in_turn<R: Wait>(
     rt: &R,
     monitor: &Monitor<Total>,
@@ -55,8 +55,8 @@ fn perform_in_turn<R: Wait>(
     }
 }
 
-/// What a pass came to that was alone in a monitor with one condition: how its commands ended, how many entries are its own,
-/// at which depth it holds, and the total.
+/// A pass that is alone in a monitor with one condition makes these commands. Returns how they ended, how many entries are its
+/// own, at which depth it holds, and the total.
 fn alone<R: AllocGlobal + Wait>(
     rt: &R,
     entries: u64,
@@ -69,8 +69,8 @@ fn alone<R: AllocGlobal + Wait>(
     Some((outcome, mine, depth, total))
 }
 
-/// A worker adds twice, and once more when its entries are spent: how it ended each time, with how many entries, at which
-/// depth it holds, and the total.
+/// A worker adds twice, and once more when its entries are spent. Returns how it ended each time and with how many entries, at
+/// which depth it holds, and the total.
 fn adds_until_spent<R: AllocGlobal + Wait>(
     rt: &R,
 ) -> Option<((Performed, u64), (Performed, u64), u32, Total)> {
@@ -91,8 +91,8 @@ fn performing(rt: HostRuntime) {
     assert_eq!(rt; adds_until_spent(&rt), Some((done, spent, 0, Total(12))));
 }
 
-/// A command whose condition is not there is refused by the call of the monitor that needs it: a wake at once, and a wait
-/// after a take and a read. A wait that is over at once asks for no condition.
+/// A command with a missing condition is refused by the call of the monitor that needs the condition: a wake at once, and a
+/// wait after a take and a read. A wait that is over at once needs no condition.
 #[test]
 fn each_command_and_its_refusal(rt: HostRuntime) {
     let not_there = Performed::Refused(Refusal::NoSuchSeat);
@@ -108,7 +108,7 @@ fn each_command_and_its_refusal(rt: HostRuntime) {
         // the take leaves no entry for the op
         (1, Command::Add(1), spent, 1),
         (1, Command::Until(1, 0), spent, 1),
-        // the read leaves none for the take that ends the wait
+        // the read leaves no entry for the take that ends the wait
         (2, Command::Until(1, 1), spent, 2),
     ] {
         assert_eq!(rt;
@@ -119,8 +119,8 @@ fn each_command_and_its_refusal(rt: HostRuntime) {
     }
 }
 
-/// What two passes came to that are to meet, and make their commands one after the other: how they ended, how many entries
-/// are their own, at which depths they hold, the total, and how many entries the journal has.
+/// Two passes that are to meet make their commands one after the other. Returns how they ended, how many entries are their own,
+/// at which depths they hold, the total, and how many entries the journal has.
 fn in_turn<R: AllocGlobal + Wait>(
     rt: &R,
     waiter_first: bool,
@@ -133,7 +133,7 @@ fn in_turn<R: AllocGlobal + Wait>(
     Some((outcomes, mine, depths, total, journal.len()))
 }
 
-/// Whichever comes first gives up at the meeting, so the other is stopped too: neither has made a command.
+/// The worker that comes first gives up at the meeting, so the other is stopped too. Neither has made a command.
 #[test]
 fn workers_in_turn_are_stuck(rt: HostRuntime) {
     let stuck = (Performed::Stuck, Performed::Stuck);

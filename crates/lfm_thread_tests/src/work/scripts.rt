@@ -1,4 +1,4 @@
-//! Scripts whose workers nobody stops: what a run answers, and the text that it writes.
+//! Scripts whose workers are not stopped: what a run answers, and the text that it writes.
 use lfm_program::{Gate, Meet, OpenGate, WorkFault, status, work};
 use std::alloc::{AllocError, Global};
 use std::io::{Read, Write};
@@ -19,7 +19,7 @@ pub const WAITED: &[u8; 59] = b"worker 1 adds 0 sum 0\nworker 2 adds 1 sum 3\nto
 /// One worker adds twice.
 pub const TWO_ADDS: &[u8; 28] = b"workers 1 0\n1 add 5\n1 add 7\n";
 
-/// `work`, with nothing of its contract: the tests look at what it answers and writes.
+/// `work`, without its contract: the tests check what it answers and writes.
 pub fn answered<R: AllocGlobal + Threads + Wait + Sync, G: Gate, I: Read, W: Write>(
     rt: &R,
     reader: &mut I,
@@ -41,7 +41,7 @@ pub fn worked<R: AllocGlobal + Threads + Wait + Sync, G: Gate>(
     (outcome, written)
 }
 
-/// A run of this script answers so, writes this text, and ends the program with this status.
+/// Checks what a run of this script answers, the text that it writes, and the status with which it ends the program.
 pub fn comes_to<R: AllocGlobal + Threads + Wait + Sync + Abort, G: Gate>(
     rt: &R,
     script: &[u8],
@@ -61,7 +61,7 @@ fn a_worker_that_waits(rt: HostRuntime) {
     comes_to(&rt, WAITING, &OpenGate, Ok(true), WAITED, 0);
 }
 
-/// Neither makes its first command before the other has come to its own: run one after another, they would be stuck.
+/// Neither makes its first command before the other reaches its own, so they would be stuck if run one after the other.
 #[test]
 fn a_worker_that_waits_after_a_meeting(rt: HostRuntime) {
     let gate = Meet::new(MANY_TURNS);
@@ -74,7 +74,7 @@ fn two_adds(rt: HostRuntime) {
     comes_to(&rt, TWO_ADDS, &OpenGate, Ok(true), text, 0);
 }
 
-/// Scripts that are refused, each with its fault and the line that is written of it.
+/// Scripts that are refused, each with its fault and the line that is written for it.
 fn faulty_scripts() -> [(&'static [u8], WorkFault, &'static [u8]); 8] {
     [
         (
@@ -152,7 +152,7 @@ fn a_spent_worker(rt: HostRuntime) -> Result<(), Fail> {
     Ok(())
 }
 
-/// What is written if the last of 256 workers alone adds.
+/// What is written if only the last of 256 workers adds.
 fn one_added(alloc: Global) -> Result<String, AllocError> {
     let mut text = String::new(alloc);
     push_idle(alloc, &mut text, 1, 255)?;

@@ -18,7 +18,7 @@ fn go_lets_go(rt: HostRuntime) {
             true
         },
     );
-    // The thread that waited was let go, and not before.
+    // The thread that waited went on, and not before.
     assert!(rt; waited);
     // A thread that comes later does not wait.
     assert!(rt; line.wait(&rt));

@@ -283,7 +283,7 @@ void *lfm_allocate(size_t bytes) {
  * before it is rung for. A give touches the core until it drops its own reference. So a close, which drops that of the
  * lfm_mutex, may come before its end. */
 
-enum { MUTEX_BYTES = 48, ALIGNMENT = 16, LINE = 64 };
+enum { MUTEX_BYTES = 40, ALIGNMENT = 16, LINE = 64 };
 
 /* A seat without takes that was exchanged for another. It is kept until the mutex ends. */
 struct spent_seat {
@@ -291,26 +291,28 @@ struct spent_seat {
   unsigned char handle[LFM_SEAT_BYTES] __attribute__((aligned(ALIGNMENT)));
 };
 
-/* The first line is changed by seats that are taken and given back, and by locks that queue; the others seldom. */
+/* The first line is changed by seats that are taken and given back, and by locks that queue; the next lines seldom. The last
+ * may end with memory of others. */
 struct lfm_core {
   unsigned char handle[MUTEX_BYTES];
-  uint64_t left;      /* how many takes the seats had left, each when it was last taken or given back */
-  uint32_t guard;     /* of the handle, `left`, `in_hand`, `most` and `spent` */
-  uint32_t queued;    /* how many seats are queued by locks that have not returned */
-  uint64_t budget;
-  struct spent_seat *spent;
-  lfm_seat *passed;   /* seats that were given back while queued, and have been passed by since */
-  pid_t process;      /* in which it was opened */
-  uint16_t seats;
-  uint16_t most;      /* the greatest number of a seat that was ever taken */
-  uint16_t in_hand;   /* how many seats of lfm_seat_take are not given back */
-  int16_t orphans;    /* how many seats that were given back are still queued */
+  uint64_t left : 48;    /* how many takes the seats had left, each when it was last taken or given back */
+  uint64_t in_hand : 16; /* how many seats of lfm_seat_take are not given back */
+  uint64_t budget : 40;
+  uint64_t seats : 12;
+  uint64_t most : 12;    /* the greatest number of a seat that was ever taken */
+  uint32_t guard;        /* of all before it, and of `spent` */
+  uint16_t queued;       /* how many seats are queued by locks that have not returned */
   uint16_t references;
-  uint8_t is_ended;   /* the lfm_mutex is closed */
-  uintptr_t places[]; /* of the seats that are taken, from seat 1 on */
+  struct spent_seat *spent;
+  lfm_seat *passed;      /* seats that were given back while queued, and have been passed by since */
+  pid_t process;         /* in which it was opened */
+  int16_t orphans;       /* how many seats that were given back are still queued */
+  bool is_ended;         /* the lfm_mutex is closed */
+  uintptr_t places[];    /* of the seats that are taken, from seat 1 on */
 } __attribute__((aligned(LINE)));
 
-_Static_assert(offsetof(struct lfm_core, budget) == LINE, "what changes often has a line of its own");
+_Static_assert(offsetof(struct lfm_core, spent) == LINE, "what changes often has a line of its own");
+_Static_assert(LFM_MOST_SEATS < 1 << 12 && LFM_MOST_TAKES < (uint64_t)1 << 40, "a seat's number and its budget fit");
 
 /* A seat spins only if at most this number are queued: the number of processors, or 0 if there is one. */
 static uint32_t near(void) {
@@ -324,11 +326,11 @@ static uint32_t count_down(uint32_t *count) { return __atomic_sub_fetch(count, 1
 
 static lfm_status status_of(uint64_t answer) { return (lfm_status)(answer & 255); }
 
-/* Memory on cache lines of its own, all 0, or null. */
+/* Memory that begins with a cache line, all 0, or null. */
 static void *new_lines(size_t bytes) {
-  bytes = (bytes + LINE - 1) & ~(size_t)(LINE - 1);
-  void *lines = aligned_alloc(LINE, bytes);
-  if (lines) memset(lines, 0, bytes);
+  void *lines = NULL;
+  if (posix_memalign(&lines, LINE, bytes) != 0) return NULL;
+  memset(lines, 0, bytes);
   hide(lines, bytes);
   return lines;
 }
@@ -352,7 +354,7 @@ static struct lfm_core *new_core(uint64_t seats, uint64_t budget, lfm_status *ca
     free(core);
     return NULL;
   }
-  core->seats = (uint16_t)seats;
+  core->seats = seats & LFM_MOST_SEATS;
   core->budget = budget;
   core->left = seats * budget;
   core->references = 1;
@@ -548,7 +550,7 @@ MOSTLY bool is_away(lfm_seat *seat) { return UNLIKELY(seat->flags & HAS_LEFT) &&
 /* Takes a seat for this handle. The guard is held. */
 static lfm_status take_handle(struct lfm_core *core, void *handle) {
   lfm_status status = status_of(lfm_c_take_seat(core->handle, handle));
-  if (lfm_c_number(handle) > core->most) core->most = (uint16_t)lfm_c_number(handle);
+  if (lfm_c_number(handle) > core->most) core->most = lfm_c_number(handle) & LFM_MOST_SEATS;
   return status;
 }
 
@@ -559,7 +561,7 @@ static lfm_status take(struct lfm_core *core, lfm_seat *seat, uint32_t flags, bo
   lfm_c_blank_seat(seat->handle);
   enter_seats(core);
   lfm_status status = take_handle(core, seat->handle);
-  if (status == LFM_DONE) core->in_hand = (uint16_t)(core->in_hand + in_hand);
+  if (status == LFM_DONE) core->in_hand += in_hand;
   leave(&core->guard);
   if (status != LFM_DONE) return status;
   seat->core = core;
@@ -588,7 +590,7 @@ static lfm_status give(lfm_seat *seat, bool in_hand) {
   lfm_status status = status_of(lfm_c_give_seat(core->handle, seat->handle));
   if (status == LFM_DONE) {
     core->left -= made;
-    core->in_hand = (uint16_t)(core->in_hand - in_hand);
+    core->in_hand -= in_hand;
     core->places[seat->number - 1] = 0;
     seat->core = NULL;
     seat->is_in_call = 0;
@@ -760,11 +762,12 @@ static bool abandons(lfm_seat *seat) {
  * its place and is busy. It spins first, unless too many seats are queued: then it would only keep a processor from them. */
 SELDOM lfm_status receive(lfm_seat *seat, const struct limit *limit) {
   struct lfm_core *core = seat->core;
-  uint64_t look = count_up(&core->queued) <= near() ? LFM_LOOK_NANOSECONDS : 0;
+  bool is_near = __atomic_add_fetch(&core->queued, 1, __ATOMIC_RELAXED) <= near();
+  uint64_t look = is_near ? LFM_LOOK_NANOSECONDS : 0;
   if (limit && left_of(limit) < look) look = left_of(limit);
   bool is_granted = await(&seat->bell, look, limit) || (!abandons(seat) && await(&seat->bell, 0, NULL));
   silence(&seat->bell);
-  count_down(&core->queued);
+  __atomic_sub_fetch(&core->queued, 1, __ATOMIC_RELAXED);
   return is_granted ? status_of(lfm_c_receive(seat->handle)) : LFM_BUSY;
 }
 
@@ -901,7 +904,7 @@ static bool is_orphaned(lfm_seat *seat, lfm_seat *as, bool in_hand) {
   if (is_left) {
     enter(&core->guard);
     __atomic_add_fetch(&core->orphans, 1, __ATOMIC_RELAXED);
-    core->in_hand = (uint16_t)(core->in_hand - in_hand);
+    core->in_hand -= in_hand;
     if (as != seat) seat->is_in_call = 0, seat->core = NULL;
     leave(&core->guard);
   }
@@ -1254,7 +1257,7 @@ lfm_status lfm_mutex_close(lfm_mutex *mutex) {
     leave(&core->guard);
     if (in_hand) return LFM_NOT_BACK;
     if (__atomic_load_n(&core->orphans, __ATOMIC_RELAXED) > 0 || is_in_use(core)) return LFM_HOLDING;
-    __atomic_store_n(&core->is_ended, 1, __ATOMIC_RELEASE);
+    __atomic_store_n(&core->is_ended, true, __ATOMIC_RELEASE);
     if (find(core)) give_back(place_in_table(core));
     drop(core);
   }

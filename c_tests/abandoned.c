@@ -7,11 +7,11 @@
 #define LFM_LOOK_NANOSECONDS 0
 #include <stdint.h>
 #include <stdlib.h>
-static void *seen_aligned_alloc(size_t alignment, size_t bytes);
+static int seen_memalign(void **block, size_t alignment, size_t bytes);
 #define lfm_c_unlock stopped_unlock
-#define aligned_alloc seen_aligned_alloc
+#define posix_memalign seen_memalign
 #include "../c/ligdrosa.c"
-#undef aligned_alloc
+#undef posix_memalign
 #undef lfm_c_unlock
 #include "expect.h"
 uint64_t lfm_c_unlock(void *seat);
@@ -27,8 +27,8 @@ static _Thread_local int stop_after; /* after which call of the library's unlock
 static int seen(int *word) { return __atomic_load_n(word, __ATOMIC_SEQ_CST); }
 static void set(int *word, int value) { __atomic_store_n(word, value, __ATOMIC_SEQ_CST); }
 
-static void *seen_aligned_alloc(size_t alignment, size_t bytes) {
-  return seen(&refuses_memory) ? NULL : aligned_alloc(alignment, bytes);
+static int seen_memalign(void **block, size_t alignment, size_t bytes) {
+  return seen(&refuses_memory) ? ENOMEM : posix_memalign(block, alignment, bytes);
 }
 
 uint64_t stopped_unlock(void *handle) {

@@ -1,5 +1,6 @@
 /* How much memory a mutex takes. And each request for memory is refused in turn: the call answers LFM_NO_MEMORY, has changed
- * nothing, and leaks nothing. It is linked with --wrap for malloc, calloc, realloc, free and aligned_alloc. */
+ * nothing, and leaks nothing. It is linked with --wrap for malloc, calloc, realloc, free and posix_memalign. */
+#include <errno.h>
 #include <malloc.h>
 #include "expect.h"
 
@@ -10,7 +11,7 @@ static size_t bytes;      /* how many bytes these have */
 void *__real_malloc(size_t);
 void *__real_calloc(size_t, size_t);
 void *__real_realloc(void *, size_t);
-void *__real_aligned_alloc(size_t, size_t);
+int __real_posix_memalign(void **, size_t, size_t);
 void __real_free(void *);
 
 static bool is_refused(void) {
@@ -27,8 +28,10 @@ static void *counted(void *block) {
 
 void *__wrap_malloc(size_t size) { return is_refused() ? NULL : counted(__real_malloc(size)); }
 void *__wrap_calloc(size_t count, size_t size) { return is_refused() ? NULL : counted(__real_calloc(count, size)); }
-void *__wrap_aligned_alloc(size_t align, size_t size) {
-  return is_refused() ? NULL : counted(__real_aligned_alloc(align, size));
+int __wrap_posix_memalign(void **block, size_t align, size_t size) {
+  int error = is_refused() ? ENOMEM : __real_posix_memalign(block, align, size);
+  if (error == 0) counted(*block);
+  return error;
 }
 
 void *__wrap_realloc(void *block, size_t size) {

@@ -283,11 +283,11 @@ void *lfm_allocate(size_t bytes) {
  * before it is rung for. A give touches the core until it drops its own reference. So a close, which drops that of the
  * lfm_mutex, may come before its end. */
 
-enum { MUTEX_BYTES = 40, ALIGNMENT = 16, LINE = 64 };
+enum { MUTEX_BYTES = 48, ALIGNMENT = 16, LINE = 64 };
 
-/* A seat without takes that was exchanged for another. It is kept until the mutex ends. */
+/* A seat without takes that was exchanged for another. It is kept at its place until the mutex ends. */
 struct spent_seat {
-  struct spent_seat *next;
+  struct spent_seat *same; /* for `sort_seats` */
   unsigned char handle[LFM_SEAT_BYTES] __attribute__((aligned(ALIGNMENT)));
 };
 
@@ -297,21 +297,20 @@ struct lfm_core {
   unsigned char handle[MUTEX_BYTES];
   uint64_t left : 48;    /* how many takes the seats had left, each when it was last taken or given back */
   uint64_t in_hand : 16; /* how many seats of lfm_seat_take are not given back */
+  uint32_t guard;        /* of all before it, and of `most` */
+  uint16_t queued;       /* how many seats are queued by locks that have not returned */
+  uint16_t references;
   uint64_t budget : 40;
   uint64_t seats : 12;
   uint64_t most : 12;    /* the greatest number of a seat that was ever taken */
-  uint32_t guard;        /* of all before it, and of `spent` */
-  uint16_t queued;       /* how many seats are queued by locks that have not returned */
-  uint16_t references;
-  struct spent_seat *spent;
   lfm_seat *passed;      /* seats that were given back while queued, and have been passed by since */
   pid_t process;         /* in which it was opened */
   int16_t orphans;       /* how many seats that were given back are still queued */
   bool is_ended;         /* the lfm_mutex is closed */
-  uintptr_t places[];    /* of the seats that are taken, from seat 1 on */
+  uintptr_t places[];    /* of the seats, from seat 1 on: see below */
 } __attribute__((aligned(LINE)));
 
-_Static_assert(offsetof(struct lfm_core, spent) == LINE, "what changes often has a line of its own");
+_Static_assert(offsetof(struct lfm_core, references) + sizeof(uint16_t) == LINE, "what changes often has a line");
 _Static_assert(LFM_MOST_SEATS < 1 << 12 && LFM_MOST_TAKES < (uint64_t)1 << 40, "a seat's number and its budget fit");
 
 /* A seat spins only if at most this number are queued: the number of processors, or 0 if there is one. */
@@ -334,6 +333,9 @@ static void *new_lines(size_t bytes) {
   hide(lines, bytes);
   return lines;
 }
+
+/* The states of a place, and what else is in its word. */
+enum { WAITS, TIMED, ABANDONED, PASSING, AWAITED, ORPHANED, SPENT, STATES = 7, IN_LIBRARY = 8 };
 
 static bool is_known_library(void) {
   return lfm_c_mutex_size() <= MUTEX_BYTES && lfm_c_seat_size() <= LFM_SEAT_BYTES && lfm_c_mutex_align() <= ALIGNMENT &&
@@ -371,9 +373,9 @@ static void sort_seats(struct lfm_core *core) {
   for (uint32_t i = 1; i <= core->most; i++) {
     lfm_c_blank_seat(seats[i].handle);
     lfm_c_take_seat(core->handle, seats[i].handle);
-    seats[lfm_c_number(seats[i].handle)].next = &seats[i];
+    seats[lfm_c_number(seats[i].handle)].same = &seats[i];
   }
-  for (uint32_t number = core->most; number > 0; number--) lfm_c_give_seat(core->handle, seats[number].next->handle);
+  for (uint32_t number = core->most; number > 0; number--) lfm_c_give_seat(core->handle, seats[number].same->handle);
   free(seats);
 }
 
@@ -394,6 +396,17 @@ static void enter_seats(struct lfm_core *core) {
   if (UNLIKELY(__atomic_load_n(&core->passed, __ATOMIC_RELAXED))) take_back(core);
 }
 
+/* Gives back the seats that were exchanged. */
+static void give_spent(struct lfm_core *core) {
+  for (uint32_t i = 0; i < core->most; i++) {
+    if ((core->places[i] & STATES) != SPENT) continue;
+    struct spent_seat *seat = (struct spent_seat *)(core->places[i] & ~(uintptr_t)STATES);
+    lfm_c_give_seat(core->handle, seat->handle);
+    free(seat);
+    core->places[i] = 0;
+  }
+}
+
 /* Gives up a reference. With the last, all seats are back but those that were exchanged. ThreadSanitizer is told that the last
  * comes after all others: it sees the memory being freed. */
 static void drop(struct lfm_core *core) {
@@ -401,11 +414,7 @@ static void drop(struct lfm_core *core) {
   if (__atomic_sub_fetch(&core->references, 1, __ATOMIC_ACQ_REL) != 0) return;
   if (__tsan_acquire) __tsan_acquire(&core->references);
   take_back(core);
-  for (struct spent_seat *seat = core->spent, *next; seat; seat = next) {
-    next = seat->next;
-    lfm_c_give_seat(core->handle, seat->handle);
-    free(seat);
-  }
+  give_spent(core);
   if (core->most > 1) sort_seats(core);
   lfm_c_close(core->handle);
   free(core);
@@ -489,7 +498,8 @@ MOSTLY bool is_taken(const lfm_seat *seat) { return seat && seat->core; }
 /* Places in the queue
  *
  * Each seat has a place: a word of the core with the address of the lfm_seat, whether that is memory of the library
- * (IN_LIBRARY), and one of these states in its low bits. The place of a seat that is back is 0.
+ * (IN_LIBRARY), and one of these states in its low bits. The place of a seat that is back is 0, and that of an exchanged seat
+ * is SPENT, with the address of what keeps it.
  *   WAITS      the seat is not queued, or a lock without a time limit waits at its bell
  *   TIMED      a lock with a time limit waits at its bell
  *   ABANDONED  the time of that lock was over, and it has returned; the seat is still queued
@@ -515,7 +525,6 @@ MOSTLY bool is_taken(const lfm_seat *seat) { return seat && seat->core; }
  * then the seat's thread waits for that ring; in the states PASSING and AWAITED, and a give waits until they are over; and an
  * orphan, which is its own. The exchange PASSING -> WAITS is the last that touches the seat. If it fails, the seat's thread
  * waits for a ring, which is the last then. */
-enum { WAITS, TIMED, ABANDONED, PASSING, AWAITED, ORPHANED, STATES = 7, IN_LIBRARY = 8 };
 _Static_assert(_Alignof(lfm_seat) > (STATES | IN_LIBRARY), "a state fits below the address of a seat");
 
 static uintptr_t place_word(const lfm_seat *seat, uintptr_t state) {
@@ -646,10 +655,7 @@ SELDOM struct spent_seat *reserve(struct lfm_core *core) {
     enter_seats(core);
     bool is_there = take_handle(core, found->handle) == LFM_DONE;
     bool is_spent = is_there && lfm_c_left(found->handle) == 0;
-    if (is_spent) {
-      found->next = core->spent;
-      core->spent = found;
-    }
+    if (is_spent) core->places[lfm_c_number(found->handle) - 1] = (uintptr_t)found | SPENT;
     leave(&core->guard);
     if (is_spent) continue;
     if (is_there) return found;
@@ -667,9 +673,7 @@ SELDOM void exchange(lfm_seat *seat, struct spent_seat *reserved) {
   lfm_c_give_seat(core->handle, reserved->handle);
   lfm_c_take_seat(core->handle, seat->handle);
   lfm_c_take_seat(core->handle, reserved->handle);
-  reserved->next = core->spent;
-  core->spent = reserved;
-  core->places[seat->number - 1] = 0;
+  core->places[seat->number - 1] = (uintptr_t)reserved | SPENT;
   leave(&core->guard);
   seat->number = (uint16_t)lfm_c_number(seat->handle);
   set_place(seat, WAITS);
@@ -1278,13 +1282,8 @@ static void free_of_parent(struct lfm_core *core) {
     free(seat);
   }
   if (!is_steady) return;
-  for (struct spent_seat *spent = core->spent; spent; spent = spent->next) lfm_c_give_seat(core->handle, spent->handle);
-  if (status_of(lfm_c_close(core->handle)) != LFM_DONE) return;
-  for (struct spent_seat *spent = core->spent, *next; spent; spent = next) {
-    next = spent->next;
-    free(spent);
-  }
-  free(core);
+  give_spent(core);
+  if (status_of(lfm_c_close(core->handle)) == LFM_DONE) free(core);
 }
 
 /* Takes the calling thread's seat out of a core of the parent: how deep it held. Seats that were queued behind it are passed

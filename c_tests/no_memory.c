@@ -78,7 +78,7 @@ static void take_memory(uint64_t seats) {
   EXPECT(bytes, 0);
 }
 
-/* One of few seats takes little, with what malloc adds to each block. A program that uses blocks again takes less. */
+/* One of few seats takes little, with what malloc adds to each block. */
 static void take_little(void) {
   enum { FEW = 8, ADDED = 8 };
   EXPECT(lfm_mutex_new(&mutex, FEW, LFM_MOST_TAKES), LFM_DONE);

@@ -24,7 +24,8 @@ uint64_t seen_ask(void *seat) {
   if (number != 0) {
     EXPECT(number <= mutex.core->seats, true);
     __atomic_fetch_add(&named, 1, __ATOMIC_RELAXED);
-    if (bell_of(&seat_at(mutex.core->places[number - 1])->bell) == LISTENED) __atomic_fetch_add(&named_asleep, 1, __ATOMIC_RELAXED);
+    lfm_seat *granted = seat_at(mutex.core->places[number - 1]);
+    if (bell_of(&granted->bell) == LISTENED) __atomic_fetch_add(&named_asleep, 1, __ATOMIC_RELAXED);
   }
   return answer;
 }

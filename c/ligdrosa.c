@@ -535,7 +535,7 @@ static uintptr_t with_state(uintptr_t word, uintptr_t state) { return (word & ~(
 static uintptr_t *place_of(const lfm_seat *seat) { return &seat->core->places[seat->number - 1]; }
 
 static void set_place(const lfm_seat *seat, uintptr_t state) {
-  __atomic_store_n(place_of(seat), place_word(seat, state), __ATOMIC_RELAXED);
+  __atomic_store_n(place_of(seat), place_word(seat, state), __ATOMIC_RELEASE);
 }
 
 static uintptr_t state_of(const lfm_seat *seat) { return __atomic_load_n(place_of(seat), __ATOMIC_ACQUIRE) & STATES; }
@@ -692,8 +692,8 @@ SELDOM bool is_renewed(lfm_seat *seat) {
  * One call of the library grants the mutex to at most one seat, and its answer names that seat, which is proved. The thread
  * that made the call wakes that seat before it sleeps itself. So each grant is rung for, once, or the place is passed by.
  *
- * The seat's thread silences its bell and sets its place before its ask, both without an order. Another thread reads the place
- * and rings only after it found that ask in the library's words, and these order the two. */
+ * The seat's thread silences its bell before its ask, without an order. Another thread rings only after it found that ask in
+ * the library's words, and these order the two. */
 
 /* Receives the grant of a seat whose place is PASSING, gives the mutex up, and makes the seat free for calls of its own thread.
  * The number of the seat that is to be woken next, or 0. */

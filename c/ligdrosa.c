@@ -218,19 +218,6 @@ static void leave(uint32_t *guard) {
   if (__atomic_exchange_n(guard, 0, __ATOMIC_RELEASE) == 2) wake_sleeper(guard);
 }
 
-/* How many processors the calling thread may use; 8 if the system doesn't tell. It is asked once. */
-static uint32_t processors(void) {
-  static uint32_t known;
-  uint32_t count = __atomic_load_n(&known, __ATOMIC_RELAXED);
-  if (count) return count;
-  unsigned long mask[128];
-  long bytes = syscall(SYS_sched_getaffinity, 0, sizeof mask, mask);
-  for (long i = 0; i < bytes / (long)sizeof mask[0]; i++) count += (uint32_t)__builtin_popcountl(mask[i]);
-  if (count == 0) count = 8;
-  __atomic_store_n(&known, count, __ATOMIC_RELAXED);
-  return count;
-}
-
 /* Tools
  *
  * Tools that see threads are told what a lock and an unlock order: ThreadSanitizer, and Helgrind and DRD of valgrind if its
@@ -263,6 +250,20 @@ void __tsan_release(void *of) __attribute__((weak));
 
 static void hide(void *at, size_t bytes) {
   if (IS_IN_VALGRIND) hide_in_valgrind(at, bytes);
+}
+
+/* How many processors the calling thread may use; 8 if the system doesn't tell. It is asked once. */
+static uint32_t processors(void) {
+  static uint32_t known;
+  uint32_t count = __atomic_load_n(&known, __ATOMIC_RELAXED);
+  if (count) return count;
+  hide(&known, sizeof known);
+  unsigned long mask[128];
+  long bytes = syscall(SYS_sched_getaffinity, 0, sizeof mask, mask);
+  for (long i = 0; i < bytes / (long)sizeof mask[0]; i++) count += (uint32_t)__builtin_popcountl(mask[i]);
+  if (count == 0) count = 8;
+  __atomic_store_n(&known, count, __ATOMIC_RELAXED);
+  return count;
 }
 
 /* What the kit's functions call for memory in place of malloc. */

@@ -590,10 +590,12 @@ static lfm_status take(struct lfm_core *core, lfm_seat *seat, uint32_t flags, bo
   return LFM_DONE;
 }
 
-/* Gives the seat back. A forked child only forgets it: it might wait for a thread of the parent that the child doesn't have. */
+/* Gives the seat back. A forked child only forgets it: it might wait for a thread of the parent that the child doesn't have.
+ * The place is emptied, so that lfm_after_fork doesn't free a seat of the library once more. */
 static lfm_status give(lfm_seat *seat, bool in_hand) {
   struct lfm_core *core = seat->core;
   if (!is_of_process(core)) {
+    core->places[seat->number - 1] = 0;
     seat->core = NULL;
     return LFM_DONE;
   }
@@ -1273,10 +1275,15 @@ lfm_status lfm_mutex_close(lfm_mutex *mutex) {
   return LFM_DONE;
 }
 
+/* Whether the calling thread is the one that forked: it has the number of the child. */
+static bool is_forked_thread(void) { return syscall(SYS_gettid) == getpid(); }
+
 /* Frees what the library has of a mutex of the parent: the seats of threads that the child doesn't have, and the core if all
  * seats come back. Seats in hand of other threads may lie in memory that is gone, so the core stays then. It stays too if a
- * thread that the child doesn't have was changing it. The calling thread's seat is back or of the new core. */
+ * thread that the child doesn't have was changing it. The calling thread's seat is back or of the new core. If another thread
+ * of the child calls, nothing is freed: the thread that forked may have a seat in its table. */
 static void free_of_parent(struct lfm_core *core) {
+  if (!is_forked_thread()) return;
   bool is_steady = core->guard == 0;
   if (is_steady) take_back(core);
   for (uint32_t i = 0; i < core->seats; i++) {

@@ -1,6 +1,6 @@
 /* Forked children. One gives its seats back and closes its mutexes while threads of the parent take and give seats: it doesn't
- * hang. One makes a mutex new that its thread held in the fork, as pthread_atfork has it, or that nobody held. One whose
- * parent's other thread held it is told so. */
+ * hang. One makes a mutex new that its thread held in the fork, as pthread_atfork has it, or that nobody held. It may have given
+ * its seat back before, or make the mutex new by another thread. One whose parent's other thread held it is told so. */
 #define _GNU_SOURCE
 #include <malloc.h>
 #include <signal.h>
@@ -98,6 +98,44 @@ static void use_again(void) {
   EXPECT(lfm_mutex_close(&mutex), LFM_DONE);
 }
 
+/* The child first gives back the seat that the thread found in the parent. */
+static void give_and_use(void) {
+  EXPECT(lfm_seat_give_here(&free_one), LFM_DONE);
+  EXPECT(lfm_after_fork(&free_one, NULL), LFM_DONE);
+  lock(&free_one);
+  unlock(&free_one);
+  EXPECT(lfm_mutex_close(&free_one), LFM_DONE);
+}
+
+/* A thread of the child makes the mutex new, and not the thread that forked, which has a seat of the parent's. */
+static void *make_new_and_use(void *at) {
+  EXPECT(lfm_after_fork(&free_one, NULL), LFM_DONE);
+  lock(&free_one);
+  unlock(&free_one);
+  return at;
+}
+
+/* Memory that was freed has other bytes from here on. */
+static void fill_freed_memory(void) {
+  static void *volatile block;
+  for (size_t bytes = 64; bytes <= 1024; bytes += 64) {
+    for (int i = 0; i < 16; i++) {
+      block = malloc(bytes);
+      memset(block, 0x5A, bytes);
+    }
+  }
+}
+
+static void use_after_another(void) {
+  pthread_t thread;
+  EXPECT(pthread_create(&thread, NULL, make_new_and_use, NULL), 0);
+  EXPECT(pthread_join(thread, NULL), 0);
+  fill_freed_memory();
+  lock(&free_one);
+  unlock(&free_one);
+  pthread_exit(NULL); /* the thread gives both seats back */
+}
+
 /* Another thread of the parent holds one mutex, and has the only seat of another. */
 static void is_told(void) {
   EXPECT(lfm_after_fork(&free_one, NULL), LFM_BUSY);
@@ -177,6 +215,8 @@ int main(void) {
   EXPECT(lfm_seat_take(&in_hand, &seat), LFM_DONE);
   lock(&free_one);
   unlock(&free_one);
+  EXPECT(in_child(give_and_use), 0);
+  EXPECT(in_child(use_after_another), 0);
   EXPECT(pthread_create(&holder, NULL, use_once, NULL), 0);
   EXPECT(pthread_join(holder, NULL), 0);
   for (int i = 0; i < THREADS; i++) {

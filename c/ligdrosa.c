@@ -923,13 +923,16 @@ static bool is_orphaned(lfm_seat *seat, lfm_seat *as, bool in_hand) {
 }
 
 /* Gives up the place that the seat abandoned: whether it was left to the thread that passes it by. Otherwise the seat is free.
- * A seat in hand lies in memory of the program, so a copy is left. Without memory for it, the seat waits until it is granted
- * the mutex, and gives it up. */
+ * A seat in hand lies in memory of the program, so a copy is left. The bell is not copied: its ring may come at the same time.
+ * Without memory for the copy, the seat waits until it is granted the mutex, and gives it up. */
 SELDOM bool is_left_behind(lfm_seat *seat, bool in_hand) {
   if (!is_back(seat)) return false;
   lfm_seat *as = in_hand ? (lfm_seat *)new_lines(offsetof(lfm_seat, unused)) : seat;
   if (as && as != seat) {
-    memcpy(as, seat, offsetof(lfm_seat, unused));
+    memcpy(as->handle, seat->handle, sizeof as->handle);
+    as->core = seat->core;
+    as->number = seat->number;
+    as->left = seat->left;
     as->is_of_library = true;
   }
   if (as && is_orphaned(seat, as, in_hand)) return true;

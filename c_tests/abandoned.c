@@ -7,10 +7,14 @@
 #define LFM_LOOK_NANOSECONDS 0
 #include <stdint.h>
 #include <stdlib.h>
+#include <string.h>
 static int seen_memalign(void **block, size_t alignment, size_t bytes);
+static void *seen_memcpy(void *to, const void *from, size_t bytes);
 #define lfm_c_unlock stopped_unlock
 #define posix_memalign seen_memalign
+#define memcpy seen_memcpy
 #include "../c/ligdrosa.c"
+#undef memcpy
 #undef posix_memalign
 #undef lfm_c_unlock
 #include "expect.h"
@@ -21,14 +25,26 @@ static const uint64_t LONG = 60000000000;
 static lfm_mutex mutex;
 static lfm_condvar condvar;
 static lfm_seat a, b, c;
-static int step, is_stopped, refuses_memory;
+static int step, is_stopped, refuses_memory, lets_go;
 static _Thread_local int stop_after; /* after which call of the library's unlock from now on the thread stops, 0 for none */
 
 static int seen(int *word) { return __atomic_load_n(word, __ATOMIC_SEQ_CST); }
 static void set(int *word, int value) { __atomic_store_n(word, value, __ATOMIC_SEQ_CST); }
 
+/* If `lets_go`, the unlock that is stopped goes on meanwhile. Nothing here orders what it does before the return. */
 static int seen_memalign(void **block, size_t alignment, size_t bytes) {
+  if (seen(&lets_go)) {
+    set(&lets_go, 0);
+    set(&is_stopped, 0);
+    usleep(20000);
+  }
   return seen(&refuses_memory) ? ENOMEM : posix_memalign(block, alignment, bytes);
+}
+
+/* By single bytes, which ThreadSanitizer sees. A compiler may make steps of memcpy that it doesn't see. */
+static void *seen_memcpy(void *to, const void *from, size_t bytes) {
+  for (size_t i = 0; i < bytes; i++) ((unsigned char *)to)[i] = ((const volatile unsigned char *)from)[i];
+  return to;
 }
 
 uint64_t stopped_unlock(void *handle) {
@@ -279,6 +295,19 @@ static void granted_and_orphaned(void) {
   end();
 }
 
+/* The seat's bell is rung while the give makes a copy of the seat. ThreadSanitizer sees whether the copy reads the bell. */
+static void rung_while_copied(void) {
+  call by_a;
+  begin();
+  times_out(&b);
+  start(&by_a, &a, unlock_only, 1);
+  await_stop();
+  set(&lets_go, 1);
+  EXPECT(lfm_seat_give(&b), LFM_DONE);
+  join(&by_a);
+  end();
+}
+
 /* The seat is being passed by when its thread calls: a lock waits until that is done, and others tell that it is busy. */
 static void called_while_passed(lfm_status (*make)(lfm_seat *)) {
   call by_a, by_b;
@@ -325,6 +354,7 @@ int main(void) {
   closed();
   granted_and_abandoned();
   granted_and_orphaned();
+  rung_while_copied();
   called_while_passed(lock_and_unlock);
   called_while_passed(lock_in_order);
   called_while_passed(lock_long);

@@ -1,6 +1,6 @@
 /* Forked children. One gives its seats back and closes its mutexes while threads of the parent take and give seats: it doesn't
- * hang. One makes a mutex new that its thread held in the fork, as pthread_atfork has it, or that nobody held. It may have given
- * its seat back before, or make the mutex new by another thread. One whose parent's other thread held it is told so. */
+ * hang. One makes a mutex new that its thread held in the fork, as pthread_atfork has it, or that nobody held. It may have
+ * given its seat back before, or make the mutex new by another thread. One whose parent's other thread held it is told so. */
 #define _GNU_SOURCE
 #include <malloc.h>
 #include <signal.h>

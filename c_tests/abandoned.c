@@ -236,6 +236,35 @@ static void thread_ends(void) {
   end();
 }
 
+/* A living thread gives back the seat that it found while that is queued, and locks by another. */
+static void *give_back_here(void *at) {
+  lfm_status cause;
+  lfm_seat *seat = lfm_seat_here(&mutex, &cause);
+  uint64_t number = lfm_number(seat);
+  times_out(seat);
+  EXPECT(lfm_seat_give_here(&mutex), LFM_DONE);
+  EXPECT(lfm_seat_give_here(&mutex), LFM_BLANK);
+  EXPECT(lfm_try_lock_here(&mutex), LFM_BUSY);
+  EXPECT(lfm_number(lfm_seat_here(&mutex, &cause)) != number, true);
+  set(&step, 1);
+  EXPECT(lfm_lock_in_order_here(&mutex), LFM_DONE);
+  EXPECT(lfm_is_refused(lfm_unlock_here(&mutex)), false);
+  return at;
+}
+
+static void given_back_here(void) {
+  pthread_t thread;
+  begin();
+  EXPECT(lfm_seat_give(&c), LFM_DONE);
+  step = 0;
+  EXPECT(pthread_create(&thread, NULL, give_back_here, NULL), 0);
+  while (seen(&step) != 1) sched_yield();
+  unlock_it(&a);
+  EXPECT(pthread_join(thread, NULL), 0);
+  EXPECT(mutex.core->orphans, 0);
+  end();
+}
+
 /* Only seats that find themselves: the mutex is not closed while one is queued, also if all are taken and the thread that
  * closes has none. */
 static void *hold(void *at) {
@@ -351,6 +380,7 @@ int main(void) {
   other_calls();
   given_back();
   thread_ends();
+  given_back_here();
   closed();
   granted_and_abandoned();
   granted_and_orphaned();

@@ -3,46 +3,13 @@
  *
  * With -DIS_DELAYED it has the C file of the library in it, whose atomic operations are delayed at random. */
 #define _GNU_SOURCE
-#include <sched.h>
-#include <time.h>
-#include <unistd.h>
-#ifdef IS_DELAYED
-static void delay(void);
-#define __atomic_compare_exchange_n(...) (delay(), __atomic_compare_exchange_n(__VA_ARGS__))
-#define __atomic_exchange_n(...) (delay(), __atomic_exchange_n(__VA_ARGS__))
-#define __atomic_load_n(...) (delay(), __atomic_load_n(__VA_ARGS__))
-#define __atomic_store_n(...) (delay(), __atomic_store_n(__VA_ARGS__))
-#define __atomic_add_fetch(...) (delay(), __atomic_add_fetch(__VA_ARGS__))
-#define __atomic_sub_fetch(...) (delay(), __atomic_sub_fetch(__VA_ARGS__))
-#include "../c/ligdrosa.c"
-#endif
+#include "delayed.h"
 #include "expect.h"
 
 enum { THREADS = 8, SEATS = 3 * THREADS, LONGEST = 60000 /* nanoseconds */, HOLD = 20000, TIME = 1500 /* milliseconds */ };
 static lfm_mutex mutex = LFM_MUTEX_INIT_WITH(SEATS);
 static uint64_t counter, sums[THREADS + 1], missed[THREADS + 1];
 static int is_over;
-
-static uint64_t at_random(uint64_t *state) {
-  *state ^= *state << 13, *state ^= *state >> 7, *state ^= *state << 17;
-  return *state;
-}
-
-#ifdef IS_DELAYED
-static void delay(void) {
-  static _Thread_local uint64_t state;
-  if (!state) state = (uintptr_t)&state | 1;
-  uint64_t kind = at_random(&state) % 64;
-  if (kind < 8) sched_yield();
-  if (kind == 8) usleep((useconds_t)(at_random(&state) % 100));
-}
-#endif
-
-static uint64_t nanoseconds_now(void) {
-  struct timespec now;
-  clock_gettime(CLOCK_MONOTONIC, &now);
-  return (uint64_t)now.tv_sec * 1000000000 + (uint64_t)now.tv_nsec;
-}
 
 static void hold(uint64_t *state) {
   uint64_t begun = nanoseconds_now(), time = at_random(state) % HOLD;

@@ -523,9 +523,10 @@ MOSTLY bool is_taken(const lfm_seat *seat) { return seat && seat->core; }
  *   AWAITED    the same, and a call of the seat sleeps at the bell until that is done
  *   ORPHANED   as ABANDONED, but the seat was given back; the lfm_seat is memory of the library
  * The seat's own thread sets TIMED before it asks. Its lock leaves by TIMED -> ABANDONED. Its next lock takes the place up
- * again by ABANDONED -> TIMED, and keeps its place in the queue. A give goes on from there by TIMED -> ORPHANED. The thread
- * that has to wake the seat makes TIMED -> WAITS and then rings, or ABANDONED -> PASSING, or takes an ORPHANED one out. PASSING
- * and AWAITED end in WAITS. Each of these steps is a compare-and-exchange, unless no other thread may change the place.
+ * again by ABANDONED -> TIMED, and keeps its place in the queue. A give makes ABANDONED -> ORPHANED, or for a seat in hand
+ * ABANDONED -> TIMED -> ORPHANED. The thread that has to wake the seat makes TIMED -> WAITS and then rings, or ABANDONED ->
+ * PASSING, or takes an ORPHANED one out. PASSING and AWAITED end in WAITS. Each of these steps is a compare-and-exchange,
+ * unless no other thread may change the place.
  *
  * Each grant is received by one thread. One answer of the library names the seat that it granted the mutex, so one thread has
  * to wake it. The steps by which it does so and those of the seat's own thread exclude each other. If the waker makes
@@ -919,11 +920,11 @@ MOSTLY lfm_status unlock(lfm_seat *seat) {
   return status;
 }
 
-/* Whether the seat, which its thread gives back, was still queued and is left to the thread that passes it by, with its
- * reference, in this memory of the library. The giver touches the core by another reference until it is done. */
-static bool is_orphaned(lfm_seat *seat, lfm_seat *as, bool in_hand) {
+/* Whether the seat, which its thread gives back, was still queued in this state, and is left to the thread that passes it by,
+ * with its reference, in this memory of the library. The giver touches the core by another reference until it is done. */
+static bool is_orphaned(lfm_seat *seat, uintptr_t state, lfm_seat *as, bool in_hand) {
   struct lfm_core *core = seat->core;
-  uintptr_t found = place_word(seat, TIMED), orphaned = place_word(as, ORPHANED);
+  uintptr_t found = place_word(seat, state), orphaned = place_word(as, ORPHANED);
   refer_to(core);
   if (__tsan_release) __tsan_release(as);
   bool is_left = __atomic_compare_exchange_n(place_of(seat), &found, orphaned, false, __ATOMIC_ACQ_REL, __ATOMIC_ACQUIRE);
@@ -938,23 +939,32 @@ static bool is_orphaned(lfm_seat *seat, lfm_seat *as, bool in_hand) {
   return is_left;
 }
 
-/* Gives up the place that the seat abandoned: whether it was left to the thread that passes it by. Otherwise the seat is free.
- * A seat in hand lies in memory of the program, so a copy is left. The bell is not copied: its ring may come at the same time.
- * Without memory for the copy, the seat waits until it is granted the mutex, and gives it up. */
-SELDOM bool is_left_behind(lfm_seat *seat, bool in_hand) {
+/* Gives up the place that a seat in hand abandoned: whether it was left to the thread that passes it by. Otherwise the seat is
+ * free. The seat lies in memory of the program, so a copy is left. It is made while the place is taken up, so that no other
+ * thread changes the seat. The bell is not copied: its ring may come at the same time. Without memory for the copy, the seat
+ * waits until it is granted the mutex, and gives it up. */
+SELDOM bool is_copy_left(lfm_seat *seat) {
   if (!is_back(seat)) return false;
-  lfm_seat *as = in_hand ? (lfm_seat *)new_lines(offsetof(lfm_seat, unused)) : seat;
-  if (as && as != seat) {
+  lfm_seat *as = (lfm_seat *)new_lines(offsetof(lfm_seat, unused));
+  if (as) {
     memcpy(as->handle, seat->handle, sizeof as->handle);
     as->core = seat->core;
     as->number = seat->number;
     as->left = seat->left;
     as->is_of_library = true;
+    if (is_orphaned(seat, TIMED, as, true)) return true;
+    free(as);
   }
-  if (as && is_orphaned(seat, as, in_hand)) return true;
-  if (as != seat) free(as);
   receive(seat, NULL);
   unlock(seat);
+  return false;
+}
+
+/* The same for a seat that finds itself. It is never granted the mutex here: a thread that ends would keep it from being
+ * closed by the thread that gained it last. */
+SELDOM bool is_left_behind(lfm_seat *seat) {
+  if (is_orphaned(seat, ABANDONED, seat, false)) return true;
+  await_passed(seat);
   return false;
 }
 
@@ -989,7 +999,7 @@ lfm_status lfm_unlock(lfm_seat *seat) { return is_plain(seat) ? unlock_plainly(s
 lfm_status lfm_seat_give(lfm_seat *seat) {
   if (!is_taken(seat)) return LFM_BLANK;
   begin_call(seat);
-  if (has_left(seat) && is_of_process(seat->core) && is_left_behind(seat, true)) return LFM_DONE;
+  if (has_left(seat) && is_of_process(seat->core) && is_copy_left(seat)) return LFM_DONE;
   lfm_status status = give(seat, true);
   return status == LFM_DONE ? status : end_call(seat, status);
 }
@@ -1084,7 +1094,7 @@ static lfm_status give_back(size_t at) {
   bool is_left = false;
   if (is_of_process(seat->core)) { /* a forked child doesn't have the threads that wait */
     ring_unrung(seat);
-    is_left = has_left(seat) && is_left_behind(seat, false);
+    is_left = has_left(seat) && is_left_behind(seat);
   }
   if (!is_left) {
     lfm_status status = give(seat, false);

@@ -10,12 +10,15 @@
 #include <string.h>
 static int seen_memalign(void **block, size_t alignment, size_t bytes);
 static void *seen_memcpy(void *to, const void *from, size_t bytes);
+static _Bool stopped_exchange(_Bool is_made);
+#define __atomic_compare_exchange_n(...) stopped_exchange(__atomic_compare_exchange_n(__VA_ARGS__))
 #define lfm_c_unlock stopped_unlock
 #define posix_memalign seen_memalign
 #define memcpy seen_memcpy
 #include "../c/ligdrosa.c"
 #undef memcpy
 #undef posix_memalign
+#undef __atomic_compare_exchange_n
 #undef lfm_c_unlock
 #include "expect.h"
 uint64_t lfm_c_unlock(void *seat);
@@ -27,6 +30,7 @@ static lfm_condvar condvar;
 static lfm_seat a, b, c;
 static int step, is_stopped, refuses_memory, lets_go;
 static _Thread_local int stop_after; /* after which call of the library's unlock from now on the thread stops, 0 for none */
+static _Thread_local int stop_at_exchange; /* the thread stops after its next compare-and-exchange that is made */
 
 static int seen(int *word) { return __atomic_load_n(word, __ATOMIC_SEQ_CST); }
 static void set(int *word, int value) { __atomic_store_n(word, value, __ATOMIC_SEQ_CST); }
@@ -47,12 +51,23 @@ static void *seen_memcpy(void *to, const void *from, size_t bytes) {
   return to;
 }
 
-uint64_t stopped_unlock(void *handle) {
-  uint64_t answer = lfm_c_unlock(handle);
-  if (stop_after == 0 || --stop_after != 0) return answer;
+static void stop(void) {
   set(&is_stopped, 1);
   while (seen(&is_stopped)) sched_yield();
+}
+
+uint64_t stopped_unlock(void *handle) {
+  uint64_t answer = lfm_c_unlock(handle);
+  if (stop_after != 0 && --stop_after == 0) stop();
   return answer;
+}
+
+static bool stopped_exchange(bool is_made) {
+  if (is_made && stop_at_exchange) {
+    stop_at_exchange = 0;
+    stop();
+  }
+  return is_made;
 }
 
 static void unlock_it(lfm_seat *seat) { EXPECT(lfm_is_refused(lfm_unlock(seat)), false); }
@@ -293,6 +308,27 @@ static void closed(void) {
   EXPECT(pthread_join(holder, NULL), 0);
 }
 
+/* A thread whose time was over gives its seat back. Meanwhile the mutex is gained last, given up and closed. */
+static void *time_out_and_give(void *at) {
+  lfm_status cause;
+  times_out(lfm_seat_here(&mutex, &cause));
+  stop_at_exchange = 1;
+  EXPECT(lfm_seat_give_here(&mutex), LFM_DONE);
+  return at;
+}
+
+static void closed_beside_give(void) {
+  pthread_t thread;
+  EXPECT(lfm_mutex_new(&mutex, SEATS, TAKES), LFM_DONE);
+  EXPECT(lfm_lock_here(&mutex), LFM_DONE);
+  EXPECT(pthread_create(&thread, NULL, time_out_and_give, NULL), 0);
+  await_stop();
+  EXPECT(lfm_is_refused(lfm_unlock_here(&mutex)), false);
+  EXPECT(lfm_mutex_close(&mutex), LFM_DONE);
+  set(&is_stopped, 0);
+  EXPECT(pthread_join(thread, NULL), 0);
+}
+
 /* The unlock has granted the mutex and is stopped before it wakes the seat, which leaves its place, and takes it up again. */
 static void granted_and_abandoned(void) {
   call by_a, by_b;
@@ -382,6 +418,7 @@ int main(void) {
   thread_ends();
   given_back_here();
   closed();
+  closed_beside_give();
   granted_and_abandoned();
   granted_and_orphaned();
   rung_while_copied();

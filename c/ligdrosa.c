@@ -995,9 +995,12 @@ lfm_status lfm_lock_in_order(lfm_seat *seat) { return CALL(seat, gained(seat, qu
 lfm_status lfm_try_lock(lfm_seat *seat) { return CALL(seat, gained(seat, try_once(seat))); }
 lfm_status lfm_unlock(lfm_seat *seat) { return is_plain(seat) ? unlock_plainly(seat) : unlock_watched(seat); }
 
+static lfm_status give_found(lfm_seat *seat);
+
 /* A seat that was given back is touched no more: its memory may be gone by then, with that of the mutex. */
 lfm_status lfm_seat_give(lfm_seat *seat) {
   if (!is_taken(seat)) return LFM_BLANK;
+  if (seat->is_of_library) return give_found(seat);
   begin_call(seat);
   if (has_left(seat) && is_of_process(seat->core) && is_copy_left(seat)) return LFM_DONE;
   lfm_status status = give(seat, true);
@@ -1262,9 +1265,14 @@ lfm_status lfm_unlock_here(lfm_mutex *mutex) {
   return LIKELY(seat && seat->flags == 0) ? unlock_plainly(seat) : unlock_here(mutex);
 }
 
+/* Gives back a seat that found itself, if it is the calling thread's. */
+static lfm_status give_found(lfm_seat *seat) {
+  return find(seat->core) == seat ? give_back(place_in_table(seat->core)) : LFM_FOREIGN;
+}
+
 lfm_status lfm_seat_give_here(lfm_mutex *mutex) {
   lfm_seat *seat = find_of(mutex);
-  return seat ? give_back(place_in_table(seat->core)) : LFM_BLANK;
+  return seat ? give_found(seat) : LFM_BLANK;
 }
 
 uint64_t lfm_depth_here(lfm_mutex *mutex) { return lfm_depth(find_of(mutex)); }

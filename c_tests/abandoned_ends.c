@@ -1,6 +1,6 @@
-/* Objects with a mutex that their users end together, as many as come by. A user locks with a short time limit. If the time is
- * over it locks once more, or leaves without the mutex, and then its seat may still be queued. The last user to leave closes the
- * mutex at once, and gives the memory back.
+/* Objects with a mutex that their users end together. A user locks with a short time limit. If the time is over it locks once
+ * more, or leaves without the mutex, and then its seat may still be queued. The last user to leave closes the mutex at once, and
+ * gives the memory back.
  *
  * With -DIS_DELAYED the test has the C file of the library in it, whose atomic operations are delayed at random. */
 #define _GNU_SOURCE

@@ -147,7 +147,12 @@ static void memory_of_ended(void) {
   free(ended);
 }
 
-/* A living thread gives its seat back, and another takes it. */
+/* A living thread gives its seat back, and another takes it. No thread gives back what another has found. */
+static void *give_of_other(void *seat) {
+  EXPECT(lfm_seat_give((lfm_seat *)seat), LFM_FOREIGN);
+  return NULL;
+}
+
 static void *lock_apart(void *at) {
   EXPECT(lfm_lock_here(&inner), at ? LFM_NO_SEAT : LFM_DONE);
   EXPECT(lfm_unlock_here(&inner), at ? LFM_NOT_OWNER : LFM_DONE);
@@ -175,7 +180,12 @@ static void give_here(void) {
     EXPECT(lfm_seat_give_here(&inner), LFM_HOLDING);
     unlock(&inner);
     apart(&inner);
-    EXPECT(lfm_seat_give_here(&inner), LFM_DONE);
+    pthread_t thread;
+    lfm_status cause;
+    lfm_seat *seat = lfm_seat_here(&inner, &cause);
+    EXPECT(pthread_create(&thread, NULL, give_of_other, seat), 0);
+    EXPECT(pthread_join(thread, NULL), 0);
+    EXPECT(i == 1 ? lfm_seat_give(seat) : lfm_seat_give_here(&inner), LFM_DONE);
     EXPECT(lfm_seat_give_here(&inner), LFM_BLANK);
     EXPECT(lfm_unlock_here(&inner), LFM_NOT_OWNER);
     apart(NULL);

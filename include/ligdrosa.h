@@ -11,27 +11,30 @@
  *
  * Most programs need only the calls whose names end in `here`, and lfm_wake_one and lfm_wake_all. A status is tested by
  * lfm_is_refused, and not against 0: each one below LFM_BLANK is a success, as LFM_AGAIN of a thread that held before.
+ * lfm_status_text has its meaning in words.
  *
- * What is proved: the library's inner calls, which lock and unlock but neither sleep nor wake. Each is a call of the proved
- * mutex: its answers, its refusals, its steps and their bound, and the seat that it grants the mutex. That no two seats hold at
- * once follows from a rule that each step keeps, which is proved too. What is only tested: the rest of the library. It puts
- * threads to sleep and wakes them, tries before it queues, passes by seats whose time is over, finds seats, opens and ends
- * mutexes, and has the condition variables. Its source argues why no wake-up is lost, and why nothing is touched after its end.
+ * Proved are the inner calls, which lock and unlock but neither sleep nor wake: their answers and refusals, their steps, how
+ * many these are at most (a lock makes two more for each push that fails), and which seat they grant the mutex. That no two
+ * seats hold at once follows, in every sequentially consistent interleaving. Only tested is the rest, which makes these calls:
+ * it puts threads to sleep and wakes them, tries before it queues, passes by seats whose time is over, finds seats, opens and
+ * ends mutexes, and has the condition variables. Its source argues why no wake-up is lost, and why nothing is touched after its
+ * end. Trusted are the prover with its library, the compilers, the linker, the C library and Linux.
  *
  * A thread calls a mutex through a seat. Calls whose names end in `here` find the calling thread's seat by themselves. The
- * others are given a seat (lfm_seat_take), for programs that want no thread-local memory. Then only lfm_mutex_new takes memory,
- * a lock that exchanges a spent seat, and a give of a seat that a timed lock has left queued.
+ * others are given a seat (lfm_seat_take), for programs that want no thread-local memory. Then memory is taken only by calls
+ * that open a mutex or make it new after a fork, by a lock or wait that exchanges a spent seat, by a give of a seat that a
+ * timed lock has left queued, and, for its own duration, by the call with which a mutex ends.
  *
  * Each call answers a status. Null, a mutex that is not open and a seat that is not taken are answered by LFM_BLANK. A call
- * that is refused has changed nothing, unless it says so. Only these may change errno: calls that open or close a mutex, or
- * give a seat back, the first call of a thread for a mutex, and calls by destructors of thread-specific data, which may give
- * seats back. What a program promises, and nothing checks:
+ * that is refused has changed nothing, unless it says so. Only these may change errno: calls that open or close a mutex, make
+ * it new after a fork, or give a seat back, the first call of a thread for a mutex, and calls by destructors of thread-specific
+ * data, which may give seats back. What a program promises, and nothing checks:
  *
  *   - An lfm_mutex is zero or LFM_MUTEX_INIT, and an lfm_seat and lfm_condvar zero, before their first call. They are touched
  *     by these calls alone. A mutex and a condition variable are moved only between calls, and a seat not while it is taken.
  *     All three are of one process: they don't lie in memory that processes share.
  *   - A seat is in one call at a time. It goes from one thread to another by a lock, a thread's start or join, or the like. If
- *     a program is compiled with -DLFM_CHECKED, two threads in one seat end it with a text.
+ *     a program is compiled with -DLFM_CHECKED, two threads in one seat of lfm_seat_take end it with a text.
  *   - No call comes from a signal handler. From a forked child come calls of a mutex only after lfm_after_fork, but its seats
  *     may be given back and it may be closed: then the child only forgets it. If other threads of the parent may have waited at
  *     a condition variable or been in a call of it, the child sets it to zero before it calls it: it has none of these threads.
@@ -94,7 +97,8 @@ typedef enum lfm_status {
   LFM_SPENT = 36,        /* the seat has no take left, and no seat that has some is free, or memory for it was refused */
   LFM_NO_SUCH_SEAT = 37, /* no seat has this number; no call of this header answers it */
   LFM_NOT_WAITING = 38,  /* the seat doesn't sleep; no call of this header answers it */
-  LFM_BUSY = 39          /* at some moment of the call another seat held the mutex, asked for it or was giving it up */
+  /* at some moment of the call another seat held the mutex, asked for it or was giving it up; or a lock's time was over */
+  LFM_BUSY = 39
   /* to here */
 } lfm_status;
 
@@ -204,7 +208,8 @@ LFM_API uint64_t lfm_takes_left(lfm_mutex *mutex);
  * is set to zero before it is taken anew. The library's memory for seats that threads of the parent found goes back, and that
  * of the old mutex too if no other seat was in hand. In the process that opened the mutex it changes nothing.
  * Refused: LFM_BLANK, LFM_FOREIGN, LFM_NO_MEMORY, and LFM_BUSY if another thread held the mutex, asked for it or was giving it
- * up when the parent forked, or if the thread has no seat by which it could see that, and none is free. */
+ * up when the parent forked, if a timed lock had left the thread's own seat queued, or if the thread has no seat by which it
+ * could see that, and all were taken or another thread was just taking or giving one. */
 LFM_NODISCARD lfm_status lfm_after_fork(lfm_mutex *mutex, lfm_seat *seat);
 
 /* Seats in hand */
@@ -311,8 +316,8 @@ LFM_NODISCARD lfm_status lfm_wait_until_here(lfm_condvar *condvar, lfm_mutex *mu
  * Refused: LFM_BLANK (null). */
 LFM_API lfm_status lfm_wake_one(lfm_condvar *condvar);
 LFM_API lfm_status lfm_wake_all(lfm_condvar *condvar);
-/* The same by a thread with a seat in hand. If that seat holds, threads of its mutex are woken when it gives the mutex up, as
- * they are if the holder's seat finds itself. So they don't find it held. */
+/* The same by a thread with a seat in hand. If that seat holds, threads that wait without a time limit and for its mutex are
+ * woken when it gives the mutex up, as they are if the holder's seat finds itself. So they don't find it held. */
 LFM_API lfm_status lfm_wake_one_by(lfm_condvar *condvar, lfm_seat *seat);
 LFM_API lfm_status lfm_wake_all_by(lfm_condvar *condvar, lfm_seat *seat);
 

@@ -1,4 +1,5 @@
-// Ligdrosa for C++11 to C++23, over ligdrosa.h, which states what a program promises.
+// Ligdrosa for C++11 to C++23, over ligdrosa.h, which states what is proved and what a program promises. The classes here are
+// only tested.
 //
 // lfm::recursive_mutex is used as std::recursive_timed_mutex, and lfm::condition_variable as std::condition_variable:
 //
@@ -8,9 +9,13 @@
 //     std::unique_lock<lfm::recursive_mutex> lock(mutex);
 //     filled.wait(lock, [&] { return !queue.empty(); });
 //
-// A call that is refused throws lfm::refused. In a file that is compiled without exceptions it ends the program with a text.
+// A call that is refused throws lfm::refused, which is a std::system_error: what() and status() state the cause. In a file that
+// is compiled without exceptions it ends the program with a text.
 // Files of both kinds may be linked into one program. For each kind lfm::recursive_mutex and the other classes that may throw
 // are separate types, so a function of one kind takes no mutex of the other. It takes the lfm_mutex (native_handle).
+//
+// A forked child calls lfm_after_fork(mutex.native_handle(), nullptr) before any other call of a mutex of its parent. It sets
+// *condition.native_handle() to lfm_condvar() if other threads may have waited at that condition variable.
 //
 // A thread that keeps its seat itself uses lfm::mutex, lfm::seat, and lfm::seat_lock, which is the seat as a Lockable. The
 // locks of the standard library take both Lockables, and so does std::condition_variable_any.

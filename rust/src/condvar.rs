@@ -50,8 +50,8 @@ impl Condvar {
         Condvar(RawCondvar::new())
     }
 
-    /// Releases the mutex, waits until a wake, and acquires the mutex again as `lock`, for one take. Refused: `Nested` if the
-    /// seat holds more than once, and `Spent`.
+    /// Releases the mutex, waits until a wake, and acquires the mutex again, for one take: as `lock`, or as `lock_in_order` if
+    /// the wake woke several threads. Refused: `Nested` if the seat holds more than once, and `Spent`.
     pub fn wait<T: ?Sized, By: Lock>(&self, guard: &mut Guard<'_, T, By>) -> Result<(), Refusal> {
         made(guard.by.wait(&self.0)).map(|_| ())
     }
@@ -108,9 +108,9 @@ impl Condvar {
         lfm_wake_all(&self.0) == DONE
     }
 
-    /// Wakes as `notify_one`, by a holder. The thread is woken when the holder releases the mutex, so it doesn't find the mutex
-    /// held. `notify_one` does the same if the caller holds by a [`Mutex`](crate::Mutex), but it can't find a
-    /// [`Seat`](crate::Seat) in hand.
+    /// Wakes as `notify_one`, by a holder. A thread that waits without a time limit is woken when the holder releases the
+    /// mutex, so it doesn't find the mutex held. `notify_one` does the same if the caller holds by a [`Mutex`](crate::Mutex),
+    /// but it can't find a [`Seat`](crate::Seat) in hand.
     pub fn notify_one_by<T: ?Sized, By: Lock>(&self, holder: &mut Guard<'_, T, By>) -> bool {
         let status = match holder.by.in_hand() {
             Some(seat) => lfm_wake_one_by(&self.0, seat),

@@ -147,7 +147,8 @@ impl<T: ?Sized> Mutex<T> {
     /// nothing.
     ///
     /// Refused: `NoMemory`, and `Busy` if another thread held the mutex, asked for it or was releasing it when the parent
-    /// forked, or if all seats were taken and the calling thread has none.
+    /// forked, if a lock whose time was over had left the calling thread queued, or if the calling thread has no seat and all
+    /// were taken, or another thread was just taking or giving back one.
     ///
     /// # Safety
     ///
@@ -207,8 +208,8 @@ impl<T: ?Sized + fmt::Debug> fmt::Debug for Mutex<T> {
 /// mutex.lock().unwrap();
 /// ```
 ///
-/// `Guard<T>` is the guard of a [`Seat`](crate::Seat), and [`MutexGuard`] that of a [`Mutex`]. The trait `Lock` and the types that
-/// have it are private.
+/// `Guard<T>` is the guard of a [`Seat`](crate::Seat), and [`MutexGuard`] that of a [`Mutex`]. The trait `Lock` and the types
+/// that have it are private.
 #[must_use = "a guard that is dropped at once releases its hold"]
 pub struct Guard<'a, T: ?Sized, By: Lock = RawSeat> {
     pub(crate) by: &'a By,

@@ -4,8 +4,8 @@
 //! The library is for Linux. It is linked from the folder that `LIGDROSA_OUT` names, or else from the folder in which the
 //! repository builds it, or else from where pkg-config finds it.
 //!
-//! A thread uses a mutex through a seat. A [`Mutex`] is shared by reference, and finds the calling thread's seat by itself. Or
-//! each thread has a [`Seat`] in hand:
+//! A thread uses a mutex through a seat. A [`Mutex`] is shared by reference, as that of `std::sync`, and finds the calling
+//! thread's seat by itself. [`Condvar`] has an example of both. Or each thread has a [`Seat`] in hand:
 //!
 //! ```
 //! let seats = ligdrosa::mutex(2, 1_000, 0u64)?;

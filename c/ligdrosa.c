@@ -479,19 +479,6 @@ SELDOM void tell_giving_up(lfm_seat *seat) {
   ANNOTATE_HAPPENS_BEFORE(seat->core);
 }
 
-/* A seat's ask comes before its wake-up by the thread that finds it: the library's words order the two. ThreadSanitizer doesn't
- * see these words, so it is told if it watches this file. Otherwise it isn't, since no program may rely on that order. */
-#ifndef __has_feature
-#define __has_feature(feature) 0
-#endif
-#if defined(__SANITIZE_THREAD__) || __has_feature(thread_sanitizer)
-static void tell_asking(uintptr_t *place) { __tsan_release(place); }
-static void tell_found(uintptr_t *place) { __tsan_acquire(place); }
-#else
-static void tell_asking(uintptr_t *place) { (void)place; }
-static void tell_found(uintptr_t *place) { (void)place; }
-#endif
-
 SELDOM void begin_checked_call(lfm_seat *seat) {
   if (!(seat->flags & IS_CHECKED) || !__atomic_exchange_n(&seat->is_in_call, 1, __ATOMIC_SEQ_CST)) return;
   fputs("ligdrosa: two threads are in calls of one seat at the same time\n", stderr);
@@ -758,9 +745,7 @@ SELDOM uint64_t wake_or_pass(struct lfm_core *core, uintptr_t *place, uintptr_t 
  * of the next. */
 static void wake_seat(struct lfm_core *core, uint64_t number) {
   while (number) {
-    uintptr_t *place = &core->places[number - 1];
-    tell_found(place);
-    uintptr_t found = __atomic_load_n(place, __ATOMIC_ACQUIRE);
+    uintptr_t *place = &core->places[number - 1], found = __atomic_load_n(place, __ATOMIC_ACQUIRE);
     if ((found & STATES) == WAITS) {
       ring(&seat_at(found)->bell);
       return;
@@ -798,7 +783,6 @@ SELDOM lfm_status receive(lfm_seat *seat, const struct limit *limit) {
 
 static lfm_status ask(lfm_seat *seat, const struct limit *limit) {
   if (limit) set_place(seat, TIMED);
-  tell_asking(place_of(seat));
   lfm_status status = told(seat->core, lfm_c_ask(seat->handle));
   if (limit && status != LFM_ASLEEP) set_place(seat, WAITS);
   return status;

@@ -1249,7 +1249,7 @@ lfm_status lfm_unlock_here(lfm_mutex *mutex) {
   return LIKELY(seat && seat->flags == 0) ? unlock_plainly(seat) : unlock_here(mutex);
 }
 
-/* Gives back a seat that found itself, if it is the calling thread's. */
+/* Gives back a seat of lfm_seat_here, which its thread has in its table. */
 static lfm_status give_found(lfm_seat *seat) {
   return find(seat->core) == seat ? give_back(place_in_table(seat->core)) : LFM_FOREIGN;
 }
@@ -1369,7 +1369,7 @@ lfm_status lfm_after_fork(lfm_mutex *mutex, lfm_seat *seat) {
   bool is_busy = lfm_c_depth(found->handle) == 0 && lfm_c_count(found->handle) != 0;
   if (found == &looks) lfm_c_give_seat(core->handle, looks.handle);
   if (is_busy) return LFM_BUSY;
-  return make_new(mutex, found == &looks ? NULL : found, seat != NULL);
+  return make_new(mutex, found == &looks ? NULL : found, seat && !seat->is_of_library);
 }
 
 /* Conditions

@@ -107,6 +107,15 @@ static void give_and_use(void) {
   EXPECT(lfm_mutex_close(&free_one), LFM_DONE);
 }
 
+/* The thread passes the seat that it found as one in hand. */
+static void use_found_seat(void) {
+  lfm_status cause;
+  EXPECT(lfm_after_fork(&free_one, lfm_seat_here(&free_one, &cause)), LFM_DONE);
+  lock(&free_one);
+  unlock(&free_one);
+  EXPECT(lfm_mutex_close(&free_one), LFM_DONE);
+}
+
 /* A thread of the child makes the mutex new, and not the thread that forked, which has a seat of the parent's. */
 static void *make_new_and_use(void *at) {
   EXPECT(lfm_after_fork(&free_one, NULL), LFM_DONE);
@@ -216,6 +225,7 @@ int main(void) {
   lock(&free_one);
   unlock(&free_one);
   EXPECT(in_child(give_and_use), 0);
+  EXPECT(in_child(use_found_seat), 0);
   EXPECT(in_child(use_after_another), 0);
   EXPECT(pthread_create(&holder, NULL, use_once, NULL), 0);
   EXPECT(pthread_join(holder, NULL), 0);

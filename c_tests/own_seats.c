@@ -167,6 +167,27 @@ static void apart(void *at) {
   EXPECT(pthread_join(thread, NULL), 0);
 }
 
+/* A seat that its thread found is given back also as one in hand is, and not by another thread. */
+static void *give_of_another(void *seat) {
+  EXPECT(lfm_seat_give((lfm_seat *)seat), LFM_FOREIGN);
+  return NULL;
+}
+
+static void give_found_seat(void) {
+  pthread_t thread;
+  lfm_status cause;
+  lfm_seat *seat = lfm_seat_here(&inner, &cause);
+  EXPECT(pthread_create(&thread, NULL, give_of_another, seat), 0);
+  EXPECT(pthread_join(thread, NULL), 0);
+  EXPECT(lfm_lock(seat), LFM_DONE);
+  EXPECT(lfm_seat_give(seat), LFM_HOLDING);
+  EXPECT(lfm_unlock(seat), LFM_DONE);
+  EXPECT(lfm_seat_give(seat), LFM_DONE);
+  EXPECT(lfm_seat_give_here(&inner), LFM_BLANK);
+  lock(&inner);
+  unlock(&inner);
+}
+
 static void give_here(void) {
   static lfm_mutex never_opened;
   const lfm_mutex new_one = LFM_MUTEX_INIT_WITH(1);
@@ -227,6 +248,7 @@ int main(void) {
   in_threads(2, pass_shared);
   memory_of_ended();
   give_here();
+  give_found_seat();
   EXPECT(lfm_mutex_close(&inner), LFM_DONE);
   EXPECT(lfm_mutex_close(&mutex), LFM_DONE);
   return 0;

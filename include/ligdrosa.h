@@ -225,8 +225,8 @@ LFM_API lfm_status lfm_seat_take_checked(lfm_mutex *mutex, lfm_seat *seat);
 
 /* Gives the seat back. It may sleep until another thread has taken or given one. If a timed lock has left the seat queued, its
  * place is left to the thread that passes it by, with a copy of some 200 bytes, and only then can it be taken anew. If memory
- * for the copy is refused, the call sleeps until the seat's turn comes. Refused: LFM_BLANK, LFM_HOLDING, LFM_SEAT_ASLEEP, and
- * LFM_FOREIGN if another thread found the seat by itself. */
+ * for the copy is refused, the call sleeps until the seat's turn comes. A seat of lfm_seat_here is given back as by
+ * lfm_seat_give_here. Refused: LFM_BLANK, LFM_HOLDING, LFM_SEAT_ASLEEP, and LFM_FOREIGN if another thread has that seat. */
 LFM_API lfm_status lfm_seat_give(lfm_seat *seat);
 
 /* The seat's number, 1 and on, or 0 of a seat that is not taken. An exchange of a spent seat changes it. */

@@ -525,6 +525,9 @@ MOSTLY bool is_taken(const lfm_seat *seat) { return seat && seat->core; }
  * That answer may name the next seat, which it wakes too. So an unlock wakes a seat that waits, or leaves the mutex free or to
  * a thread that has begun to ask, however many places were abandoned.
  *
+ * The steps of the waker have no bound. One of them fails for each step of the seat's thread, and a seat that was passed by may
+ * be queued and abandoned again before the waker is done. Each of these costs another thread a call of the system to sleep.
+ *
  * Nothing is touched after its end. The waker touches the core, which its own seat keeps. It touches an lfm_seat to ring, and
  * then the seat's thread waits for that ring; in the states PASSING and AWAITED, and a give waits until they are over; and an
  * orphan, which is its own. The exchange PASSING -> WAITS is the last that touches the seat. If it fails, the seat's thread

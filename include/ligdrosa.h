@@ -265,7 +265,8 @@ LFM_NODISCARD lfm_status lfm_try_lock_until(lfm_seat *seat, int clock, const str
 
 /* Gives one hold up: LFM_STILL if the seat still holds, else LFM_DONE, LFM_POSTED or LFM_GRANTED. It never sleeps. On its way
  * to the next thread that waits, it passes by the seats that timed locks have left queued, and LFM_GRANTED counts these too.
- * Refused: LFM_BLANK, LFM_SEAT_ASLEEP, LFM_NOT_OWNER. */
+ * No number bounds these: a seat that was passed by may be queued and left again before the unlock ends. The same holds of a
+ * lock that wakes another thread. Refused: LFM_BLANK, LFM_SEAT_ASLEEP, LFM_NOT_OWNER. */
 LFM_API lfm_status lfm_unlock(lfm_seat *seat);
 
 /* Seats that find themselves */

@@ -18,12 +18,12 @@
 #include <unistd.h>
 
 _Static_assert(sizeof(lfm_mutex) == 16 && sizeof(lfm_seat) == 256 && sizeof(lfm_condvar) == 32,
-               "the header tells these sizes, and rust/src/library.rs has them too");
+               "the header states these sizes, and rust/src/library.rs has them too");
 
-/* The calls of the library. A handle is memory of the size and alignment that the library tells, and a call makes it blank
- * before any other is given it. A call answers a status in the low 8 bits. Above it an ask or unlock tells the number of the
- * seat that it granted the mutex and that is to be woken, or 0, and a close that is refused tells the first seat that hinders
- * it. A seat's number, depth, takes left and count are plain numbers, and 0 of a blank handle. */
+/* The proved calls. A handle is memory of the size and alignment that these calls answer, and one of them makes it blank before
+ * any other is given it. A call answers a status in the low 8 bits. Above it, an ask or unlock answers the number of the seat
+ * that it granted the mutex and that is to be woken, or 0, and a refused close the first seat that prevents it. A seat's
+ * number, depth, takes left and count are plain numbers, and 0 of a blank handle. */
 /* scripts/write_c_sides writes the exports from here */
 size_t lfm_c_mutex_size(void);
 size_t lfm_c_mutex_align(void);
@@ -69,9 +69,9 @@ enum { SILENT, LISTENED, RUNG };
 enum { FUTEX_PRIVATE_WAIT = 128, FUTEX_PRIVATE_WAKE = 129, FUTEX_PRIVATE_WAIT_UNTIL = 137, FUTEX_BY_REALTIME = 256 };
 enum { NANOSECONDS = 1000000000 };
 
-/* For how many nanoseconds a queued seat spins, looking whether it is granted the mutex, before its thread sleeps: about as
- * long as two wake-ups by the system. If it is shorter, one thread that sleeps soon makes all that queue behind it sleep too.
- * With one processor a seat never spins, nor if more seats are queued than the program has processors. */
+/* For how many nanoseconds a queued seat spins before its thread sleeps: about as long as two wake-ups by the system. If it is
+ * shorter, a thread that sleeps early makes all that queue behind it sleep too. With one processor a seat never spins, nor if
+ * more seats are queued than the program has processors. */
 #ifndef LFM_LOOK_NANOSECONDS
 #define LFM_LOOK_NANOSECONDS 20000
 #endif
@@ -172,7 +172,7 @@ static void ring(uint32_t *bell) {
   if (__atomic_exchange_n(bell, RUNG, __ATOMIC_ACQ_REL) == LISTENED) wake_sleeper(bell);
 }
 
-/* Looks at the bell for this many nanoseconds, and returns whether it has rung. */
+/* Spins at the bell for this many nanoseconds, and returns whether it has rung. */
 static bool hears(uint32_t *bell, uint64_t look) {
   if (look == 0) return false;
   uint64_t begun = nanoseconds();
@@ -185,7 +185,7 @@ static bool hears(uint32_t *bell, uint64_t look) {
   return false;
 }
 
-/* Waits until the bell rings, at most until the time is over if there is one, and returns whether it has rung. It looks first,
+/* Waits until the bell rings, at most until the time is over if there is one, and returns whether it has rung. It spins first,
  * for this many nanoseconds. */
 static bool await(uint32_t *bell, uint64_t look, const struct limit *limit) {
   if (hears(bell, look)) return true;
@@ -652,8 +652,8 @@ uint64_t lfm_takes_left(lfm_mutex *mutex) {
  * its place in memory. So the spent one is given back, the other on top of it, and both are taken: the other into the first's
  * place. */
 
-/* A seat that has takes, if one is free: the node that keeps it. Seats without takes that are found on the way are put
- * aside. */
+/* A seat that has takes, if one is free: the node that keeps it. Seats without takes that are found on the way are kept
+ * at their places. */
 SELDOM struct spent_seat *reserve(struct lfm_core *core) {
   for (;;) {
     int before = errno;
@@ -837,9 +837,9 @@ static lfm_status try_if_free(lfm_seat *seat, uint64_t count) {
   return count == 0 ? status_of(lfm_c_try_lock(seat->handle)) : LFM_BUSY;
 }
 
-enum { SPINS = 11, MOST_DOUBLINGS = 8, HOLDER_AND_ONE_MORE = 2, NAPS = 4, NAP = 20000, LONGEST_NAP = 1000000, FEW = 8 };
+enum { SPINS = 11, MOST_DOUBLINGS = 8, HOLDER_AND_ONE_MORE = 2, NAPS = 4, NAP = 20000, FEW = 8 };
 
-/* Spins for some 8 microseconds. The pauses double from one look to the next, so that the holder keeps the cache line of the
+/* Spins for some 8 microseconds. The pauses double from one load to the next, so that the holder keeps the cache line of the
  * count for most of the time. If more than the holder and one other seat are counted, others queue already. */
 static lfm_status spin(lfm_seat *seat) {
   lfm_status status = LFM_BUSY;
@@ -852,7 +852,7 @@ static lfm_status spin(lfm_seat *seat) {
   return status;
 }
 
-/* Naps a few times, and looks before and after each nap. Threads that sleep leave the processors to the holder, and a queue can
+/* Naps a few times, and reads the count before and after each nap. Threads that sleep leave the processors to the holder, and a queue can
  * drain meanwhile. If many seats hold or wait, it is better to queue at once. */
 static lfm_status nap(lfm_seat *seat) {
   uint64_t crowd = near() > FEW / 2 ? 2 * near() : FEW;
@@ -886,8 +886,8 @@ MOSTLY lfm_status lock(lfm_seat *seat) {
   return gained(seat, status);
 }
 
-/* Locks until the time is over. It tries as any lock, and naps only if it has the time; then it queues until its time is over,
- * and leaves its place. */
+/* Locks until the time is over. It tries and spins as a lock does, and naps only if it has the time. Then it queues until its
+ * time is over, and leaves its place. */
 static lfm_status lock_until(lfm_seat *seat, const struct limit *limit) {
   if (has_left(seat) && is_back(seat)) return gained(seat, receive(seat, limit));
   lfm_status status = try_once(seat);
@@ -1266,8 +1266,8 @@ uint64_t lfm_depth_here(lfm_mutex *mutex) { return lfm_depth(find_of(mutex)); }
 
 /* Ends */
 
-/* Whether a seat holds the mutex or asks for it, seen by the calling thread's seat, or by one that it takes for the look. If
- * there is none, it is not seen. */
+/* Whether a seat holds the mutex or asks for it, as counted by the calling thread's seat, or by one that it takes for that. If
+ * there is none, the answer is false. */
 static bool is_in_use(struct lfm_core *core) {
   lfm_seat *seat = find(core), looks;
   if (seat && is_away(seat)) {
@@ -1380,7 +1380,7 @@ lfm_status lfm_after_fork(lfm_mutex *mutex, lfm_seat *seat) {
  * A wait is a waiter on its thread's stack, in the list of its condition variable, and sleeps at a bell of its own.
  *
  * No wake is lost. A wait is listed before it gives the mutex up. So a thread that gains the mutex after it finds it in the
- * list, and if it makes a wake, the gain orders its first look at the list after that. A wake takes waiters out of the list
+ * list, and if it makes a wake, the gain orders its first load of the list after that. A wake takes waiters out of the list
  * under the guard, the oldest first, and rings once for each that it has taken out. So each wake that finds one wakes exactly
  * one, and no waiter is woken twice. If the time of a wait is over, it takes its waiter out itself, under the guard. If a wake
  * was first, the waiter is not listed any more: then it counts as woken, and waits for its ring.
@@ -1406,7 +1406,7 @@ struct lfm_waiter {
 
 enum { IS_CLOSING = 1 << 30 };
 
-/* The guard is held for these two. The first look of a wake may come at the same time. */
+/* The guard is held for these two. The first load of a wake may come at the same time. */
 
 static void list(lfm_condvar *condvar, struct lfm_waiter *waiter) {
   waiter->older = condvar->newest;
@@ -1441,9 +1441,9 @@ static bool is_woken(lfm_condvar *condvar, struct lfm_waiter *waiter, const stru
   return !is_listed && await(&waiter->bell, 0, NULL);
 }
 
-/* For how many nanoseconds a waiter looks before its thread sleeps. Between two threads that take turns a ring soon comes, but
- * on busy processors a look keeps the other from its work. So a seat looks if it has lately heard rings, and else at some of
- * its waits, to learn of them. If others wait too, it doesn't look. */
+/* For how many nanoseconds a waiter spins before its thread sleeps. Between two threads that take turns a ring comes early, but
+ * on busy processors a spin keeps the other from its work. So a seat spins if rings have come during its last spins, and
+ * otherwise at some of its waits, as a trial. If others wait too, it doesn't spin. */
 enum { LOOKS_AFTER_A_RING = 16, WAITS_PER_TRIAL = 32, WAIT_LOOK = 5000 };
 
 static bool hears_soon(lfm_seat *seat, uint32_t *bell) {

@@ -852,8 +852,8 @@ static lfm_status spin(lfm_seat *seat) {
   return status;
 }
 
-/* Naps a few times, and reads the count before and after each nap. Threads that sleep leave the processors to the holder, and a queue can
- * drain meanwhile. If many seats hold or wait, it is better to queue at once. */
+/* Naps a few times, and reads the count before and after each nap. Threads that sleep leave the processors to the holder, and a
+ * queue can drain meanwhile. If many seats hold or wait, it is better to queue at once. */
 static lfm_status nap(lfm_seat *seat) {
   uint64_t crowd = near() > FEW / 2 ? 2 * near() : FEW;
   lfm_status status = LFM_BUSY;

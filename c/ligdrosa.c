@@ -967,6 +967,12 @@ MOSTLY lfm_status lock_plainly(lfm_seat *seat) {
   return LIKELY(!lfm_is_refused(status)) ? status : lock_slowly(seat, status);
 }
 
+/* Tries by a plain seat. */
+MOSTLY lfm_status try_plainly(lfm_seat *seat) {
+  lfm_status status = status_of(lfm_c_try_lock(seat->handle));
+  return UNLIKELY(status == LFM_SPENT) ? try_once(seat) : status;
+}
+
 /* Unlocks by a plain seat. */
 MOSTLY lfm_status unlock_plainly(lfm_seat *seat) {
   lfm_status status = told(seat->core, lfm_c_unlock(seat->handle));
@@ -975,11 +981,12 @@ MOSTLY lfm_status unlock_plainly(lfm_seat *seat) {
 }
 
 SELDOM lfm_status lock_watched(lfm_seat *seat) { return CALL(seat, lock(seat)); }
+SELDOM lfm_status try_watched(lfm_seat *seat) { return CALL(seat, gained(seat, try_once(seat))); }
 SELDOM lfm_status unlock_watched(lfm_seat *seat) { return CALL(seat, unlock(seat)); }
 
 lfm_status lfm_lock(lfm_seat *seat) { return is_plain(seat) ? lock_plainly(seat) : lock_watched(seat); }
 lfm_status lfm_lock_in_order(lfm_seat *seat) { return CALL(seat, gained(seat, queue_again(seat))); }
-lfm_status lfm_try_lock(lfm_seat *seat) { return CALL(seat, gained(seat, try_once(seat))); }
+lfm_status lfm_try_lock(lfm_seat *seat) { return is_plain(seat) ? try_plainly(seat) : try_watched(seat); }
 lfm_status lfm_unlock(lfm_seat *seat) { return is_plain(seat) ? unlock_plainly(seat) : unlock_watched(seat); }
 
 static lfm_status give_found(lfm_seat *seat);
@@ -1229,7 +1236,12 @@ lfm_status lfm_lock_here(lfm_mutex *mutex) {
 }
 
 lfm_status lfm_lock_in_order_here(lfm_mutex *mutex) { CALL_HERE(mutex, gained(seat, queue_again(seat))); }
-lfm_status lfm_try_lock_here(lfm_mutex *mutex) { CALL_HERE(mutex, gained(seat, try_once(seat))); }
+SELDOM lfm_status try_here(lfm_mutex *mutex) { CALL_HERE(mutex, gained(seat, try_once(seat))); }
+
+lfm_status lfm_try_lock_here(lfm_mutex *mutex) {
+  lfm_seat *seat = find_of(mutex);
+  return LIKELY(seat && seat->flags == 0) ? try_plainly(seat) : try_here(mutex);
+}
 
 lfm_status lfm_try_lock_for_here(lfm_mutex *mutex, uint64_t nanoseconds) {
   CALL_HERE(mutex, lfm_try_lock_for(seat, nanoseconds));

@@ -193,6 +193,8 @@ static void *wait_in_queue(void *at) {
     while (__atomic_load_n(&step, __ATOMIC_SEQ_CST) < 1000) sched_yield();
     return NULL;
   }
+  lfm_status cause;
+  EXPECT(lfm_seat_here(&waited_for, &cause) == NULL, false);
   __atomic_fetch_add(&step, 1, __ATOMIC_SEQ_CST);
   EXPECT(lfm_lock_in_order_here(&waited_for), LFM_DONE);
   unlock(&waited_for);

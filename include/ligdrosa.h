@@ -258,6 +258,7 @@ LFM_NODISCARD lfm_status lfm_try_lock(lfm_seat *seat);
  * without, waits from the same place, for no other take. Until then another thread may pass the place by as its turn comes.
  * Then the seat is free again, and its next lock begins anew. While the seat is queued, its other calls answer as for a seat
  * that doesn't hold, lfm_try_lock answers LFM_BUSY, and lfm_mutex_close LFM_HOLDING. It may be given back.
+ * If another thread is waking the seat or passing it by at the end of the time, the call waits until that is done.
  * Refused: as lfm_lock, LFM_LIMIT (no such clock, or not 0 to 999,999,999 nanoseconds in `time`), and LFM_BUSY, which tells
  * that the time is over. */
 LFM_NODISCARD lfm_status lfm_try_lock_for(lfm_seat *seat, uint64_t nanoseconds);

@@ -1,5 +1,6 @@
 //! A run over a mutex and its condvars. In each tenth of it, each part is used by a thread of its own. After the last tenth
-//! the mutex is closed, and its number is compared with what the threads counted.
+//! the mutex and the condvars are closed. The run returns the mutex's number and what the threads counted; `sums` compares
+//! them.
 ghost use Rattle.std.specs.Prelude.{◌≡◌, All, IfOk};
 ghost use Rattle.lfm_test_tools.specs.Parts.{OfShared};
 

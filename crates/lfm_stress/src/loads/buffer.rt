@@ -293,8 +293,8 @@ fn make<R: Wait>(
     unreachable!()
 }
 
-/// How many items of a tenth the replies have in the order in which their thread put them in, so that none counts twice. An
-/// item that is out of order does not count, nor does a later one from the same thread.
+/// How many items of a tenth the replies have in the order in which their thread put them in. An item counts once, and only
+/// after all items that its thread put in before it.
 fn in_turn(tenth: Tenth, replies: &[BufferReply]) -> u64 {
     let mut due = (tenth.from.wrapping_add(1), tenth.from.wrapping_add(2));
     let mut count = 0u64;

@@ -1,5 +1,5 @@
-//! Calls on a mutex with two condvars. Each keeps a part one of the mutex and its condvars, and its contract says no more than
-//! that, which is all that tests and loads need.
+//! Calls on a mutex with two condvars. Their contracts say only that a part stays one of the mutex and its condvars, or that
+//! seats do. Tests and loads need no more.
 ghost use Rattle.lfm_mutex.specs.Belongs.{OfMutex};
 ghost use Rattle.lfm_condvar.specs.Belongs.{OfCondvar};
 ghost use Rattle.lfm_test_tools.specs.Parts.{OfShared};

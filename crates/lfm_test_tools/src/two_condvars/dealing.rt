@@ -29,8 +29,8 @@ pub struct Left {
     pub second: (u64, u64),
 }
 
-/// A mutex round 0 with this number of seats, of this pace. It takes memory; None if it finds none, or if there are too many
-/// seats.
+/// A mutex around 0 with this number of seats and this pace. It requests memory. None if there is none, or if no mutex can have
+/// this number of seats.
 fn new_mutex(alloc: Global, pace: Pace, seats: u64) -> Option<(Mutex<u64>, Vec<Seat<u64>>)>
     ensures limits { IfSome result (λ r. (limits_of r.0).seats ≡ seats) }
     ensures seats { IfSome result (λ r. (j : ℕ) (s : _) → get_elem? r.1.items j ≡ some s → OfMutex s r.0) }
@@ -42,7 +42,8 @@ fn new_mutex(alloc: Global, pace: Pace, seats: u64) -> Option<(Mutex<u64>, Vec<S
     Some((mutex, seats))
 }
 
-/// A condvar with this number of seats, of this pace. It takes memory; None if it finds none, or if there are too many seats.
+/// A condvar with this number of seats and this pace. It requests memory. None if there is none, or if no condvar can have this
+/// number of seats.
 fn new_condvar(alloc: Global, pace: Pace, seats: u64) -> Option<(Condvar, Vec<CondSeat>)>
     ensures limits { IfSome result (λ r. (cond_limits r.0).seats ≡ seats) }
     ensures seats { IfSome result (λ r. (j : ℕ) (s : _) → get_elem? r.1.items j ≡ some s → OfCondvar s r.0) }
@@ -54,8 +55,8 @@ fn new_condvar(alloc: Global, pace: Pace, seats: u64) -> Option<(Condvar, Vec<Co
     Some((condvar, seats))
 }
 
-/// A mutex round 0 with this locking, and two condvars, all of this pace, and a part for each of the threads. It takes memory;
-/// None if it finds none, or if there are too many threads.
+/// A mutex around 0 with this locking, and two condvars, all with this pace, and a part for each of the threads. It requests
+/// memory. None if there is none, or if no mutex can have this number of seats.
 pub fn shared_by(
     alloc: Global,
     pace: Pace,
@@ -82,8 +83,8 @@ pub fn shared_by(
     Some((shared, parts))
 }
 
-/// A mutex round 0 that is locked in order, and two condvars, all of the usual pace, and a part for each of the threads. It takes
-/// memory; None if it finds none, or if there are too many threads.
+/// A mutex around 0 that is locked in order, and two condvars, all with the pace that a new mutex has, and a part for each of
+/// the threads. It requests memory. None if there is none, or if no mutex can have this number of seats.
 pub fn shared_in_order(alloc: Global, threads: u64) -> Option<(Shared, Vec<Part>)>
     ensures { IfSome result (λ r. All (λ p. OfShared p r.0) r.1.items) }
 {
@@ -92,7 +93,8 @@ pub fn shared_in_order(alloc: Global, threads: u64) -> Option<(Shared, Vec<Part>
 }
 
 impl Shared {
-    /// Ends the mutex and its condvars, if all parts are there and none holds or sleeps. It takes memory; None if it finds none.
+    /// Closes the mutex and then its condvars, and returns what is left of them. It requests memory. None if there is none, or
+    /// if a part is missing, or if a seat holds or sleeps.
     pub fn close(self, alloc: Global, parts: Vec<Part>) -> Option<Left>
         requires { All (λ p. OfShared p self) parts.items }
     {

@@ -1,5 +1,5 @@
-//! Calls of the two seats that one thread has in hand, each with what it must answer, made in order. After a call that must be
-//! refused, the readers of its seats must answer as before. It has no test.
+//! Calls of the two seats that one thread has in hand, each with what it must answer, made in order. After the calls of `Wait`
+//! and `Wake`, which must be refused, the readers of the seats must answer as before. It has no test.
 ghost use Rattle.std.specs.Prelude.{◌≤◌};
 ghost use Rattle.lfm_mutex.specs.Belongs.{OfMutex, limits_of};
 ghost use Rattle.lfm_condvar.specs.Belongs.{OfCondvar, cond_limits};

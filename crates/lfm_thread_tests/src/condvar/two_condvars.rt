@@ -1,5 +1,5 @@
-//! Four threads take turns over two condvars of one mutex: those of one side wait on one of them, and each turn wakes one of the
-//! other side.
+//! Four threads take turns over two condvars of one mutex, two for even numbers and two for odd ones. A thread waits for its
+//! turn on the condvar of its side, and each turn wakes one thread of the other side.
 ghost use Rattle.lfm_test_tools.specs.Parts.{OfShared};
 
 use crate::seeing::sees;

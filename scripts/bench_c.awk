@@ -99,7 +99,7 @@ function page(    at, i, row, line, lines, order) {
 # The lines of a chart.
 function chart(    at, i, row, line, lines, order, ours) {
   split("C here,C++,Rust", ours, ",")
-  print "chart languages|Time from C, C++ and Rust, divided by that of pthread's or std's mutex||"
+  print "chart languages|Time from C, C++ and Rust, divided by that of pthread's or std's mutex||4"
   print "series *C|C++|Rust"
   lines = sort_rows(order)
   for (i = 1; i <= lines; i++) {

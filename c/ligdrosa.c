@@ -292,8 +292,8 @@ struct spent_seat {
   unsigned char handle[LFM_SEAT_BYTES] __attribute__((aligned(ALIGNMENT)));
 };
 
-/* The first line is changed by seats that are taken and given back, and by locks that queue; the next lines seldom. The last
- * may end with memory of others. */
+/* The first cache line is changed by seats that are taken and given back, and by locks that queue; the next ones seldom. The
+ * last one may also have memory of others. */
 struct lfm_core {
   unsigned char handle[MUTEX_BYTES];
   uint64_t left : 48;    /* how many takes the seats had left, each when it was last taken or given back */
@@ -521,9 +521,9 @@ MOSTLY bool is_taken(const lfm_seat *seat) { return seat && seat->core; }
  * ABANDONED -> PASSING or takes an orphan out, the seat's thread can no longer take the place up, and the waker receives.
  *
  * No wake-up is lost. The waker tries until one of its steps succeeds. A step fails only if the seat's thread has made one, and
- * a place that it has left to ORPHANED it changes no more. After it has received, the waker unlocks at once by the same seat.
- * That answer may name the next seat, which it wakes too. So an unlock wakes a seat that waits, or leaves the mutex free or to
- * a thread that has begun to ask, however many places were abandoned.
+ * that thread makes none after it has made the place ORPHANED. After it has received, the waker unlocks at once by the same
+ * seat. That answer may name the next seat, which it wakes too. So an unlock wakes a seat that waits, or leaves the mutex free
+ * or to a thread that has begun to ask, however many places were abandoned.
  *
  * The steps of the waker have no bound. One of them fails for each step of the seat's thread, and a seat that was passed by may
  * be queued and abandoned again before the waker is done. Each of these costs another thread a call of the system to sleep.

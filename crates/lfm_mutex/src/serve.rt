@@ -51,8 +51,8 @@ fn finish_release<T: Kept>(
     }
 }
 
-/// Stores the point at which a release that found others in the count serves the oldest seat. Out of line, like `stop_at`.
-#[inline(never)]
+/// Stores the point at which a release that found others in the count serves the oldest seat.
+#[inline(always)]
 pub(crate) fn stop_at_serving<T: Kept>(
     state: &mut SeatState,
     moving: &Option<MovingBox<T>>,

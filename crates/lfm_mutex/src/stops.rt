@@ -1,8 +1,9 @@
 //! The points at which a fast path of `lock` or `try_lock`, or a push, stops. There the slow path (`calls::finish`) or `queue`
 //! takes over the call. The fast paths of `lock` and `try_lock` pass where they stop as a `Stop`, or as the handoff word that
-//! they loaded. A push returns it as a `PushStop`. Each is one or two words, and a function out of line stores the point. A
-//! `Point` has more words: if one of these paths built one itself, the compiler would clear its memory before the first atomic
-//! step, even if the path does not stop. The points of `unlock`, `start_wait` and `send_lock` are stored in `serve` and `send`.
+//! they loaded. A push returns it as a `PushStop`. Each is one or two words, and a `Point` has more: if one of these paths put
+//! such a word into a point, the compiler would clear the point's memory before the first atomic step, even if the path does
+//! not stop. So these points are stored out of line. The points of a `Stop` have no word of the path. Storing them inline takes
+//! fewer instructions. The points of `unlock`, `start_wait` and `send_lock` are stored in `serve` and `send`.
 ghost use Rattle.std.specs.Prelude.{◌≡◌};
 ghost use Rattle.lfm_protocol.specs.declared.points.Point.TheVariants.{TryHandoffExchange};
 ghost use Rattle.lfm_laws.specs.table.Words.{handoff_of};
@@ -28,7 +29,7 @@ pub(crate) enum Stop {
     TryLoadsHandoff,
 }
 
-/// Where a push stops, with the word that it found. The word is unpacked out of line too.
+/// Where a push stops, with the word that it found. `stop_at_push` unpacks the word.
 #[derive(Clone, Copy)]
 pub(crate) enum PushStop {
     /// Another seat has changed the push word to this one. The pusher's link has to be stored again.
@@ -37,8 +38,8 @@ pub(crate) enum PushStop {
     Posted(u64),
 }
 
-/// Stores the point at which a fast path stops. Out of line, since it happens rarely.
-#[inline(never)]
+/// Stores the point at which a fast path stops.
+#[inline(always)]
 pub(crate) fn stop_at(state: &mut SeatState, stop: Stop)
     ensures { state.new ≡ record state.old { point = stop_point stop } }
 {
@@ -51,7 +52,7 @@ pub(crate) fn stop_at(state: &mut SeatState, stop: Stop)
     };
 }
 
-/// Stores the point at which a push stops. Out of line, like `stop_at`.
+/// Stores the point at which a push stops. Out of line, as the head of this file says.
 #[inline(never)]
 pub(crate) fn stop_at_push(state: &mut SeatState, pusher: Pusher, stop: PushStop)
     ensures { state.new ≡ record state.old { point = push_stop_point pusher stop } }
@@ -67,7 +68,7 @@ pub(crate) fn stop_at_push(state: &mut SeatState, pusher: Pusher, stop: PushStop
     };
 }
 
-/// Stores the point at which a `try_lock` has found a post in this handoff word. Out of line, like `stop_at`.
+/// Stores the point at which a `try_lock` has found a post in this handoff word. Out of line, as the head of this file says.
 #[inline(never)]
 pub(crate) fn stop_at_post(state: &mut SeatState, word: u64)
     ensures { state.new ≡ record state.old { point = TryHandoffExchange (handoff_of word) } }

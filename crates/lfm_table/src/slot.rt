@@ -75,6 +75,7 @@ fn put<T: Drop>(moving: &mut Option<MovingBox<T>>, new: Option<MovingBox<T>>)
 }
 
 /// Puts this content, if any, into the slot.
+#[inline(always)]
 fn put_back<T: Kept>(table: &SharedTable<T>, seat: &mut TableSeat<T>, moving: Option<MovingBox<T>>)
     requires table { seat.old.place.table_id ≡ table.now.table_id }
     requires slot { (x : Option (Moving T)) × (seat.old.place.me.1 ≡ (0, x) ∷ rest seat.old.place.me.1) }

@@ -2,6 +2,7 @@
 //! `buffer` of `lfm_stress` send numbers through it.
 #![tactic(auto)]
 
+ghost use Rattle.std.specs.Prelude.{◌≡◌};
 ghost use Rattle.lfm_buffer.specs.Buffers.{buffer_after, buffer_reply};
 
 use lfm_model::Object;
@@ -41,7 +42,9 @@ pub enum BufferReply {
 
 impl Buffer {
     /// A buffer with nothing in it.
-    pub fn new() -> Buffer {
+    pub fn new() -> Buffer
+        ensures { result.taken ≡ result.put }
+    {
         Buffer {
             slots: [0; 4],
             put: 0,

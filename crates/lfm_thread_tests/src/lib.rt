@@ -1,6 +1,6 @@
 //! Tests that start threads, and all tests of the condition variable, the monitor and runs of workers, with or without threads.
-//! Of the tests of the running mutex, those in `races`, `flags` and `many_seats` start no thread. The others without threads
-//! are in `lfm_tests`.
+//! Of the tests of the running mutex, those in `flags` and `many_seats` start no thread. The others without threads are in
+//! `lfm_tests`.
 #![tactic(auto)]
 
 pub mod condvar;

@@ -1,12 +1,10 @@
-//! Tests of the running mutex: threads that try, lock, barge and sleep, as many seats as there may be, rounds of all seats, a
-//! flag, and races whose steps are made by hand.
+//! Tests of the running mutex: threads that try, lock, barge and sleep, as many seats as there may be, rounds of all seats, and a
+//! flag. Races whose steps are made by hand are among the examples, which `lfm_explain drive` makes on a running mutex.
 
 mod barging;
-mod driving;
 mod flags;
 mod many_seats;
 mod paced;
-mod races;
 mod rounds;
 mod sleeping;
 mod workers;

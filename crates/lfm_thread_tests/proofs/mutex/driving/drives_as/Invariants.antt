@@ -1,7 +1,0 @@
-use Rattle.std.specs.Prelude.{All}
-use Rattle.lfm_mutex.specs.Belongs.{OfMutex}
-use Rattle.lfm_thread_tests.proofs.mutex.driving.drives_as.Given as goal
-
--- the seats stay the mutex's
-abbrev pub invariant-driving : goal.invariant-driving
-invariant-driving l = All (λ s. OfMutex s l.mutex) l.seats

@@ -1,7 +1,8 @@
 //! What the program does with its arguments. Without arguments it explains a schedule. With the word `drive` it drives a
 //! running mutex through one. Its messages and statuses are those of `lfm replay`.
+use crate::driving::drive;
+use crate::explaining::explain;
 use lfm_core::{ReplayFault, report};
-use lfm_explanation::{drive, explain};
 use lfm_text::{CommandLine, read_command_line, standard_output, tell_usage};
 use std::io::Input;
 use std::rt::Env;

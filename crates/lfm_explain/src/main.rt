@@ -1,9 +1,15 @@
-//! The program `lfm_explain`: it reads a schedule of atomic steps, as `lfm replay` does, and shows each step. With the word
-//! `drive` it drives a running mutex through the schedule instead, and shows the outcome of each line. The crate
-//! `lfm_explanation` makes the output; this crate handles only the arguments, messages and statuses.
+//! The program `lfm_explain`: it reads a schedule of atomic steps, as `lfm replay` does. It prints the same lines, and before
+//! each of them the atomic steps that the line makes: each with its word, what was found there and where the responsibility
+//! went. With the word `drive` it drives a running mutex through the schedule instead, and shows the outcome of each line.
 #![tactic(auto)]
 
+mod cases;
 mod commands;
+mod driving;
+mod explaining;
+mod shown;
+mod step_names;
+mod values;
 
 use std::process::ExitCode;
 

@@ -7,8 +7,6 @@
 #![tactic(auto)]
 
 #[cfg(test)]
-mod explaining;
-#[cfg(test)]
 mod out_of_memory;
 #[cfg(test)]
 mod packing;

@@ -10,6 +10,7 @@ enum { THREADS = 8, SEATS = 3 * THREADS, LONGEST = 60000 /* nanoseconds */, HOLD
 static lfm_mutex mutex = LFM_MUTEX_INIT_WITH(SEATS);
 static uint64_t counter, sums[THREADS + 1], missed[THREADS + 1];
 static int is_over;
+static pthread_barrier_t all_have_seats;
 
 static void hold(uint64_t *state) {
   uint64_t begun = nanoseconds_now(), time = at_random(state) % HOLD;
@@ -52,8 +53,16 @@ static void *come_and_go(void *at) {
   return NULL;
 }
 
+/* Gains the mutex once before any thread gives up. Later all seats that no thread keeps may be queued, of those who gave up. */
+static void take_own_seat(void) {
+  EXPECT(lfm_lock_here(&mutex), LFM_DONE);
+  EXPECT(lfm_is_refused(lfm_unlock_here(&mutex)), false);
+  pthread_barrier_wait(&all_have_seats);
+}
+
 static void work(unsigned thread) {
   uint64_t state = 0x9E3779B97F4A7C15 * (thread + 1);
+  take_own_seat();
   while (!__atomic_load_n(&is_over, __ATOMIC_RELAXED)) {
     uint64_t kind = at_random(&state) % 16;
     if (kind == 0) {
@@ -87,6 +96,7 @@ static void run(unsigned thread) {
 }
 
 int main(void) {
+  EXPECT(pthread_barrier_init(&all_have_seats, NULL, THREADS), 0);
   in_threads(THREADS + 1, run);
   uint64_t all = 0, none = 0;
   for (int i = 0; i <= THREADS; i++) all += sums[i], none += missed[i];

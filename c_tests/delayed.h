@@ -1,5 +1,5 @@
-/* What tests with random choices share. With -DIS_DELAYED this has the C file of the library in it, whose atomic operations are
- * delayed at random. */
+/* What tests that choose at random or measure time share. With -DIS_DELAYED this has the C file of the library in it, whose
+ * atomic operations are delayed at random. */
 #ifndef DELAYED_H
 #define DELAYED_H
 #include <sched.h>

@@ -3,6 +3,7 @@
 //
 // The test wraps the calls of the library that open and close a mutex, to count those that are open.
 #include <atomic>
+#include <chrono>
 #include <thread>
 #include <vector>
 
@@ -56,6 +57,7 @@ static void wait_and_end(shared *object) {
 }
 
 static const int THREADS = 3, ROUNDS = 10000;
+static const std::chrono::seconds LIMIT{2}; // on a busy machine there are fewer rounds
 static std::atomic<shared *> objects[ROUNDS];
 
 // In each round the threads meet at the object of that round. `is_owner` is whether the first waits for the others.
@@ -63,13 +65,15 @@ static void meet(bool is_owner) {
   std::atomic<long> most_open{0};
   std::atomic<int> arrived{0};
   for (auto &object : objects) object = nullptr;
+  auto begun = std::chrono::steady_clock::now();
   auto work = [&](int number) {
     for (int i = 0; i < ROUNDS; i++) {
-      if (number == 0) objects[i] = new shared(THREADS);
+      if (number == 0 && std::chrono::steady_clock::now() - begun < LIMIT) objects[i] = new shared(THREADS);
       arrived++;
       for (int looks = 0; arrived < (i + 1) * THREADS; looks++)
         if (looks > 100) std::this_thread::yield();
       shared *object = objects[i];
+      if (!object) return;
       if (is_owner && number == 0)
         wait_and_end(object);
       else

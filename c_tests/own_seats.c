@@ -4,9 +4,11 @@
  * lock too. */
 #define _GNU_SOURCE
 #include <malloc.h>
+#include "delayed.h"
 #include "expect.h"
 
 enum { MANY = 10000, FEW = 10, LOCKS = 20000, THREADS = 8, COMERS = 2000, ROUNDS = 20000, ENDED = 200 };
+enum { LIMIT = 2000000000 /* nanoseconds: on a busy machine, or with a sanitizer, there are fewer rounds */ };
 static lfm_mutex mutex = LFM_MUTEX_INIT_WITH(THREADS), inner = LFM_MUTEX_INIT_WITH(THREADS);
 static uint64_t total, nested_total;
 
@@ -38,11 +40,12 @@ static void *count_once(void *at) {
 /* Of 8 seats as many threads use one at a time, and give it back as they end. */
 static void come_and_go(void) {
   pthread_t threads[THREADS];
-  for (int i = 0; i < COMERS; i++) {
+  uint64_t begun = nanoseconds_now(), rounds = 0;
+  for (; rounds < COMERS && nanoseconds_now() - begun < LIMIT; rounds++) {
     for (int j = 0; j < THREADS; j++) EXPECT(pthread_create(&threads[j], NULL, count_once, NULL), 0);
     for (int j = 0; j < THREADS; j++) EXPECT(pthread_join(threads[j], NULL), 0);
   }
-  EXPECT(total, COMERS * THREADS);
+  EXPECT(total, rounds * THREADS);
 }
 
 /* The processor time of a lock and an unlock among this many mutexes, in nanoseconds, the least of some tries. */
@@ -80,7 +83,15 @@ typedef struct shared {
   lfm_mutex mutex;
   int users;
 } shared;
-static shared *passed;
+static shared *passed, the_end;
+
+static shared *new_shared(void) {
+  const lfm_mutex new_one = LFM_MUTEX_INIT_WITH(2);
+  shared *at = (shared *)calloc(1, sizeof *at);
+  at->mutex = new_one;
+  at->users = 2;
+  return at;
+}
 
 static void leave_shared(shared *at) {
   lock(&at->mutex);
@@ -91,22 +102,35 @@ static void leave_shared(shared *at) {
   free(at);
 }
 
-static void pass_shared(unsigned thread) {
-  for (int i = 0; i < ROUNDS; i++) {
-    shared *at;
-    if (thread == 0) {
-      at = (shared *)calloc(1, sizeof *at);
-      const lfm_mutex new_one = LFM_MUTEX_INIT_WITH(2);
-      at->mutex = new_one;
-      at->users = 2;
-      __atomic_store_n(&passed, at, __ATOMIC_SEQ_CST);
-    } else {
-      while (!(at = __atomic_load_n(&passed, __ATOMIC_SEQ_CST))) sched_yield();
-      __atomic_store_n(&passed, NULL, __ATOMIC_SEQ_CST);
-    }
+static void pass_shared(void) {
+  uint64_t begun = nanoseconds_now();
+  for (int i = 0; i < ROUNDS && nanoseconds_now() - begun < LIMIT; i++) {
+    shared *at = new_shared();
+    __atomic_store_n(&passed, at, __ATOMIC_SEQ_CST);
     leave_shared(at);
-    while (thread == 0 && __atomic_load_n(&passed, __ATOMIC_SEQ_CST)) sched_yield();
+    while (__atomic_load_n(&passed, __ATOMIC_SEQ_CST)) sched_yield();
   }
+  __atomic_store_n(&passed, &the_end, __ATOMIC_SEQ_CST);
+}
+
+static void receive_shared(void) {
+  for (;;) {
+    shared *at = __atomic_load_n(&passed, __ATOMIC_SEQ_CST);
+    if (at == &the_end) return;
+    if (at) {
+      __atomic_store_n(&passed, NULL, __ATOMIC_SEQ_CST);
+      leave_shared(at);
+    } else {
+      sched_yield();
+    }
+  }
+}
+
+static void share(unsigned thread) {
+  if (thread == 0)
+    pass_shared();
+  else
+    receive_shared();
 }
 
 /* A thread that lives on gives seats of ended mutexes back as it takes others. */
@@ -245,7 +269,7 @@ int main(void) {
   come_and_go();
   ends();
   many_mutexes();
-  in_threads(2, pass_shared);
+  in_threads(2, share);
   memory_of_ended();
   give_here();
   give_found_seat();

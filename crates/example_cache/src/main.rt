@@ -17,7 +17,7 @@ use std::sync::atomic::{AtomicU64, Ordering};
 /// How many numbers each thread looks up.
 const ROUNDS: u64 = 1_000;
 
-/// How often a seat may take the mutex: twice for a number, to look it up and to put it in.
+/// How many times a seat may take the mutex: twice for a number, to look it up and to put it in.
 const BUDGET: u64 = 2_000;
 
 /// The numbers are 1 to 40, again and again.

@@ -7,12 +7,12 @@ use anyhow::bail;
 use lfm_model::Refusal;
 use lfm_mutex::{Mutex, Seat};
 
-/// How often each thread takes the mutex.
+/// How many times each thread takes the mutex.
 const ROUNDS: u64 = 1_000;
 
 /// Runs four threads, and prints the value that the mutex is closed with.
 fn main(rt: HostRuntime) -> anyhow::Result<()> {
-    // a mutex with four seats, each of which may take it that many times; it guards a value that starts at 0
+    // a mutex with four seats, each of which may acquire it `ROUNDS` times, around a value that starts at 0
     let (mutex, seats) = Mutex::new(rt.alloc(), 4, ROUNDS, 0u64)?;
     // each seat counts in a thread of its own; if one can't be started, none counts
     let seats = mutex.run(

@@ -12,10 +12,11 @@ use lfm_model::Missing;
 
 impl Condvar {
     /// Closes the condvar if all its cond seats are handed in, and returns how many tickets were sent and how many were added.
-    /// These numbers are those of the list as the last hold left it. That is the list that the cond seat with the greatest
-    /// `ended` left, or 0 and 0 if no cond seat has held the list. The trails are then the cond seats' parts of one run of the
-    /// inner mutex, from its start to a free mutex. If a cond seat is missing, it hands back the condvar and the cond seats,
-    /// and names the first that is missing. It compares each number of a cond seat with each cond seat handed in, allocates no
+    /// If these differ, user seats still wait after a `begin_wait`, and only `send_lock` of the user mutex can send them. These
+    /// numbers are those of the list as the last hold left it. That is the list that the cond seat with the greatest `ended`
+    /// left, or 0 and 0 if no cond seat has held the list. The trails are then the cond seats' parts of one run of the inner
+    /// mutex, from its start to a free mutex. If a cond seat is missing, it hands back the condvar and the cond seats, and
+    /// names the first that is missing. It compares each number of a cond seat with each cond seat handed in, allocates no
     /// memory and never waits.
     pub fn close(
         self,

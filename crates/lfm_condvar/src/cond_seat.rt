@@ -1,4 +1,4 @@
-//! The cond seat: what one thread uses a condvar with. It has a seat of the inner mutex, which is private to this module. So a
+//! The cond seat: a thread's handle of a condvar. It has a seat of the inner mutex, which is private to this module. So a
 //! borrowed cond seat can lock the inner mutex only through the calls of `hold`, and these unlock it before they return.
 ghost use Rattle.std.specs.Prelude.{◌≡◌, ◌≤◌, ℕ, [], vec_capacity, vec_len};
 ghost use mathlib.Core.Option.{some};
@@ -12,8 +12,8 @@ use crate::waiters::Waiters;
 pub(crate) use hold::Enlisted;
 use lfm_mutex::{Holder, Seat};
 
-/// A cond seat: what one thread uses a condvar with. It may move between threads. Each call borrows it until the call returns.
-/// Between calls it holds nothing.
+/// A thread's handle of a condvar. It may move between threads. Each call borrows it until the call returns. Between calls it
+/// holds nothing.
 #[derive(Drop)]
 pub struct CondSeat {
     seat: Seat<Waiters>,

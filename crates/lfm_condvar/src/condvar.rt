@@ -5,9 +5,11 @@ ghost use Rattle.lfm_mutex.specs.Belongs.{limits_of};
 use crate::waiters::Waiters;
 use lfm_mutex::{Mutex, Pace};
 
-/// A condition variable: user seats wait on it, and are sent in the order in which they started to wait. It is used with one
-/// user mutex, and the caller has to pass the same one to every call. A call with the seat of another condvar or mutex violates
-/// the precondition that every call has.
+/// A condition variable: user seats wait on it, and wakes *send* them in the order in which they started to wait. To send a
+/// seat is to lock the user mutex on its behalf. A condvar serves one user mutex, and the caller has to pass the same one to
+/// every call. No precondition checks this: if another mutex is passed, a wait may be refused as Busy, and a wake may be
+/// refused as NotWaiting, or send a seat of that mutex. Each call requires that the cond seat is one of this condvar, and the
+/// user seat one of the mutex that is passed.
 ///
 /// Both of these calls are compiled in the crate `lfm_thread_tests`:
 ///

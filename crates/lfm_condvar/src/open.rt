@@ -20,7 +20,7 @@ use std::alloc::Global;
 impl Condvar {
     /// Makes a condvar on which no seat waits, and returns it with its cond seats in order, numbered from 1. `seats` is 1 to
     /// 4,095. `budget`, how many waits and wakes each cond seat may make, is 1 to 2^36. A user seat may wait on the condvar if
-    /// its number is at most `seats`.
+    /// its number is at most `seats`. Each wake requires that the user mutex has at least `seats` seats.
     ///
     /// Outside these limits it returns Limit, and allocates nothing. It returns Memory if an allocation failed. No other call
     /// of a condvar allocates memory.

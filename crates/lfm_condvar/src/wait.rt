@@ -15,10 +15,10 @@ use lfm_model::{How, Refusal};
 use lfm_mutex::{Holder, Kept, Mutex, Pace, Seat};
 use std::sync::Wait;
 
-/// How often a seat polls before it sleeps, by the number of seats that waited ahead of it and the count of the user mutex. A
-/// seat that waits alone, with one other thread at work, may be sent soon, as when two threads take turns. Its polls then cost
-/// less than a sleep and a wake-up. If several seats wait, or were just sent, most of them wait long. Their polls would only
-/// take processor time from the threads that run.
+/// How many times a seat polls before it sleeps, by the number of seats that waited ahead of it and the count of the user
+/// mutex. A seat that waits alone, with one other thread at work, may be sent soon, as when two threads take turns. Its polls
+/// then cost less than a sleep and a wake-up. If several seats wait, or were just sent, most of them wait long. Their polls
+/// would only take processor time from the threads that run.
 fn looks_behind(pace: Pace, ahead: usize, counted: u64) -> u32
     ensures alone { ahead ≡ 0 → counted ≤ 1 → result ≡ pace.looks }
     ensures behind { 0 < ahead → result ≡ 0 }

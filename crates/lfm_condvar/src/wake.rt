@@ -58,8 +58,9 @@ impl Condvar {
     /// the list; the earlier ones were sent.
     ///
     /// It costs the cond seat one take, however many are sent. It allocates no memory, may sleep until it has the inner mutex,
-    /// and wakes the seats that it grants a mutex, if any. Usually one seat is granted the user mutex. If several are, the last
-    /// is woken after the inner mutex is released, and each other one as soon as the next is granted the mutex.
+    /// and wakes the seats that it grants a mutex, if any. While a seat holds the user mutex, those that are sent are queued.
+    /// If the mutex is free, usually one of them is granted it. If several are, the last is woken after the inner mutex is
+    /// released, and each other one as soon as the next is granted the mutex.
     pub fn wake_all<T: Kept, R: Wait>(
         &self,
         rt: &R,

@@ -63,8 +63,9 @@ impl<O: Object> Monitor<O> {
         }
     }
 
-    /// Enters, executes the section, leaves, and returns what the section returned, also if that is a refusal. Holds that the
-    /// section began and did not give up are given up, so that the pass holds no more than before.
+    /// Enters, executes the section, leaves, and returns what the section returned, even if that is a refusal. `round` is only
+    /// passed on to the section. Holds that the section began and did not give up are given up, so that the pass holds no more
+    /// than before.
     ///
     /// It enters with the results and refusals of `enter`. But a pass that doesn't hold tries before it queues, as
     /// `lock_barging` of the mutex does: at most once for each spin and each nap of the monitor's pace. So it may acquire the

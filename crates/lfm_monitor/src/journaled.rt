@@ -32,7 +32,7 @@ impl<O: Object> Kept for Journaled<O> {
 }
 
 impl<O: Object> Journaled<O> {
-    /// Writes the entry that the seat has come to hold, and how.
+    /// Writes the entry for an acquisition: which seat has come to hold, and how.
     pub(crate) fn took(&mut self, seat: SeatNo, how: How)
         requires seat { (0 < seat) × (seat ≤ self.old.seats) }
         requires share { length (own seat self.old.journal.items) < self.old.share }

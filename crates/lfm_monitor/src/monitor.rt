@@ -17,7 +17,7 @@ use std::snapshot::Snapshot;
 /// These lines are compiled in the crate `example_bounded_buffer`:
 ///
 /// ```
-/// // a monitor with two passes, each of which may write `ENTRIES` entries, and two conditions, round an empty buffer
+/// // a monitor with two passes, each of which may write `ENTRIES` entries, and two conditions; it guards an empty buffer
 /// let (monitor, passes) = Monitor::new(rt.alloc(), 2, ENTRIES, 2, Buffer::new())?;
 /// let Ok(passes) = monitor.run(&rt, passes, NUMBERS, &Roles) else {
 ///     bail!("a thread could not be started");

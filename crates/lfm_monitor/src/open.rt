@@ -142,9 +142,9 @@ fn with_seats<O: Object>(
 
 impl<O: Object> Monitor<O> {
     /// Makes a monitor around this object, and returns it with its passes in order, numbered from 1. `seats` is 1 to 4,095.
-    /// Each pass may write `entries_per_seat` entries, 1 or more, and take the monitor that many times. All passes together may
-    /// write at most 1,048,576 entries. There are `conditions` conditions, 0 to 16, on which passes may wait. The journal's
-    /// memory is reserved here in full.
+    /// Each pass may write `entries_per_seat` entries, 1 or more: one for each acquisition of the monitor and one for each op.
+    /// `seats` times `entries_per_seat` is at most 1,048,576. There are `conditions` conditions, 0 to 16, on which passes may
+    /// wait. On each of them a pass may make 2^36 waits and wakes. The journal's memory is reserved here in full.
     ///
     /// Outside these limits it returns Limit, and allocates nothing. It returns Memory if an allocation failed. On a fault the
     /// object is dropped. No other call of a monitor allocates memory.

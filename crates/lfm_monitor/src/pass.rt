@@ -1,4 +1,4 @@
-//! The pass: what one thread uses the monitor with. It contains a seat of the mutex, so the mutex can be closed with passes.
+//! The pass: a thread's handle of the monitor. It contains a seat of the mutex, so the mutex can be closed with passes.
 ghost use Rattle.std.specs.Prelude.{◌≡◌, ◌<◌, ◌≤◌, ◌↔◌, IsTrue, Some, false, length};
 ghost use Rattle.lfm_mutex.specs.calls.Sight.{sight};
 ghost use Rattle.lfm_monitor.specs.Passes.{PassKept};
@@ -8,9 +8,9 @@ use lfm_condvar::CondSeat;
 use lfm_model::{Object, SeatNo};
 use lfm_mutex::{Holder, Seat};
 
-/// What one thread uses a monitor with. A pass may move between threads, and each call borrows it until the call returns. If it
-/// is dropped while it holds, no other pass can ever acquire the monitor again. If it is dropped while it sleeps, this is so
-/// after the monitor is granted to it.
+/// A thread's handle of a monitor. A pass may move between threads, and each call borrows it until the call returns. If it is
+/// dropped while it holds, no other pass can ever acquire the monitor again. If it is dropped while it sleeps, this is so after
+/// the monitor is granted to it.
 ///
 /// ```
 /// // the pass holds a monitor around a bounded buffer: it puts a number in as soon as there is room, and wakes one that waits
@@ -56,7 +56,7 @@ impl<O: Object> Pass<O> {
         self.seat.number()
     }
 
-    /// How often the pass holds the monitor: 0 to 65,535.
+    /// How many times the pass holds the monitor: 0 to 65,535.
     pub fn depth(&self) -> u32
         ensures { result ≡ (sight self.now.seat).depth }
     {

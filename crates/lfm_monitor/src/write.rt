@@ -9,7 +9,7 @@ use crate::journaled::Journaled;
 use lfm_model::{How, Object};
 use lfm_mutex::Seat;
 
-/// Writes the entry that the seat has come to hold, and how.
+/// Writes the entry for an acquisition: which seat has come to hold, and how.
 pub fn write_took<O: Object>(seat: &mut Seat<Journaled<O>>, how: How)
     requires holds { 0 < (sight seat.old).depth }
     requires may { (v : _) → (sight seat.old).value ≡ Some v → MayWrite (sight seat.old).number v × MayTake (queued_from 0 v.journal.items) how }

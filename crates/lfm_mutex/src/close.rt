@@ -42,10 +42,10 @@ impl<T: Kept> Mutex<T> {
     /// Returns the guarded value, and ends the mutex, if all seats are there and none holds, sleeps or is in a call. Otherwise
     /// it returns the mutex and the seats, and names the first seat that keeps it from closing, and why.
     ///
-    /// The value is the one that the last hold of all left: that of the seat with the greatest `ended`, or the opening value if
-    /// no hold has ended. The trails are then the seats' parts of one run of the core, from its start to a free state. Each
-    /// seat knew that run up to its own last step or load for `owner`. It compares each seat number of the mutex with each
-    /// given seat, allocates nothing and never waits.
+    /// The value is the one that the last of all holds left, or the opening value if no hold has ended. In the contract that is
+    /// the seat with the greatest `ended` in its `sight`. The trails are the seats' parts of one run of the core, from its
+    /// start to a free state. Each seat knew that run up to its own last step or load for `owner`. It compares each seat number
+    /// of the mutex with each given seat, allocates nothing and never waits.
     pub fn close<P: Holder<T>>(self, seats: Vec<P>) -> Result<T, (Mutex<T>, Vec<P>, Missing)>
         requires belongs { (j : ℕ) (s : _) → get_elem? seats.items j ≡ some s → OfMutex (P.seat_of s) self }
         ensures missing { IfErr result (λ e. (e.0 ≡ self) × (e.1 ≡ seats) × FirstMissing (λ p. sight (P.seat_of p)) seats.items (limits_of self).seats e.2) }

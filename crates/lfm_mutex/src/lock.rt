@@ -86,9 +86,16 @@ impl<T: Kept> Mutex<T> {
         ask_slow(self, seat)
     }
 
-    /// Acquires the mutex, or deepens the hold: `ask`, and then `receive_lock` if that answered Asleep.
+    /// Acquires the mutex, or deepens the hold: `ask`, and then `receive_lock` if that answered Asleep. Returns Held with how
+    /// the seat acquired the mutex, or Again with the new depth. Queued seats are served in the order in which they queued.
     ///
-    /// Refuses as `ask`: Asleep, DepthFull, Spent, in this order. It may sleep, and may wake a seat as `ask` does.
+    /// Refuses as `ask`: Asleep, DepthFull, Spent, in this order. It may sleep, may wake a seat as `ask` does, and allocates
+    /// nothing.
+    ///
+    /// ```
+    /// mutex.lock(&rt, &mut seat)?;
+    /// mutex.unlock(&mut seat)?;
+    /// ```
     #[inline(always)]
     pub fn lock<R: Wait>(&self, rt: &R, seat: &mut Seat<T>) -> Result<Locked, Refusal>
         requires belongs { OfMutex seat.old self.now }

@@ -15,7 +15,7 @@ use lfm_table::shared_table::SharedTable;
 /// These lines are compiled in the crate `example_counter`:
 ///
 /// ```
-/// // a mutex with four seats, each of which may take it that many times, round a value that begins at 0
+/// // a mutex with four seats, each of which may acquire it `ROUNDS` times, around a value that starts at 0
 /// let (mutex, seats) = Mutex::new(rt.alloc(), 4, ROUNDS, 0u64)?;
 /// // each seat counts in a thread of its own
 /// let seats = mutex.run(
@@ -42,8 +42,9 @@ pub struct Mutex<T: Kept> {
 }
 
 impl<T: Kept> Mutex<T> {
-    /// How many seats hold the mutex or wait for it, by one read of the count word. A queued seat is counted; a seat that spins
-    /// or naps is not. The number is a hint, since it may change at once. The read is no atomic step of the protocol.
+    /// How many seats hold the mutex or want it, by one read of the count word. A queued seat is counted; a seat that spins,
+    /// naps or waits for a send is not. The holder is counted twice while its `lock` adds a hold. The number is a hint, since
+    /// it may change at once. The read is no atomic step of the protocol.
     pub fn count(&self) -> u64 {
         self.table.look_at_count()
     }

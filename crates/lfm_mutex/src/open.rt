@@ -29,7 +29,8 @@ const USUAL_PROCESSORS: u64 = 8;
 
 impl<T: Kept> Mutex<T> {
     /// A mutex around this value, and its seats in order, numbered from 1. `seats` is 1 to 4,095. `budget`, the number of takes
-    /// that each seat may make, is 1 to 2^36. The value has to suit a mutex that has had no queued take. The pace is the one
+    /// that each seat may make, is 1 to 2^36. A `lock`, `try_lock` or `start_wait` charges one take unless it is refused or
+    /// deepens a hold. The value has to suit a mutex that has had no queued take, as `fits` of `Kept` says. The pace is the one
     /// for eight processors until `set_pace`.
     ///
     /// Outside these limits it returns Limit, and requests no memory. It returns Memory if a request for memory was refused. On

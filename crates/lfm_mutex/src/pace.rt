@@ -7,8 +7,8 @@ use std::io;
 use std::thread::{Threads, available_parallelism};
 use std::time::{Clock, Duration, Instant};
 
-/// How often a queued seat polls its wake word before it parks, unless the pace of its mutex is set otherwise. How long that
-/// takes depends on the processor; even on a fast one it is about two wake-ups by the system.
+/// How many times a queued seat polls its wake word before it parks, unless the pace of its mutex is set otherwise. How long
+/// this takes depends on the processor; on a fast one, about twice as long as the system takes to wake a thread.
 pub const LOOKS_BEFORE_SLEEP: u32 = 800;
 
 /// Spins before a seat queues. With their pauses they took about 8 microseconds on the machine that was measured.
@@ -47,7 +47,7 @@ const MOST_LOOKS: u64 = 4_000;
 /// the mutex free, a try follows.
 /// - The first spin is a try. Each further spin is some pauses and a read of the count. The spins end early if more than two
 ///   seats hold or wait.
-/// - A nap is a read of the count, a sleep of about 20 microseconds, and another read. The naps end early if more than 8 seats
+/// - A nap is a read of the count, a sleep of 20 to 70 microseconds, and another read. The naps end early if more than 8 seats
 ///   hold or wait, and more than twice `near`. If one seat is counted and none owns, the mutex may have been handed over to a
 ///   thread that has not run since. The first nap is then a yield, which lets that thread run on the same processor.
 ///
@@ -95,10 +95,11 @@ impl Pace {
         }
     }
 
-    /// The pace for a machine with this number of processors. With one processor, a seat spins once and naps 4 times before it
-    /// queues, and then parks at once: further spins and polls would keep the holder from running. With more, it spins 12 times
-    /// and naps 4 times before it queues. Then it polls `LOOKS_BEFORE_SLEEP` times if no more seats hold or wait than there are
-    /// processors. The pace of a new mutex is that for eight processors.
+    /// The pace for a machine with this number of processors; 0 counts as 1. With one processor, a seat that locks by
+    /// `lock_barging` spins once and naps 4 times before it queues, and a queued seat parks at once: further spins and polls
+    /// would keep the holder from running. With more, `lock_barging` spins 12 times and naps 4 times, and a queued seat polls
+    /// up to `LOOKS_BEFORE_SLEEP` times if no more seats hold or wait than there are processors. The pace of a new mutex is
+    /// that for eight processors.
     pub fn for_processors(processors: u64) -> Pace
         ensures one { processors ≤ 1 → (result.looks ≡ 0) × (result.near ≡ 0) × (result.spins ≡ 1) }
         ensures more { 1 < processors → (result.looks ≡ 800) × (result.near ≡ processors) × (result.spins ≡ 12) }
@@ -125,7 +126,7 @@ impl Pace {
         Ok(Pace::new(0, 0).with_barging(SPINS_OF_ONE_PROCESSOR, NAPS))
     }
 
-    /// How often a queued seat polls its wake word before it parks.
+    /// How many times a queued seat polls its wake word before it parks.
     pub fn looks(self) -> u32
         ensures { result ≡ self.looks }
     {
@@ -139,14 +140,14 @@ impl Pace {
         self.near
     }
 
-    /// How often a seat spins before it queues.
+    /// How many times a seat spins before it queues.
     pub fn spins(self) -> u32
         ensures { result ≡ self.spins }
     {
         self.spins
     }
 
-    /// How often a seat naps before it queues, after its spins.
+    /// How many times a seat naps before it queues, after its spins.
     pub fn naps(self) -> u32
         ensures { result ≡ self.naps }
     {
@@ -158,7 +159,7 @@ impl Pace {
         count > FEW.max(self.near.saturating_mul(2))
     }
 
-    /// How often a seat that finds this count polls.
+    /// How many times a seat that finds this count polls.
     pub(crate) fn looks_at(self, count: u64) -> u32
         ensures near { count ≤ self.near → result ≡ self.looks }
         ensures far { self.near < count → result ≡ 0 }

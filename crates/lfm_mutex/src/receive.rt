@@ -89,8 +89,8 @@ impl<T: Kept> Mutex<T> {
         0
     }
 
-    /// One load of the wake word of a seat that sleeps. Returns how the seat acquired the mutex, or None if the mutex was not
-    /// granted to it, and it still sleeps.
+    /// Loads the wake word of a seat that sleeps, once, and acquires the mutex if it finds a grant. Returns how the seat
+    /// acquired the mutex, or None if the mutex was not granted to it, and it still sleeps.
     ///
     /// Refuses with NotWaiting if the seat doesn't sleep, or if a call of it is open. It never waits, and makes at most 3
     /// atomic steps.

@@ -19,11 +19,11 @@ impl<T: Kept> Mutex<T> {
     /// threads have ended.
     ///
     /// The results of the closure are not kept: `run` returns Ok with all seats even if a thread stopped early. A caller that
-    /// needs to know this counts the rounds, or gives each seat enough takes. It is a precondition that the closure
-    /// leaves a seat of this mutex, at the same depth as before, and asleep exactly if it slept before.
+    /// needs to know this lets the closure count the rounds. It is a precondition that the closure leaves a seat of this mutex,
+    /// with the same number, at the same depth as before, and asleep exactly if it slept before.
     ///
-    /// No thread calls the closure before all threads have been started. If a request for memory is refused, or a thread can't
-    /// be started, the closure is never called, and all seats are returned.
+    /// No thread calls the closure before all threads have been started. If a request for memory is refused (Memory), or a
+    /// thread can't be started (Thread), the closure is never called, and all seats are returned.
     ///
     /// ```
     /// let seats = mutex.run(&rt, seats, 1_000, &|_: u64, seat: &mut Seat<u64>| -> Result<(), Refusal>

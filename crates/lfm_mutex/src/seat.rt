@@ -1,5 +1,5 @@
-//! A seat of the mutex: what one thread uses it with. Its fields are private to the crate. Callers read a seat by its methods,
-//! and contracts by `sight`.
+//! A seat of the mutex: a thread's handle of it. Its fields are private to the crate. Callers read a seat by its methods, and
+//! contracts by `sight`.
 ghost use Rattle.std.specs.Prelude.{◌≡◌, ◌<◌, ◌-◌, Some, None, MatchOption};
 ghost use Rattle.std.specs.Coded.{Coded-set};
 ghost use Rattle.lfm_table.specs.Props.{IsReady-prop, Became-prop};
@@ -13,9 +13,10 @@ use lfm_protocol::SeatState;
 use lfm_protocol::points::Point;
 use lfm_table::{Kept, TableSeat, Woken};
 
-/// What one thread uses the mutex with. A seat may move between threads, and each call borrows it for its whole length. If a
-/// seat is dropped while it holds, no other seat can acquire the mutex again. If it is dropped while it sleeps, no other seat
-/// can acquire the mutex once the mutex is granted to the dropped seat.
+/// A thread's handle of the mutex. A seat may move between threads, and each call borrows it until the call returns. A seat
+/// *sleeps* from the call that queued it, or from its `start_wait`, until a receive finds its grant, whether or not a thread is
+/// parked for it. If a seat is dropped, the mutex can't be closed. If it is dropped while it holds, no other seat can acquire
+/// the mutex again. If it is dropped while it sleeps, this is so once the mutex is granted to it.
 ///
 /// These lines are compiled in the crate `example_cache`:
 ///
@@ -54,7 +55,7 @@ impl<T: Kept> Seat<T> {
         SeatNo::known(self.table_seat.number)
     }
 
-    /// How often the seat holds the mutex: 0 to 65,535.
+    /// How many times the seat holds the mutex: 0 to 65,535.
     pub fn depth(&self) -> u32
         ensures { result ≡ (sight self.now).depth }
     {

@@ -52,7 +52,7 @@ impl<T: Kept> Mutex<T> {
         }
     }
 
-    /// `with` by `try_lock`: it never waits.
+    /// `with` by `try_lock` in place of `lock_barging`: it never waits and allocates nothing. It wakes as `unlock` does.
     ///
     /// Refuses as `try_lock`: Asleep, DepthFull, Spent, Busy, in this order. Then the closure is not called, and the seat is as
     /// it was. Whatever other seats do, it makes at most N + 13 atomic steps, N being the number of seats.

@@ -1,4 +1,4 @@
-//! `send_lock`: locks on behalf of a seat that waits, the target. Fast path: the target acquires a free mutex, or is queued
+//! `send_lock`: locks on behalf of a seat that waits, the target. Fast path: the target is granted a free mutex, or is queued
 //! while no handoff is posted (`push`). Everything else is the slow path (`calls::finish`).
 ghost use Rattle.std.specs.Prelude.{◌≡◌, ◌+◌, ◌<◌, ◌≤◌, length};
 ghost use Rattle.lfm_protocol.specs.declared.answers.Answer.TheVariants as Answered;
@@ -31,8 +31,9 @@ use lfm_table::{Kept, WakeUp};
 use lfm_words::Wake;
 
 impl<T: Kept> Mutex<T> {
-    /// Locks on behalf of the target, a seat that has waited since its `start_wait`: the target acquires the mutex or is
-    /// queued. The caller may hold the mutex or not, and is charged nothing.
+    /// Locks on behalf of the target, a seat that has waited since its `start_wait`: the target is granted the mutex if it is
+    /// free, and is queued otherwise. In both cases it sleeps until its own receive finds the grant. The caller may hold the
+    /// mutex or not, and is charged nothing.
     ///
     /// Refuses, in this order: Asleep, NoSuchSeat (the target is above the number of seats), NotWaiting (the target doesn't
     /// wait, or was already sent). It never waits, and wakes the seat to which it grants the mutex, if any. With N seats it

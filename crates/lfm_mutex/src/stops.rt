@@ -1,9 +1,10 @@
 //! The points at which a fast path of `lock` or `try_lock`, or a push, stops. There the slow path (`calls::finish`) or `queue`
-//! takes over the call. The fast paths of `lock` and `try_lock` pass where they stop as a `Stop`, or as the handoff word that
-//! they loaded. A push returns it as a `PushStop`. Each is one or two words, and a `Point` has more: if one of these paths put
-//! such a word into a point, the compiler would clear the point's memory before the first atomic step, even if the path does
-//! not stop. So these points are stored out of line. The points of a `Stop` have no word of the path. Storing them inline takes
-//! fewer instructions. The points of `unlock`, `start_wait` and `send_lock` are stored in `serve` and `send`.
+//! takes over the call. The fast paths of `lock` and `try_lock` give the point as a `Stop` or as the handoff word that they
+//! loaded, and a push gives it as a `PushStop`. Each of these is one or two words, and a `Point` has more: if a path put a word
+//! that it loaded into a point, the compiler would clear the point's memory before the first atomic step, even if the path does
+//! not stop. So `stop_at_push` and `stop_at_post`, which do that, are not inlined. The point of a `Stop` has no such word, and
+//! is stored inline, since that takes fewer instructions. The points of `unlock`, `start_wait` and `send_lock` are stored in
+//! `serve` and `send`.
 ghost use Rattle.std.specs.Prelude.{◌≡◌};
 ghost use Rattle.lfm_protocol.specs.declared.points.Point.TheVariants.{TryHandoffExchange};
 ghost use Rattle.lfm_laws.specs.table.Words.{handoff_of};

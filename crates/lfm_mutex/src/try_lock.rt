@@ -1,5 +1,5 @@
-//! `try_lock`. Fast path: the mutex is free, the seat holds it, or another seat holds it and no handoff is posted. Everything
-//! else is the slow path (`calls::finish`).
+//! `try_lock`. Fast path: the mutex is free, the seat holds it, or other seats hold or want it and no handoff is posted.
+//! Everything else is the slow path (`calls::finish`).
 ghost use Rattle.std.specs.Prelude.{◌≡◌, ◌<◌};
 ghost use Rattle.lfm_protocol.specs.declared.answers.Call.{Call as CallNow};
 ghost use Rattle.lfm_protocol.specs.declared.points.Point.TheVariants.{Rest};

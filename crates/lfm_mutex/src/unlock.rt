@@ -25,8 +25,9 @@ use lfm_table::steps::{keep_held, retake};
 use lfm_table::{Kept, WakeUp};
 
 impl<T: Kept> Mutex<T> {
-    /// Gives up one hold. At depth 1 it gives up the mutex: to the oldest queued seat, or by a post to a locker that is not
-    /// queued yet, or leaves it free. At depth 1 the value that the seat leaves has to follow the one that it found.
+    /// Gives up one hold. At depth 1 it gives up the mutex: it grants the mutex to the oldest queued seat, posts it for a
+    /// locker that is not queued yet, or leaves it free. At depth 1 the value that the seat leaves has to follow the one that
+    /// it found.
     ///
     /// Refuses, in this order: Asleep, NotOwner (the seat doesn't hold). It never waits, and wakes the seat to which it grants
     /// the mutex, if any. Whatever other seats do, it makes at most N + 7 atomic steps, N being the number of seats. It

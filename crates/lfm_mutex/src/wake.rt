@@ -13,7 +13,8 @@ use lfm_table::{Kept, WakeUp, Woken};
 
 impl<T: Kept> Mutex<T> {
     /// Wakes the thread of the seat to which a call has granted this mutex, if there is such a seat and its thread is parked.
-    /// With a wake-up it makes one system call. It makes no atomic step and never waits.
+    /// With a wake-up it makes one system call. It makes no atomic step and never waits. The wake-up has to be one that a call
+    /// of this mutex returned; the precondition checks only its seat number.
     #[inline(always)]
     pub fn wake(&self, wake_up: Option<WakeUp>)
         requires { (t : ℕ) → wake_up ≡ Some t → t ≤ (limits_of self.now).seats }

@@ -1,5 +1,5 @@
-//! What moves with the responsibility, behind one pointer. So moving it between the slot of the table and a seat copies one
-//! pointer, however large the value is.
+//! The pop list and the guarded value, behind one pointer. They move with the responsibility, the duty to hold the mutex or to
+//! hand it on. To move them between the slot of the table and a seat copies one pointer, however large the value is.
 ghost use Rattle.std.specs.Prelude.{◌≡◌, ◌<◌, ◌∷◌, drop, length, IfOk};
 ghost use Rattle.std.specs.Borrow.{Lends, sem};
 ghost use Rattle.lfm_words.specs.Popped.{oldest};

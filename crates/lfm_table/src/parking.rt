@@ -1,9 +1,10 @@
 //! How the thread of a sleeping seat parks on the seat's wake word, and how it is woken. Neither changes a word.
 //!
-//! No grant is missed. A thread parks only after it has loaded a word that is no grant, and it sleeps only while the low 32
-//! bits of the word are the ones that it loaded. In these bits a grant differs from every other state. So a grant that is
-//! stored before the thread sleeps prevents the sleep. A grant that is stored later leaves a wake-up, which can't be dropped
-//! and ends in `wake`. It is not proved that `wake` makes the system call, nor that the system then wakes the thread.
+//! No grant is missed. A thread parks only after it has loaded a word that is no grant, and it falls asleep only if the low 32
+//! bits of the word are still the ones that it loaded. In these bits a grant differs from every other state. So a grant that is
+//! stored before the thread falls asleep prevents the sleep. A grant that is stored later leaves a wake-up, which can't be
+//! dropped: it ends in `wake`, or in `WakeUp::into_seat`, whose caller then has to wake the thread. It is not proved that
+//! `wake` makes the system call, nor that the system then wakes the thread.
 ghost use Rattle.std.specs.Prelude.{◌≡◌, ◌+◌, ◌*◌, ◌<◌, ◌≤◌, [], ◌∷◌, ◌++◌};
 ghost use Rattle.lfm_protocol.specs.Limits.{max_seats};
 

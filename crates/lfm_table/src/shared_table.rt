@@ -50,7 +50,8 @@ impl<T: Kept> Model for SharedTable<T> {
     ghost view = { λ t. record { table_id = t.table.shared.table_id } };
 }
 
-/// The operations on a word. Each requires that the rule is kept whatever the table is, as the operations of `atomic_table` do.
+/// The operations on a word, all sequentially consistent. Each requires that it keeps the rule in any state of the table, as
+/// the operations of `atomic_table` do.
 impl<T: Kept> SharedTable<T> {
     /// Loads the word.
     #[inline(always)]

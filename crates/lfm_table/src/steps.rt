@@ -1,9 +1,9 @@
 //! The atomic steps of the fast paths, named by what happens to the guarded value. A fast path rarely stores a point. It builds
 //! the seat's state at the step's point and passes it. After inlining, only the fields that the step reads are left. The proof
-//! needs the other fields.
+//! needs the other fields. Each function except `grant` returns the number that its step found, or stored if it is a store.
 //!
 //! An atomic step waits for the plain writes before it. Therefore a fast path makes its plain writes together, between two
-//! steps where the value moves in any case.
+//! steps between which it moves the value anyway, since that takes plain writes too.
 ghost use Rattle.std.specs.Prelude.{◌≡◌, ◌≢◌, ◌<◌, ◌≤◌, ℕ, Some, None, true, false};
 ghost use Rattle.lfm_protocol.specs.declared.kinds.Kind.{Kind as KindNow};
 ghost use Rattle.lfm_protocol.specs.declared.points.Point.TheVariants.{ReleaseOwnerStore};

@@ -17,11 +17,8 @@ use std::marker::Model;
 /// returned to a caller, or turned into a seat's number. `parking::wake` adds the seat to the list of woken seats.
 ///
 /// ```
-/// let (found, wake_up) = make_step::<T, B>(kind, table, seat, state);
-/// match wake_up {
-///     Some(wake_up) => wake(table, seats, wake_up, &mut woken),
-///     None => {}
-/// }
+/// let (unlocked, wake_up) = mutex.unlock_without_waking(&mut seat);
+/// mutex.wake(wake_up);
 /// ```
 pub struct WakeUp {
     seat: SeatNo,

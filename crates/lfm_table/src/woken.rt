@@ -19,9 +19,10 @@ impl Model for Woken {
     ghost also_owns = { λ _. ftrue };
 }
 
-// A struct with `also_owns` does not become `Send` or `Sync` automatically. This one owns nothing, so it may be both.
+// SAFETY: the struct owns nothing, so it may be sent. A struct with `also_owns` does not become `Send` automatically.
 unsafe impl Send for Woken {}
 
+// SAFETY: the struct owns nothing, so it may be shared. A struct with `also_owns` does not become `Sync` automatically.
 unsafe impl Sync for Woken {}
 
 impl Woken {

@@ -252,14 +252,16 @@ static void hide(void *at, size_t bytes) {
   if (IS_IN_VALGRIND) hide_in_valgrind(at, bytes);
 }
 
-/* How many processors the calling thread may use; 8 if the system doesn't tell. It is asked once. */
+/* How many processors the calling thread may use; 8 if the system doesn't tell. It is asked once, and errno stays as it was. */
 static uint32_t processors(void) {
   static uint32_t known;
   uint32_t count = __atomic_load_n(&known, __ATOMIC_RELAXED);
   if (count) return count;
   hide(&known, sizeof known);
   unsigned long mask[128];
+  int before = errno;
   long bytes = syscall(SYS_sched_getaffinity, 0, sizeof mask, mask);
+  errno = before;
   for (long i = 0; i < bytes / (long)sizeof mask[0]; i++) count += (uint32_t)__builtin_popcountl(mask[i]);
   if (count == 0) count = 8;
   __atomic_store_n(&known, count, __ATOMIC_RELAXED);
@@ -279,10 +281,10 @@ void *lfm_allocate(size_t bytes) {
  * An lfm_mutex refers to its core, and so does each seat that is taken. The core is freed with the last reference.
  *
  * Nothing is touched after its end. Whoever gains a mutex last may close it, and give back the memory of the lfm_mutex, while
- * the unlock of the thread before it has not returned. That unlock touches the core alone, to find whose bell it rings, and its
- * own seat keeps the core. The bell lies in a seat of another thread, which waits for the ring: no seat goes on by a grant
- * before it is rung for. A give touches the core until it drops its own reference. So a close, which drops that of the
- * lfm_mutex, may come before its end. */
+ * the unlock of the thread before it has not returned. That unlock touches the core, which its own seat keeps, and the seats
+ * and waiters of other threads that it rings or passes by. Each of these stays until that is done: no seat goes on by a grant
+ * before it is rung for, and a give waits while its seat is passed by. A give touches the core until it drops its own
+ * reference. So a close, which drops that of the lfm_mutex, may come before its end. */
 
 enum { MUTEX_BYTES = 48, ALIGNMENT = 16, LINE = 64 };
 
@@ -293,7 +295,7 @@ struct spent_seat {
 };
 
 /* The first cache line is changed by seats that are taken and given back, and by locks that queue; the next ones seldom. The
- * last one may also have memory of others. */
+ * last one may be shared with other blocks of malloc. */
 struct lfm_core {
   unsigned char handle[MUTEX_BYTES];
   uint64_t left : 48;    /* how many takes the seats had left, each when it was last taken or given back */
@@ -338,9 +340,10 @@ static void *new_lines(size_t bytes) {
 /* The states of a place, and what else is in its word. */
 enum { WAITS, TIMED, ABANDONED, PASSING, AWAITED, ORPHANED, SPENT, STATES = 7, IN_LIBRARY = 8 };
 
+/* Whether the proved calls' mutex and seat fit where they lie, in size and alignment. */
 static bool is_known_library(void) {
   return lfm_c_mutex_size() <= MUTEX_BYTES && lfm_c_seat_size() <= LFM_SEAT_BYTES && lfm_c_mutex_align() <= ALIGNMENT &&
-         lfm_c_seat_align() <= ALIGNMENT;
+         lfm_c_seat_align() <= ALIGNMENT && offsetof(lfm_seat, handle) % lfm_c_seat_align() == 0;
 }
 
 /* A new core, with one reference, or null and the cause. */
@@ -641,7 +644,7 @@ uint64_t lfm_left(lfm_seat *seat) {
 
 uint64_t lfm_takes_left(lfm_mutex *mutex) {
   struct lfm_core *core = mutex ? __atomic_load_n(&mutex->core, __ATOMIC_ACQUIRE) : NULL;
-  if (!core) return mutex && mutex->version ? mutex->seats * LFM_MOST_TAKES : 0;
+  if (!core) return mutex && mutex->version && mutex->seats <= LFM_MOST_SEATS ? mutex->seats * LFM_MOST_TAKES : 0;
   enter_seats(core);
   uint64_t left = core->left;
   leave(&core->guard);
@@ -991,12 +994,14 @@ lfm_status lfm_unlock(lfm_seat *seat) { return is_plain(seat) ? unlock_plainly(s
 
 static lfm_status give_found(lfm_seat *seat);
 
-/* A seat that was given back is touched no more: its memory may be gone by then, with that of the mutex. */
+/* A seat that was given back is touched no more: its memory may be gone by then, with that of the mutex. In a child a call of
+ * the seat may be open for ever, by a thread that the child lacks, so there it is not asked whether one is. */
 lfm_status lfm_seat_give(lfm_seat *seat) {
   if (!is_taken(seat)) return LFM_BLANK;
   if (seat->is_of_library) return give_found(seat);
-  begin_call(seat);
-  if (has_left(seat) && is_of_process(seat->core) && is_copy_left(seat)) return LFM_DONE;
+  bool is_here = is_of_process(seat->core);
+  if (is_here) begin_call(seat);
+  if (has_left(seat) && is_here && is_copy_left(seat)) return LFM_DONE;
   lfm_status status = give(seat, true);
   return status == LFM_DONE ? status : end_call(seat, status);
 }
@@ -1142,8 +1147,8 @@ static bool is_never_unloaded(void) {
   return false;
 }
 
-/* If a shared object that has this code is unloaded, no thread that ends later calls it. A program that ends keeps the key:
- * threads that go on meanwhile still give their seats back. */
+/* If a shared object that has this code is unloaded, no thread that ends later calls it. Code that is never unloaded keeps the
+ * key as the program ends: threads that go on meanwhile still give their seats back. */
 __attribute__((destructor(101))) static void drop_end_key(void) {
   if (is_never_unloaded()) return;
   uint32_t found = __atomic_exchange_n(&end_key, IS_DROPPED, __ATOMIC_ACQ_REL);
@@ -1281,16 +1286,16 @@ uint64_t lfm_depth_here(lfm_mutex *mutex) { return lfm_depth(find_of(mutex)); }
 /* Whether a seat holds the mutex or asks for it, as counted by the calling thread's seat, or by one that it takes for that. If
  * there is none, the answer is false. */
 static bool is_in_use(struct lfm_core *core) {
-  lfm_seat *seat = find(core), looks;
+  lfm_seat *seat = find(core), temporary;
   if (seat && is_away(seat)) {
     if (state_of(seat) == ABANDONED) return true;
     await_passed(seat);
   }
   if (seat) return lfm_c_count(seat->handle) != 0;
-  looks.is_of_library = false;
-  if (take(core, &looks, 0, false) != LFM_DONE) return false;
-  bool is_used = lfm_c_count(looks.handle) != 0;
-  give(&looks, false);
+  temporary.is_of_library = false;
+  if (take(core, &temporary, 0, false) != LFM_DONE) return false;
+  bool is_used = lfm_c_count(temporary.handle) != 0;
+  give(&temporary, false);
   return is_used;
 }
 
@@ -1375,16 +1380,16 @@ lfm_status lfm_after_fork(lfm_mutex *mutex, lfm_seat *seat) {
   struct lfm_core *core = mutex->core;
   if (seat && seat->core != core) return LFM_FOREIGN;
   if (!core || is_of_process(core)) return LFM_DONE;
-  lfm_seat *found = seat ? seat : find(core), looks;
+  lfm_seat *found = seat ? seat : find(core), temporary;
   if (!found && core->guard == 0) {
-    lfm_c_blank_seat(looks.handle);
-    if (lfm_c_take_seat(core->handle, looks.handle) == LFM_DONE) found = &looks;
+    lfm_c_blank_seat(temporary.handle);
+    if (lfm_c_take_seat(core->handle, temporary.handle) == LFM_DONE) found = &temporary;
   }
-  if (!found || (found != &looks && is_away(found))) return LFM_BUSY;
+  if (!found || (found != &temporary && is_away(found))) return LFM_BUSY;
   bool is_busy = lfm_c_depth(found->handle) == 0 && lfm_c_count(found->handle) != 0;
-  if (found == &looks) lfm_c_give_seat(core->handle, looks.handle);
+  if (found == &temporary) lfm_c_give_seat(core->handle, temporary.handle);
   if (is_busy) return LFM_BUSY;
-  return make_new(mutex, found == &looks ? NULL : found, seat && !seat->is_of_library);
+  return make_new(mutex, found == &temporary ? NULL : found, seat && !seat->is_of_library);
 }
 
 /* Conditions
@@ -1613,7 +1618,7 @@ const char *lfm_status_text(lfm_status status) {
     case LFM_NO_SEAT: return "all seats of the mutex are taken, and a thread keeps its seat until it ends";
     case LFM_NOT_BACK: return "some seats are not given back";
     case LFM_HOLDING: return "the mutex is held";
-    case LFM_FOREIGN: return "the seat is of another mutex";
+    case LFM_FOREIGN: return "the seat is of another mutex or thread";
     case LFM_OTHER_HEADER: return "the library is of another version than the header";
     case LFM_WAITED_FOR: return "a thread waits at the condition variable";
     case LFM_SEAT_ASLEEP: return "the seat sleeps in a call of another thread";

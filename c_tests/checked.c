@@ -1,4 +1,5 @@
-/* Two threads make calls of one seat at the same time. Compiled with -DLFM_CHECKED, the program is ended with a text. */
+/* Two threads make calls of one seat at the same time. Compiled with -DLFM_CHECKED, the program is ended with a text. A child
+ * gives back a seat that is in a call of a thread which the child lacks, and is not ended. */
 #define _GNU_SOURCE
 #define LFM_CHECKED
 #include <signal.h>
@@ -14,13 +15,32 @@ static void *lock_it(void *at) {
   return at;
 }
 
-/* One thread sleeps in a lock of the seat, and another calls with it. */
-static void call_beside(void) {
+/* Starts a thread that is in a lock of the seat. */
+static pthread_t begin_lock(void) {
   pthread_t thread;
   EXPECT(pthread_create(&thread, NULL, lock_it, NULL), 0);
   while (!__atomic_load_n(&seat.is_in_call, __ATOMIC_SEQ_CST)) sched_yield();
+  return thread;
+}
+
+/* One thread sleeps in a lock of the seat, and another calls with it. */
+static void call_beside(void) {
+  begin_lock();
   if (lfm_is_refused(lfm_try_lock(&seat))) _exit(1);
   _exit(2);
+}
+
+static void give_in_child(void) {
+  int status;
+  pthread_t thread = begin_lock();
+  pid_t child = fork();
+  EXPECT(child >= 0, true);
+  if (child == 0) _exit(lfm_seat_give(&seat) == LFM_DONE ? 0 : 1);
+  EXPECT(waitpid(child, &status, 0), child);
+  EXPECT(WIFEXITED(status) && WEXITSTATUS(status) == 0, true);
+  EXPECT(lfm_is_refused(lfm_unlock(&holder)), false);
+  EXPECT(pthread_join(thread, NULL), 0);
+  EXPECT(lfm_unlock(&seat), LFM_DONE);
 }
 
 int main(void) {
@@ -46,5 +66,6 @@ int main(void) {
   EXPECT(WIFSIGNALED(status) && WTERMSIG(status) == SIGABRT, true);
   EXPECT(read(ends[0], text, sizeof text - 1) > 0, true);
   EXPECT(strncmp(text, "ligdrosa: two threads", 21), 0);
+  give_in_child();
   return 0;
 }

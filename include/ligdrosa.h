@@ -13,28 +13,31 @@
  * lfm_is_refused, and not against 0: each one below LFM_BLANK is a success, as LFM_AGAIN of a thread that held before.
  * lfm_status_text has its meaning in words.
  *
- * Proved are the inner calls, which lock and unlock but neither sleep nor wake: their answers and refusals, their steps, how
- * many these are at most (a lock makes two more for each push that fails), and which seat they grant the mutex. That no two
- * seats hold at once follows, in every sequentially consistent interleaving. Only tested is the rest, which makes these calls:
- * it puts threads to sleep and wakes them, tries before it queues, passes by seats whose time is over, finds seats, opens and
- * ends mutexes, and has the condition variables. Its source argues why no wake-up is lost, and why nothing is touched after its
- * end. Trusted are the prover with its library, the compilers, the linker, the C library and Linux.
+ * The inner calls are proved: they lock and unlock, but neither sleep nor wake. Proved are their answers and refusals, their
+ * steps, how many these are at most (a lock makes two more for each push that fails), and which seat they grant the mutex. That
+ * no two seats hold at once follows, in every sequentially consistent interleaving. The rest, which makes these calls, is only
+ * tested: it puts threads to sleep and wakes them, tries before it queues, passes by seats whose time is over, finds seats,
+ * opens and ends mutexes, and has the condition variables. Its source argues why no wake-up is lost, and why nothing is touched
+ * after its end. Trusted are the prover with its library, the compilers, the linker, the C library and Linux.
  *
  * A thread calls a mutex through a seat. Calls whose names end in `here` find the calling thread's seat by themselves. The
- * others are given a seat (lfm_seat_take), for programs that want no thread-local memory. Then memory is taken only by calls
- * that open a mutex or make it new after a fork, by a lock or wait that exchanges a spent seat, by a give of a seat that a
- * timed lock has left queued, and, for its own duration, by the call with which a mutex ends.
+ * others are given a seat (lfm_seat_take), for programs that want to keep nothing in thread-local memory. Then memory is taken
+ * only by calls that open a mutex or make it new after a fork, by a lock or wait that exchanges a spent seat, by a give of a
+ * seat that a timed lock has left queued, and, for its own duration, by the call with which a mutex ends.
  *
  * Each call answers a status. Null, a mutex that is not open and a seat that is not taken are answered by LFM_BLANK. A call
- * that is refused has changed nothing, unless it says so. Only these may change errno: calls that open or close a mutex, make
- * it new after a fork, or give a seat back, the first call of a thread for a mutex, and calls by destructors of thread-specific
- * data, which may give seats back. What a program promises, and nothing checks:
+ * that is refused has changed nothing, unless it says so; but it may have opened an LFM_MUTEX_INIT and taken the thread's seat.
+ * Only these may change errno: calls that open or close a mutex, make it new after a fork, take, exchange or give back a seat,
+ * or count takes, the first call of a thread for a mutex, and calls by destructors of thread-specific data, which may give
+ * seats back. What a program promises, and nothing checks:
  *
  *   - An lfm_mutex is zero or LFM_MUTEX_INIT, and an lfm_seat and lfm_condvar zero, before their first call. They are touched
  *     by these calls alone. A mutex and a condition variable are moved only between calls, and a seat not while it is taken.
- *     All three are of one process: they don't lie in memory that processes share.
+ *     All three are of one process: they don't lie in memory that processes share. All parts of a program that share a mutex
+ *     call one copy of the library, as libligdrosa.so, since each copy finds seats of its own.
  *   - A seat is in one call at a time. It goes from one thread to another by a lock, a thread's start or join, or the like. If
- *     a program is compiled with -DLFM_CHECKED, two threads in one seat of lfm_seat_take end it with a text.
+ *     all files of a program are compiled with -DLFM_CHECKED, two threads in one seat of lfm_seat_take end it with a text. This
+ *     does not check lfm_depth and lfm_left.
  *   - No call comes from a signal handler. From a forked child come calls of a mutex only after lfm_after_fork, but its seats
  *     may be given back and it may be closed: then the child only forgets it. If other threads of the parent may have waited at
  *     a condition variable or been in a call of it, the child sets it to zero before it calls it: it has none of these threads.
@@ -86,7 +89,7 @@ typedef enum lfm_status {
   LFM_NO_SEAT = 20,      /* all seats are taken */
   LFM_NOT_BACK = 21,     /* some seats are not given back */
   LFM_HOLDING = 22,      /* the seat holds the mutex, or for a close: some seat holds it or asks for it */
-  LFM_FOREIGN = 23,      /* the seat is of another mutex */
+  LFM_FOREIGN = 23,      /* the seat is of another mutex or thread */
   LFM_OTHER_HEADER = 24, /* the library is of another version than this header */
   LFM_WAITED_FOR = 25,   /* a thread waits at the condition variable */
 
@@ -133,7 +136,7 @@ enum { LFM_MOST_SEATS = 4095, LFM_USUAL_SEATS = 64, LFM_SEAT_BYTES = 136 };
 struct lfm_core;
 struct lfm_waiter;
 
-/* A mutex, of 16 bytes. While `core` is null it is not open, but LFM_MUTEX_INIT is opened by its first call. */
+/* A mutex, of 16 bytes. While `core` is null it is not open, but LFM_MUTEX_INIT is opened by its first lock or seat. */
 typedef struct LFM_CAPABILITY lfm_mutex {
   struct lfm_core *core;
   uint32_t seats;
@@ -145,7 +148,7 @@ typedef struct LFM_CAPABILITY lfm_mutex {
 #define LFM_MUTEX_INIT_WITH(seats) {NULL, (seats), LFM_VERSION}
 #define LFM_MUTEX_INIT LFM_MUTEX_INIT_WITH(LFM_USUAL_SEATS)
 
-/* What one thread uses a mutex with, of 256 bytes. It is aligned as memory of malloc is, and ends with bytes that nothing uses,
+/* A thread's handle of a mutex, of 256 bytes. It is aligned as memory of malloc is, and ends with bytes that nothing uses,
  * so that no two of them share a cache line wherever they lie. `core` is null while the seat is not taken. */
 typedef struct lfm_seat {
   struct lfm_core *core;
@@ -181,7 +184,7 @@ LFM_API const char *lfm_status_text(lfm_status status);
 /* Mutexes */
 
 /* Opens a mutex with this many seats, 1 to 4,095, each of which may take it as often as the budget says, 1 to LFM_MOST_TAKES.
- * `version` is LFM_VERSION. It takes at most 153 bytes for each seat and 700 more.
+ * `version` is LFM_VERSION. It keeps at most 153 bytes for each seat and 700 more, and takes up to 257 for each meanwhile.
  * Refused: LFM_BLANK (null), LFM_TAKEN, LFM_OTHER_HEADER, LFM_LIMIT, LFM_NO_MEMORY. */
 LFM_API lfm_status lfm_mutex_open(lfm_mutex *mutex, uint64_t seats, uint64_t budget, int version);
 /* The same for programs that have this header. */
@@ -204,8 +207,8 @@ LFM_API lfm_status lfm_mutex_close(lfm_mutex *mutex);
 LFM_API uint64_t lfm_takes_left(lfm_mutex *mutex);
 
 /* In a forked child, makes a mutex new that the thread which forked held, or that no seat held: that thread holds it as often
- * as before. `seat` is that thread's seat, or null if it finds its seat by itself. Other seats of it are forgotten: an lfm_seat
- * is set to zero before it is taken anew. The library's memory for seats that threads of the parent found goes back, and that
+ * as before. `seat` is that thread's seat, or null if it finds its seat by itself. It may get another number, and has all takes
+ * of the budget again, less one if it holds. Other seats of it are forgotten: an lfm_seat is set to zero before it is taken anew. The library's memory for seats that threads of the parent found goes back, and that
  * of the old mutex too if no other seat was in hand. In the process that opened the mutex it changes nothing.
  * Refused: LFM_BLANK, LFM_FOREIGN, LFM_NO_MEMORY, and LFM_BUSY if another thread held the mutex, asked for it or was giving it
  * up when the parent forked, if a timed lock had left the thread's own seat queued, or if the thread has no seat by which it
@@ -229,9 +232,9 @@ LFM_API lfm_status lfm_seat_take_checked(lfm_mutex *mutex, lfm_seat *seat);
  * lfm_seat_give_here. Refused: LFM_BLANK, LFM_HOLDING, LFM_SEAT_ASLEEP, and LFM_FOREIGN if another thread has that seat. */
 LFM_API lfm_status lfm_seat_give(lfm_seat *seat);
 
-/* The seat's number, 1 and on, or 0 of a seat that is not taken. An exchange of a spent seat changes it. */
+/* The seat's number, 1 and on, or 0 of a seat that is not taken. lfm_after_fork and an exchange of a spent seat change it. */
 LFM_API uint64_t lfm_number(lfm_seat *seat);
-/* How often the seat holds. */
+/* How many times the seat holds. */
 LFM_API uint64_t lfm_depth(lfm_seat *seat);
 /* How many takes the seat has left, or 0 of a seat that is not taken. */
 LFM_API uint64_t lfm_left(lfm_seat *seat);
@@ -247,7 +250,8 @@ LFM_NODISCARD lfm_status lfm_lock(lfm_seat *seat);
 /* The same, but queues at once. */
 LFM_NODISCARD lfm_status lfm_lock_in_order(lfm_seat *seat);
 
-/* Gains the mutex or deepens the hold, and never sleeps: LFM_DONE or LFM_AGAIN. It may come before seats that are queued.
+/* Gains the mutex or deepens the hold, and never waits for a holder: LFM_DONE or LFM_AGAIN. It may come before seats that are
+ * queued. Only to exchange a spent seat it may sleep, until another thread has taken or given one.
  * Refused: LFM_BLANK, LFM_SEAT_ASLEEP, LFM_DEPTH_FULL, LFM_SPENT, and LFM_BUSY, which gives the take back. */
 LFM_NODISCARD lfm_status lfm_try_lock(lfm_seat *seat);
 
@@ -283,7 +287,9 @@ LFM_API lfm_seat *lfm_seat_here(lfm_mutex *mutex, lfm_status *cause);
  * LFM_BLANK if the thread has none. A later call of the thread takes a seat anew. */
 LFM_API lfm_status lfm_seat_give_here(lfm_mutex *mutex);
 
-/* The calls above with that seat. Refused also: LFM_NO_SEAT, LFM_NO_MEMORY, and as lfm_mutex_open if it opens the mutex. */
+/* The calls above with that seat. A call that takes a seat, or an unlock that gives one back as its thread ends, may sleep until
+ * another thread has taken or given one. Refused also: LFM_NO_SEAT, LFM_NO_MEMORY, and as lfm_mutex_open if it opens the
+ * mutex. */
 LFM_NODISCARD lfm_status lfm_lock_here(lfm_mutex *mutex) LFM_GAINS(*mutex);
 LFM_NODISCARD lfm_status lfm_lock_in_order_here(lfm_mutex *mutex) LFM_GAINS(*mutex);
 LFM_NODISCARD lfm_status lfm_try_lock_here(lfm_mutex *mutex) LFM_TRIES(*mutex);

@@ -87,7 +87,8 @@ public:
 // The greatest number of takes that a seat may be allowed.
 constexpr uint64_t most_takes = uint64_t{1} << 36;
 
-// Whether memory has static storage, in the program or in a shared object. Before glibc 2.34 it needs -ldl.
+// Whether memory has static storage, in the program or in a shared object. Before glibc 2.34 it needs -ldl. In a program linked
+// with -static, a C library without _dl_find_object finds none: then a static mutex is closed as the program ends.
 inline bool is_static(void *memory) noexcept {
 #ifdef DLFO_STRUCT_HAS_EH_DBASE // the C library has a search that takes no lock
   dl_find_object found;

@@ -113,7 +113,7 @@ impl<T: ?Sized> Mutex<T> {
         self.guard(self.raw.0.lock_in_order())
     }
 
-    /// Acquires the mutex without a sleep, perhaps before seats that are queued. Refused: as `lock`, and `Busy`.
+    /// Acquires the mutex without waiting for a holder, perhaps before seats that are queued. Refused: as `lock`, and `Busy`.
     #[inline]
     pub fn try_lock(&self) -> Result<MutexGuard<'_, T>, Refusal> {
         self.guard(self.raw.0.try_lock())

@@ -92,7 +92,7 @@ impl<T: ?Sized> Seat<T> {
         self.guard(self.raw().lock_in_order())
     }
 
-    /// Acquires the mutex without a sleep, perhaps before seats that are queued. Refused: as `lock`, and `Busy`.
+    /// Acquires the mutex without waiting for a holder, perhaps before seats that are queued. Refused: as `lock`, and `Busy`.
     #[inline]
     pub fn try_lock(&mut self) -> Result<Guard<'_, T>, Refusal> {
         self.guard(self.raw().try_lock())

@@ -30,6 +30,7 @@ static void call_beside(void) {
   _exit(2);
 }
 
+/* A child gives back a seat while a thread of the parent is in a lock of it. */
 static void give_in_child(void) {
   int status;
   pthread_t thread = begin_lock();

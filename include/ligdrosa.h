@@ -207,9 +207,10 @@ LFM_API lfm_status lfm_mutex_close(lfm_mutex *mutex);
 LFM_API uint64_t lfm_takes_left(lfm_mutex *mutex);
 
 /* In a forked child, makes a mutex new that the thread which forked held, or that no seat held: that thread holds it as often
- * as before. `seat` is that thread's seat, or null if it finds its seat by itself. It may get another number, and has all takes
- * of the budget again, less one if it holds. Other seats of it are forgotten: an lfm_seat is set to zero before it is taken anew. The library's memory for seats that threads of the parent found goes back, and that
- * of the old mutex too if no other seat was in hand. In the process that opened the mutex it changes nothing.
+ * as before. `seat` is that thread's seat, or null if it finds its seat by itself. It may get another number, and has all
+ * takes of the budget again, less one if it holds. Other seats of it are forgotten: an lfm_seat is set to zero before it is
+ * taken anew. The library's memory for seats that threads of the parent found goes back, and that of the old mutex too if no
+ * other seat was in hand. In the process that opened the mutex it changes nothing.
  * Refused: LFM_BLANK, LFM_FOREIGN, LFM_NO_MEMORY, and LFM_BUSY if another thread held the mutex, asked for it or was giving it
  * up when the parent forked, if a timed lock had left the thread's own seat queued, or if the thread has no seat by which it
  * could see that, and all were taken or another thread was just taking or giving one. */
@@ -287,8 +288,8 @@ LFM_API lfm_seat *lfm_seat_here(lfm_mutex *mutex, lfm_status *cause);
  * LFM_BLANK if the thread has none. A later call of the thread takes a seat anew. */
 LFM_API lfm_status lfm_seat_give_here(lfm_mutex *mutex);
 
-/* The calls above with that seat. A call that takes a seat, or an unlock that gives one back as its thread ends, may sleep until
- * another thread has taken or given one. Refused also: LFM_NO_SEAT, LFM_NO_MEMORY, and as lfm_mutex_open if it opens the
+/* The calls above with that seat. A call that takes a seat, or an unlock that gives one back as its thread ends, may sleep
+ * until another thread has taken or given one. Refused also: LFM_NO_SEAT, LFM_NO_MEMORY, and as lfm_mutex_open if it opens the
  * mutex. */
 LFM_NODISCARD lfm_status lfm_lock_here(lfm_mutex *mutex) LFM_GAINS(*mutex);
 LFM_NODISCARD lfm_status lfm_lock_in_order_here(lfm_mutex *mutex) LFM_GAINS(*mutex);

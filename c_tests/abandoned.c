@@ -1,10 +1,11 @@
-/* Timed locks whose time is over while they are queued: each leaves its place, and the thread that is to wake it passes it by.
- * The seat locks again from its old place or anew, is given back meanwhile, or its thread ends. Each case is made step by step.
+/* Timed locks whose time is over while they are queued: each leaves its place, and the thread that is to wake it passes it
+ * by. The seat locks again from its old place or anew, is given back meanwhile, or its thread ends. Each case is made step
+ * by step.
  *
- * The test has the C file of the library in it. It stops the unlock of a thread before or after the library's call, and refuses
- * memory. */
+ * The test has the C file of the library in it. It stops the unlock of a thread before or after the library's call, and
+ * refuses memory. */
 #define _GNU_SOURCE
-#define LFM_LOOK_NANOSECONDS 0
+#define LFM_SPIN_NANOSECONDS 0
 #include <stdint.h>
 #include <stdlib.h>
 #include <string.h>
@@ -71,10 +72,10 @@ static bool stopped_exchange(bool is_made) {
 }
 
 static void unlock_it(lfm_seat *seat) { EXPECT(lfm_is_refused(lfm_unlock(seat)), false); }
-/* A timed lock gives up while it is queued, and not before, as it may on a busy machine. */
+/* The time of a lock is over while it is queued, and not before, as it may on a busy machine. */
 static void times_out(lfm_seat *seat) {
   do EXPECT(lfm_try_lock_for(seat, SHORT), LFM_BUSY);
-  while (!(seat->flags & HAS_LEFT));
+  while (!(seat->flags & HAS_ABANDONED));
 }
 
 static void begin(void) {
@@ -104,7 +105,7 @@ typedef struct call {
   lfm_status (*make)(lfm_seat *);
   int stop, is_done, order;
 } call;
-static int gains;
+static int acquired;
 static _Thread_local call *self;
 
 static void *make_call(void *at) {
@@ -128,26 +129,26 @@ static void await_stop(void) {
   while (!seen(&is_stopped)) sched_yield();
 }
 
-/* Gives up a mutex that was gained, and notes which gain it was. */
+/* Releases a mutex that was acquired, and notes how many acquired it before. */
 static lfm_status unlocked(lfm_seat *seat, lfm_status status) {
-  self->order = ++gains;
+  self->order = ++acquired;
   unlock_it(seat);
   return status;
 }
 static lfm_status lock_and_unlock(lfm_seat *seat) { return unlocked(seat, lfm_lock(seat)); }
-static lfm_status lock_in_order(lfm_seat *seat) { return unlocked(seat, lfm_lock_in_order(seat)); }
+static lfm_status lock_in_order_and_unlock(lfm_seat *seat) { return unlocked(seat, lfm_lock_in_order(seat)); }
 static lfm_status lock_long(lfm_seat *seat) { return unlocked(seat, lfm_try_lock_for(seat, LONG)); }
 static lfm_status unlock_only(lfm_seat *seat) { return lfm_is_refused(lfm_unlock(seat)) ? LFM_BLANK : LFM_DONE; }
 
-/* The seat gains before one that queued after it, and each place costs one take. */
+/* The seat acquires the mutex before one that queued after it, and each place costs one take. */
 static void in_the_old_place(lfm_status (*again)(lfm_seat *)) {
   call by_b, by_c;
   begin();
   times_out(&b);
   times_out(&b); /* from its place */
-  start(&by_c, &c, lock_in_order, 0);
+  start(&by_c, &c, lock_in_order_and_unlock, 0);
   await_sleep(&c);
-  gains = 0;
+  acquired = 0;
   start(&by_b, &b, again, 0);
   await_sleep(&b);
   unlock_it(&a);
@@ -308,7 +309,7 @@ static void closed(void) {
   EXPECT(pthread_join(holder, NULL), 0);
 }
 
-/* A thread whose time was over gives its seat back. Meanwhile the mutex is gained last, given up and closed. */
+/* A thread whose time was over gives its seat back. Meanwhile the mutex is acquired last, released and closed. */
 static void *time_out_and_give(void *at) {
   lfm_status cause;
   times_out(lfm_seat_here(&mutex, &cause));
@@ -329,7 +330,8 @@ static void closed_beside_give(void) {
   EXPECT(pthread_join(thread, NULL), 0);
 }
 
-/* The unlock has granted the mutex and is stopped before it wakes the seat, which leaves its place, and takes it up again. */
+/* The unlock has granted the mutex and is stopped before it wakes the seat, which leaves its place, and takes it up
+ * again. */
 static void granted_and_abandoned(void) {
   call by_a, by_b;
   begin();
@@ -410,7 +412,7 @@ static void without_memory(void) {
 
 int main(void) {
   in_the_old_place(lock_and_unlock);
-  in_the_old_place(lock_in_order);
+  in_the_old_place(lock_in_order_and_unlock);
   in_the_old_place(lock_long);
   passed_by();
   other_calls();
@@ -423,7 +425,7 @@ int main(void) {
   granted_and_orphaned();
   rung_while_copied();
   called_while_passed(lock_and_unlock);
-  called_while_passed(lock_in_order);
+  called_while_passed(lock_in_order_and_unlock);
   called_while_passed(lock_long);
   called_while_passed(lfm_seat_give);
   without_memory();

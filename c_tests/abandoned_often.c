@@ -1,5 +1,5 @@
-/* Timed locks at random, most of which give up: 8 threads add to a counter, by their own seats, by seats in hand that they give
- * back at once, and as threads that end. No sum is lost, all seats come back, and the mutex is closed at the end.
+/* Timed locks at random, most of which time out: 8 threads add to a counter, by their own seats, by seats in hand that they
+ * give back at once, and as threads that end. No sum is lost, all seats come back, and the mutex is closed at the end.
  *
  * With -DIS_DELAYED it has the C file of the library in it, whose atomic operations are delayed at random. */
 #define _GNU_SOURCE
@@ -19,7 +19,7 @@ static void hold(uint64_t *state) {
   }
 }
 
-/* Counts a lock with this status, and gives the mutex up if it has gained it. */
+/* Counts a lock with this status, and releases the mutex if it has acquired it. */
 static void count(unsigned thread, lfm_status status, lfm_seat *seat, uint64_t *state) {
   if (lfm_is_refused(status)) {
     EXPECT(status, LFM_BUSY);
@@ -53,7 +53,7 @@ static void *come_and_go(void *at) {
   return NULL;
 }
 
-/* Gains the mutex once before any thread gives up. Later all seats that no thread keeps may be queued, of those who gave up. */
+/* Acquires the mutex once before the time of any lock is over. Later all seats that no thread keeps may be queued. */
 static void take_own_seat(void) {
   EXPECT(lfm_lock_here(&mutex), LFM_DONE);
   EXPECT(lfm_is_refused(lfm_unlock_here(&mutex)), false);
@@ -103,6 +103,6 @@ int main(void) {
   EXPECT(counter, all);
   EXPECT(none != 0, true);
   EXPECT(lfm_mutex_close(&mutex), LFM_DONE);
-  printf("%llu gained, %llu given up\n", (unsigned long long)all, (unsigned long long)none);
+  printf("%llu acquired, %llu timed out\n", (unsigned long long)all, (unsigned long long)none);
   return 0;
 }

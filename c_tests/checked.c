@@ -1,10 +1,12 @@
 /* Two threads make calls of one seat at the same time. Compiled with -DLFM_CHECKED, the program is ended with a text. A child
- * gives back a seat that is in a call of a thread which the child lacks, and is not ended. */
-#define _GNU_SOURCE
+ * gives back a seat that is in a call of a thread which the child lacks, and is not ended.
+ *
+ * The test has the C file of the library in it, to see when a seat is in a call. */
 #define LFM_CHECKED
+#include "../c/ligdrosa.c"
+#define lfm_seat_take lfm_seat_take_checked /* as ligdrosa.h defines it, which the C file undoes */
 #include <signal.h>
 #include <sys/wait.h>
-#include <unistd.h>
 #include "expect.h"
 
 static lfm_mutex mutex;

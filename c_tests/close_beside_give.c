@@ -3,7 +3,7 @@
  * give touches neither from there on: their bytes stay as they are set, and AddressSanitizer sees the block go.
  *
  * The test has the C file of the library in it and wraps what that calls. The give stops as soon as the library has the seat,
- * until the close sleeps at the guard, and once more as it wakes that, until the block is over. */
+ * until the close sleeps at the latch, and once more as it wakes that, until the block is over. */
 #define _GNU_SOURCE
 #include <stdarg.h>
 #include <unistd.h>

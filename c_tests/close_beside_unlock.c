@@ -1,11 +1,11 @@
-/* A mutex is closed while an unlock is on its way out: the library has given the mutex up, and the unlock has not woken the
- * next seat yet. If that seat waits, the close is refused. If its lock has given up, the close is made once the unlock has
- * passed it by, and the memory of the lfm_mutex goes at once. The unlock goes on after that, and the library's own memory goes
- * when the threads end.
+/* A mutex is closed while an unlock is on its way out: the library has released the mutex, and the unlock has not woken the
+ * next seat yet. If that seat waits, the close is refused. If the time of its lock is over, the close is made once the
+ * unlock has passed it by, and the memory of the lfm_mutex goes at once. The unlock goes on after that, and the library's
+ * own memory goes when the threads end.
  *
  * The test has the C file of the library in it, and stops the unlock of one thread after a call of the library's unlock. */
 #define _GNU_SOURCE
-#define LFM_LOOK_NANOSECONDS 0
+#define LFM_SPIN_NANOSECONDS 0
 #define lfm_c_unlock stopped_unlock
 #define lfm_c_close seen_close
 #include "../c/ligdrosa.c"
@@ -60,7 +60,7 @@ static void *give_up(void *ends) {
   lfm_status cause;
   lfm_seat *seat = lfm_seat_here(mutex, &cause);
   do EXPECT(lfm_try_lock_for(seat, SHORT), LFM_BUSY);
-  while (!(seat->flags & HAS_LEFT));
+  while (!(seat->flags & HAS_ABANDONED));
   if (ends) return NULL;
   set(&step, 2);
   wait_for(&step, 3);
@@ -125,7 +125,7 @@ static void one_was_passed_by(bool ends) {
     EXPECT(pthread_join(gives_up, NULL), 0);
     set(&step, 2);
   }
-  wait_for(&is_stopped, 1); /* by the second seat the mutex was given up too */
+  wait_for(&is_stopped, 1); /* by the second seat the mutex was released too */
   close_it();
   EXPECT(closed, 0);
   set(&is_stopped, 0);

@@ -19,7 +19,7 @@ static void *wait_once(void *at) {
   return at;
 }
 
-/* Gains the mutex when the other thread waits. */
+/* Acquires the mutex when the other thread waits. */
 static void lock_when_it_waits(void) {
   for (;;) {
     EXPECT(lfm_lock_here(&mutex), LFM_DONE);
@@ -29,14 +29,15 @@ static void lock_when_it_waits(void) {
   }
 }
 
-static void look(void) {
-  if (memcmp(stack, in_fork, STACK) != 0) _exit(1);
+/* Ends the child before a sanitizer looks for leaks in it: what the parent's threads had on their stacks isn't found there. */
+static void end_with_answer(void) {
+  _exit(memcmp(stack, in_fork, STACK) != 0);
 }
 
 /* Ends the thread, which gives its seat back, and with it the process. */
 static void end_in_child(void) {
   memcpy(in_fork, stack, STACK);
-  EXPECT(atexit(look), 0);
+  EXPECT(atexit(end_with_answer), 0);
   pthread_exit(NULL);
 }
 

@@ -1,7 +1,7 @@
-/* Seats that find themselves. Threads come and go, more than there are seats. Mutexes are opened by their first calls, nested,
- * and many: a call takes about as long among 10,000 as among 10. A mutex is destroyed by the thread that gains it last, at
- * once. The library's own memory goes back as threads take other seats, and when they end. Destructors of thread-specific data
- * lock too. */
+/* Seats that find themselves. Threads come and go, more than there are seats. Mutexes are opened by their first calls,
+ * nested, and many: a call takes about as long among 10,000 as among 10. A mutex is destroyed by the thread that acquires it
+ * last, at once. The library's own memory goes back as threads take other seats, and when they end. Destructors of
+ * thread-specific data lock too. */
 #define _GNU_SOURCE
 #include <malloc.h>
 #include "delayed.h"
@@ -78,7 +78,7 @@ static void many_mutexes(void) {
   free(all);
 }
 
-/* Two threads share a mutex, which the last to gain it destroys while the other's unlock may not have returned. */
+/* Two threads share a mutex, which the last to acquire it destroys while the other's unlock may not have returned. */
 typedef struct shared {
   lfm_mutex mutex;
   int users;

@@ -27,7 +27,7 @@ static int too_much = ALL; /* which of these is one more than the header has roo
 static size_t seen(int which, size_t told, size_t room) { return which == too_much ? room + 1 : told; }
 size_t seen_mutex_size(void) { return seen(MUTEX_SIZE, lfm_c_mutex_size(), MUTEX_BYTES); }
 size_t seen_mutex_align(void) { return seen(MUTEX_ALIGN, lfm_c_mutex_align(), ALIGNMENT); }
-size_t seen_seat_size(void) { return seen(SEAT_SIZE, lfm_c_seat_size(), LFM_SEAT_BYTES); }
+size_t seen_seat_size(void) { return seen(SEAT_SIZE, lfm_c_seat_size(), SEAT_BYTES); }
 size_t seen_seat_align(void) { return seen(SEAT_ALIGN, lfm_c_seat_align(), ALIGNMENT); }
 
 /* It is refused before there is a handle, for which there may be too little room. */
@@ -93,7 +93,7 @@ static void what_is_blank(void) {
 
 /* A call makes a handle blank, whatever bytes lay there. */
 static void what_the_library_calls_blank(void) {
-  static unsigned char a[MUTEX_BYTES] __attribute__((aligned(16))), b[LFM_SEAT_BYTES] __attribute__((aligned(16)));
+  static unsigned char a[MUTEX_BYTES] __attribute__((aligned(16))), b[SEAT_BYTES] __attribute__((aligned(16)));
   memset(a, 0xA5, sizeof a);
   memset(b, 0xA5, sizeof b);
   lfm_c_blank_mutex(a);

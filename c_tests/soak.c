@@ -4,7 +4,7 @@
  * A seat's ask may grant the mutex to another seat, which sleeps, and only the answer of that ask tells that it is to be woken.
  * That is rare, so the test has the C file of the library in it and wraps its asks: it prints how many seats they named, and
  * how many of these slept. */
-#define LFM_LOOK_NANOSECONDS 0
+#define LFM_SPIN_NANOSECONDS 0
 #define lfm_c_ask seen_ask
 #include "../c/ligdrosa.c"
 #undef lfm_c_ask

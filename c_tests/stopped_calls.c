@@ -1,15 +1,15 @@
 /* Asks that are stopped between their atomic operations, so that one grants the mutex to another seat, which sleeps.
  *
- * Only the answer of such an ask tells whom to wake. It takes three seats: the first gives the mutex up while the second has
- * begun to ask, so it posts; the second is queued; then the third takes the post over and finds the second in the queue, which
- * sleeps by then. Threads that run freely meet so seldom. Here the second and the third are stopped before each of their
- * operations in turn, in all ways, and the test fails if no ask has granted the mutex to a seat that sleeps, if a seat is not
- * woken, or if no unlock of the first has told that it posted.
+ * Only the answer of such an ask tells whom to wake. It takes three seats: the first releases the mutex while the second has
+ * begun to ask, so it posts; the second is queued; then the third takes the post over and finds the second in the queue,
+ * which sleeps by then. Threads that run freely meet so seldom. Here the second and the third are stopped before each of
+ * their operations in turn, in all ways, and the test fails if no ask has granted the mutex to a seat that sleeps, if a seat
+ * is not woken, or if no unlock of the first has told that it posted.
  *
- * A thread is stopped by the processor's trap flag: after each instruction of an ask comes a signal, whose handler waits if the
- * next instruction is an atomic operation that is not allowed yet. So the test needs an x86-64. */
+ * A thread is stopped by the processor's trap flag: after each instruction of an ask comes a signal, whose handler waits if
+ * the next instruction is an atomic operation that is not allowed yet. So the test needs an x86-64. */
 #define _GNU_SOURCE
-#define LFM_LOOK_NANOSECONDS 0
+#define LFM_SPIN_NANOSECONDS 0
 #define lfm_c_ask stopped_ask
 #include "../c/ligdrosa.c"
 #undef lfm_c_ask
@@ -91,7 +91,7 @@ static void begin(caller *c, lfm_seat *seat, int operations) {
   allow(c, operations);
 }
 
-/* The second seat is stopped before its operation i + 1 while the first gives the mutex up, and then before j + 1; the third
+/* The second seat is stopped before its operation i + 1 while the first releases the mutex, and then before j + 1; the third
  * before k + 1, while the second goes on to its end or falls asleep. */
 static void run(int i, int j, int k) {
   caller second, third;

@@ -1,5 +1,5 @@
-/* Calls with a time limit: they end by it, not before it and not much later, on both clocks; and they gain a mutex that is
- * given up before. A time that is as good as never doesn't end them. */
+/* Calls with a time limit: they end by it, not before it and not much later, on both clocks; and they acquire a mutex that
+ * is released before. A time that is as good as never doesn't end them. */
 #define _GNU_SOURCE
 #include "expect.h"
 
@@ -68,7 +68,7 @@ static void wait_by_time(void) {
   EXPECT(lfm_is_refused(lfm_unlock_here(&mutex)), false);
 }
 
-/* One thread holds, the other tries. Then the first gives up, and wakes a wait. */
+/* One thread holds, the other tries. Then the first releases the mutex, and wakes a wait. */
 static void work(unsigned thread) {
   if (thread == 0) {
     EXPECT(lfm_lock_here(&mutex), LFM_DONE);

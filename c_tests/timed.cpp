@@ -60,16 +60,16 @@ static void locks_that_give_up() {
 static void locks_that_gain() {
   lfm::recursive_timed_mutex mutex;
   std::atomic<int> waiting{0};
-  auto gains = [&](bool is_gained) {
-    EXPECT(is_gained, true);
+  auto acquires = [&](bool is_acquired) {
+    EXPECT(is_acquired, true);
     mutex.unlock();
   };
   unique_lock lock(mutex);
-  std::thread by_span([&] { waiting++, gains(mutex.try_lock_for(hours::max())); });
-  std::thread by_double([&] { waiting++, gains(mutex.try_lock_for(std::chrono::duration<double, std::ratio<3600>>(1e300))); });
-  std::thread by_steady([&] { waiting++, gains(mutex.try_lock_until(steady_clock::time_point::max())); });
-  std::thread by_system([&] { waiting++, gains(mutex.try_lock_until(system_clock::time_point::max())); });
-  std::thread by_slow([&] { waiting++, gains(mutex.try_lock_until(slow_clock::now() + hours(10))); });
+  std::thread by_span([&] { waiting++, acquires(mutex.try_lock_for(hours::max())); });
+  std::thread by_double([&] { waiting++, acquires(mutex.try_lock_for(std::chrono::duration<double, std::ratio<3600>>(1e300))); });
+  std::thread by_steady([&] { waiting++, acquires(mutex.try_lock_until(steady_clock::time_point::max())); });
+  std::thread by_system([&] { waiting++, acquires(mutex.try_lock_until(system_clock::time_point::max())); });
+  std::thread by_slow([&] { waiting++, acquires(mutex.try_lock_until(slow_clock::now() + hours(10))); });
   while (waiting != 5) std::this_thread::yield();
   std::this_thread::sleep_for(milliseconds(5));
   lock.unlock();

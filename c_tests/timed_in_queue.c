@@ -1,4 +1,4 @@
-/* Four threads queue for a mutex all the time, and none gives it up before another asks. A timed lock of a fifth gains it
+/* Four threads queue for a mutex all the time, and none releases it before another asks. A timed lock of a fifth acquires it
  * meanwhile, in its turn: a short time is enough for most of its calls, though on a busy machine not for all. */
 #define _GNU_SOURCE
 #include <sched.h>

@@ -1,7 +1,7 @@
-/* In which order a wait and a wake do what they do. A wait is listed before it gives the mutex up, and then the list is free. A
- * wake rings after it has left the list, so that the thread that it wakes finds it free. If its caller holds the mutex, it
- * rings when the mutex is given up, except for waits with a time limit. Wakes go in the order of the waits, also if some waits end
- * by time between.
+/* In which order a wait and a wake do what they do. A wait is listed before it releases the mutex, and then the list is
+ * free. A wake rings after it has left the list, so that the thread that it wakes finds it free. If its caller holds the
+ * mutex, it rings when the mutex is released, except for waits with a time limit. Wakes go in the order of the waits, also
+ * if some waits end by time between.
  *
  * The test has the C file of the library in it, and wraps its unlocks and its calls of the system. */
 #ifndef _GNU_SOURCE
@@ -29,7 +29,7 @@ uint64_t seen_unlock(void *handle) {
   if (waits) {
     __atomic_fetch_add(&unlocks_of_waits, 1, __ATOMIC_SEQ_CST);
     if (__atomic_load_n(&condvar.oldest, __ATOMIC_SEQ_CST)) __atomic_fetch_add(&listed_at_unlock, 1, __ATOMIC_SEQ_CST);
-    if (!__atomic_load_n(&condvar.guard, __ATOMIC_SEQ_CST)) __atomic_fetch_add(&free_at_unlock, 1, __ATOMIC_SEQ_CST);
+    if (!__atomic_load_n(&condvar.latch, __ATOMIC_SEQ_CST)) __atomic_fetch_add(&free_at_unlock, 1, __ATOMIC_SEQ_CST);
     waits = false;
   }
   return lfm_c_unlock(handle);
@@ -45,7 +45,7 @@ long seen_syscall(long number, ...) {
   if (number != SYS_futex) return syscall(number, word, operation, value);
   if (operation == FUTEX_PRIVATE_WAKE && wakes_others) {
     wakes++;
-    if (!__atomic_load_n(&condvar.guard, __ATOMIC_SEQ_CST)) free_at_wake++;
+    if (!__atomic_load_n(&condvar.latch, __ATOMIC_SEQ_CST)) free_at_wake++;
   }
   return syscall(SYS_futex, word, operation, value, time, NULL, ~0u);
 }
@@ -59,7 +59,7 @@ static void wait_for(unsigned *word, unsigned value) {
 static void wait_in_turn(unsigned thread) {
   wait_for(&turn, thread);
   EXPECT(lfm_lock_here(&mutex), LFM_DONE);
-  set(&turn, thread + 1); /* the next can list its wait only after this one has given the mutex up */
+  set(&turn, thread + 1); /* the next can list its wait only after this one has released the mutex */
   waits = true;
   if (thread % 2)
     EXPECT(lfm_wait_for_here(&condvar, &mutex, SECOND / 50), LFM_TIMED_OUT);
@@ -100,7 +100,7 @@ static void hold(lfm_mutex *of) { EXPECT(of == &mutex ? lfm_lock_here(of) : lfm_
 static lfm_status give_up(lfm_mutex *of) { return of == &mutex ? lfm_unlock_here(of) : lfm_unlock(&seat); }
 static lfm_status wake_it(lfm_mutex *of) { return of == &mutex ? lfm_wake_one(&condvar) : lfm_wake_one_by(&condvar, &seat); }
 
-/* How many rings woke it before the mutex was given up. */
+/* How many rings woke it before the mutex was released. */
 static unsigned rings_in_the_hold(lfm_mutex *of, bool timed) {
   pthread_t thread;
   is_timed = timed;

@@ -1,5 +1,7 @@
 /* Ligdrosa for C: a recursive mutex and a condition variable, for Linux. C++ and Rust call the same functions.
  *
+ * Use
+ *
  *     static lfm_mutex mutex = LFM_MUTEX_INIT;
  *     static lfm_condvar filled;                     zero, and so ready for any mutex
  *
@@ -11,41 +13,45 @@
  *
  * Most programs need only the calls whose names end in `here`, and lfm_wake_one and lfm_wake_all. A status is tested by
  * lfm_is_refused, and not against 0: each one below LFM_BLANK is a success, as LFM_AGAIN of a thread that held before.
- * lfm_status_text has its meaning in words.
- *
- * The inner calls are proved: they lock and unlock, but neither sleep nor wake. Proved are their answers and refusals, their
- * steps, how many these are at most (a lock makes two more for each push that fails), and which seat they grant the mutex. That
- * no two seats hold at once follows, in every sequentially consistent interleaving. The rest, which makes these calls, is only
- * tested: it puts threads to sleep and wakes them, tries before it queues, passes by seats whose time is over, finds seats,
- * opens and ends mutexes, and has the condition variables. Its source argues why no wake-up is lost, and why nothing is touched
- * after its end. Trusted are the prover with its library, the compilers, the linker, the C library and Linux.
+ * lfm_status_text has its meaning in words. Null, a mutex that is not open and a seat that is not taken are answered by
+ * LFM_BLANK. A call that is refused has changed nothing, unless it says so; but it may have opened an LFM_MUTEX_INIT and
+ * taken the thread's seat.
  *
  * A thread calls a mutex through a seat. Calls whose names end in `here` find the calling thread's seat by themselves. The
- * others are given a seat (lfm_seat_take), for programs that want to keep nothing in thread-local memory. Then memory is taken
- * only by calls that open a mutex or make it new after a fork, by a lock or wait that exchanges a spent seat, by a give of a
- * seat that a timed lock has left queued, and, for its own duration, by the call with which a mutex ends.
+ * others are given a seat (lfm_seat_take), for programs that want to keep nothing in thread-local memory. Then memory is
+ * taken only by calls that open a mutex or make it new after a fork, by a lock or wait that exchanges a spent seat, by a
+ * give of a seat that a timed lock has left queued, and, for its own duration, by the call with which a mutex ends.
  *
- * Each call answers a status. Null, a mutex that is not open and a seat that is not taken are answered by LFM_BLANK. A call
- * that is refused has changed nothing, unless it says so; but it may have opened an LFM_MUTEX_INIT and taken the thread's seat.
- * Only these may change errno: calls that open or close a mutex, make it new after a fork, take, exchange or give back a seat,
- * or count takes, the first call of a thread for a mutex, and calls by destructors of thread-specific data, which may give
- * seats back. What a program promises, and nothing checks:
+ * Only these may change errno: calls that open or close a mutex, make it new after a fork, take, exchange or give back a
+ * seat, or count takes, the first call of a thread for a mutex, and calls by destructors of thread-specific data, which may
+ * give seats back.
  *
- *   - An lfm_mutex is zero or LFM_MUTEX_INIT, and an lfm_seat and lfm_condvar zero, before their first call. They are touched
- *     by these calls alone. A mutex and a condition variable are moved only between calls, and a seat not while it is taken.
- *     All three are of one process: they don't lie in memory that processes share. All parts of a program that share a mutex
- *     call one copy of the library, as libligdrosa.so, since each copy finds seats of its own.
- *   - A seat is in one call at a time. It goes from one thread to another by a lock, a thread's start or join, or the like. If
- *     all files of a program are compiled with -DLFM_CHECKED, two threads in one seat of lfm_seat_take end it with a text. This
- *     does not check lfm_depth and lfm_left.
- *   - No call comes from a signal handler. From a forked child come calls of a mutex only after lfm_after_fork, but its seats
- *     may be given back and it may be closed: then the child only forgets it. If other threads of the parent may have waited at
- *     a condition variable or been in a call of it, the child sets it to zero before it calls it: it has none of these threads.
- *     A child has another pid than the process that opened the mutex. It may have the same in a new namespace of pids, or if
- *     that process has ended and its pid has come again: then the child is not known as one.
+ * What is proved
+ *
+ * The inner calls are proved: they lock and unlock, but neither sleep nor wake. Proved are their answers and refusals, their
+ * steps, how many these are at most (a lock makes two more for each push that fails), and which seat they grant the mutex.
+ * That no two seats hold at once follows, in every sequentially consistent interleaving. The rest, which makes these calls,
+ * is only tested: it puts threads to sleep and wakes them, tries before it queues, passes by seats whose time is over, finds
+ * seats, opens and ends mutexes, and has the condition variables. Its source argues why no wake-up is lost, and why nothing
+ * is touched after its end. Trusted are the prover with its library, the compilers, the linker, the C library and Linux.
+ *
+ * What a program promises, and nothing checks
+ *
+ *   - An lfm_mutex is zero or LFM_MUTEX_INIT, and an lfm_seat and lfm_condvar zero, before their first call. They are
+ *     touched by these calls alone. A mutex and a condition variable are moved only between calls, and a seat not while it
+ *     is taken. All three are of one process: they don't lie in memory that processes share. All parts of a program that
+ *     share a mutex call one copy of the library, as libligdrosa.so, since each copy finds seats of its own.
+ *   - A seat is in one call at a time. It goes from one thread to another by a lock, a thread's start or join, or the like.
+ *     If all files of a program are compiled with -DLFM_CHECKED, two threads in one seat of lfm_seat_take end it with a
+ *     text. This does not check lfm_depth and lfm_left.
+ *   - No call comes from a signal handler. From a forked child come calls of a mutex only after lfm_after_fork, but its
+ *     seats may be given back and it may be closed: then the child only forgets it. If other threads of the parent may have
+ *     waited at a condition variable or been in a call of it, the child sets it to zero before it calls it: it has none of
+ *     these threads. A child has another pid than the process that opened the mutex. It may have the same in a new namespace
+ *     of pids, or if that process has ended and its pid has come again: then the child is not known as one.
  *   - While a mutex is opened by lfm_mutex_new or closed, no other call of it begins. See lfm_mutex_close.
- *   - A call that has begun returns: no signal handler jumps out of it, and its thread is not cancelled asynchronously. No call
- *     is a cancellation point.
+ *   - A call that has begun returns: no signal handler jumps out of it, and its thread is not cancelled asynchronously. No
+ *     call is a cancellation point.
  *
  * It needs Linux with addresses of 64 bits, and gcc or clang with C11 or C++11. Link libligdrosa.a or libligdrosa.so. */
 #ifndef LIGDROSA_H
@@ -73,12 +79,12 @@ extern "C" {
 /* What a call tells. Below LFM_BLANK the call was made, from there on it was refused. */
 typedef enum lfm_status {
   /* a script writes the numbers from here */
-  LFM_DONE = 0,      /* made: the seat holds the mutex, or gave it up and no other seat asked */
+  LFM_DONE = 0,      /* made: the seat holds the mutex, or released it and no other seat asked */
   LFM_AGAIN = 1,     /* the seat held before, and holds once more */
   LFM_STILL = 2,     /* the seat holds once less, and still holds */
   LFM_ASLEEP = 3,    /* the seat sleeps until it is granted the mutex; no call of this header answers it */
-  LFM_POSTED = 4,    /* the mutex was given up to a seat that had begun to ask */
-  LFM_GRANTED = 5,   /* the mutex was given up to the oldest queued seat */
+  LFM_POSTED = 4,    /* the mutex was released to a seat that had begun to ask */
+  LFM_GRANTED = 5,   /* the mutex was released to the oldest queued seat */
   LFM_NOBODY = 6,    /* no thread waited, so none was woken */
   LFM_TIMED_OUT = 7, /* the wait ended since its time was over; the seat holds the mutex */
 
@@ -95,12 +101,12 @@ typedef enum lfm_status {
 
   LFM_SEAT_ASLEEP = 32,  /* the seat sleeps: it is in a call of another thread */
   LFM_NOT_OWNER = 33,    /* the seat doesn't hold the mutex */
-  LFM_NESTED = 34,       /* the seat holds more than once, and a wait gives up one hold alone */
+  LFM_NESTED = 34,       /* the seat holds more than once, and a wait releases one hold alone */
   LFM_DEPTH_FULL = 35,   /* the seat holds 65,535 times already */
   LFM_SPENT = 36,        /* the seat has no take left, and no seat that has some is free, or memory for it was refused */
   LFM_NO_SUCH_SEAT = 37, /* no seat has this number; no call of this header answers it */
   LFM_NOT_WAITING = 38,  /* the seat doesn't sleep; no call of this header answers it */
-  /* at some moment of the call another seat held the mutex, asked for it or was giving it up; or a lock's time was over */
+  /* at some moment of the call another seat held the mutex, asked for it or was releasing it; or a lock's time was over */
   LFM_BUSY = 39
   /* to here */
 } lfm_status;
@@ -109,27 +115,28 @@ typedef enum lfm_status {
 static inline bool lfm_is_refused(lfm_status status) { return status >= LFM_BLANK; }
 
 #define LFM_API __attribute__((visibility("default"), nothrow))
-/* The compiler warns if the status of such a call is not used. A program that goes on after a refused lock would not hold. */
+/* The compiler warns if the status of such a call is not used. A program that goes on after a refused lock would not
+ * hold. */
 #define LFM_NODISCARD __attribute__((warn_unused_result)) LFM_API
 
-/* For clang's -Wthread-safety. Calls with a seat are not told: clang can't see of which mutex a seat is. Of the calls that try,
- * it sees in `if (!lfm_try_lock_here(&mutex))` that the mutex is held, but clang 14 not in a test by lfm_is_refused or by `==`.
- * That form takes LFM_AGAIN for a failure, so it is for a thread that doesn't hold yet. */
+/* For clang's -Wthread-safety. Calls with a seat are not told: clang can't see of which mutex a seat is. Of the calls that
+ * try, it sees in `if (!lfm_try_lock_here(&mutex))` that the mutex is held, but clang 14 not in a test by lfm_is_refused or
+ * by `==`. That form takes LFM_AGAIN for a failure, so it is for a thread that doesn't hold yet. */
 #if defined(__clang__) && !defined(LFM_NO_THREAD_SAFETY)
 #define LFM_TELLS_CLANG(what) __attribute__((what))
 #else
 #define LFM_TELLS_CLANG(what)
 #endif
 #define LFM_CAPABILITY LFM_TELLS_CLANG(capability("mutex"))
-#define LFM_GAINS(mutex) LFM_TELLS_CLANG(acquire_capability(mutex))
+#define LFM_ACQUIRES(mutex) LFM_TELLS_CLANG(acquire_capability(mutex))
 #define LFM_TRIES(mutex) LFM_TELLS_CLANG(try_acquire_capability(0, mutex))
-#define LFM_GIVES_UP(mutex) LFM_TELLS_CLANG(release_capability(mutex))
+#define LFM_RELEASES(mutex) LFM_TELLS_CLANG(release_capability(mutex))
 #define LFM_NEEDS(mutex) LFM_TELLS_CLANG(requires_capability(mutex))
 
 /* The clocks that a call with a time limit takes: CLOCK_REALTIME and CLOCK_MONOTONIC of Linux. */
 enum { LFM_REALTIME = 0, LFM_MONOTONIC = 1 };
 
-enum { LFM_MOST_SEATS = 4095, LFM_USUAL_SEATS = 64, LFM_SEAT_BYTES = 136 };
+enum { LFM_MOST_SEATS = 4095, LFM_USUAL_SEATS = 64 };
 /* The greatest number of takes that a seat may be allowed. */
 #define LFM_MOST_TAKES ((uint64_t)1 << 36)
 
@@ -143,35 +150,25 @@ typedef struct LFM_CAPABILITY lfm_mutex {
   uint32_t version;
 } lfm_mutex;
 
-/* A mutex that is opened by its first lock or seat, with this many seats, each of which has LFM_MOST_TAKES takes. If memory is
- * refused, that call is refused. A static one need never be closed. */
+/* A mutex that is opened by its first lock or seat, with this many seats, each of which has LFM_MOST_TAKES takes. If memory
+ * is refused, that call is refused. A static one need never be closed. */
 #define LFM_MUTEX_INIT_WITH(seats) {NULL, (seats), LFM_VERSION}
 #define LFM_MUTEX_INIT LFM_MUTEX_INIT_WITH(LFM_USUAL_SEATS)
 
 /* A thread's handle of a mutex, of 256 bytes. It is aligned as memory of malloc is, and ends with bytes that nothing uses,
- * so that no two of them share a cache line wherever they lie. `core` is null while the seat is not taken. */
-typedef struct lfm_seat {
-  struct lfm_core *core;
-  struct lfm_waiter *unrung;
-  uint16_t flags;
-  uint16_t number;
-  uint32_t is_in_call;
-  unsigned char handle[LFM_SEAT_BYTES];
-  struct lfm_waiter *last_unrung;
-  uint64_t left;
-  uint64_t kept;
-  uint32_t bell;
-  uint8_t looks;
-  bool is_of_library; /* its memory is the library's */
-  uint16_t waits;
-  uint32_t unused[16];
-} __attribute__((aligned(16))) lfm_seat;
+ * so that no two of them share a cache line wherever they lie. */
+typedef struct lfm_seat lfm_seat;
+#ifndef LFM_IN_LIBRARY /* which has the fields */
+struct lfm_seat {
+  uint64_t opaque[32];
+} __attribute__((aligned(16)));
+#endif
 
 /* A condition variable, of 32 bytes: those that wait, the oldest first. */
 typedef struct lfm_condvar {
   struct lfm_waiter *oldest;
   struct lfm_waiter *newest;
-  uint32_t guard;
+  uint32_t latch;
   uint32_t inside; /* how many waits with a time limit may still touch it */
   uint64_t unused;
 } lfm_condvar;
@@ -183,8 +180,9 @@ LFM_API const char *lfm_status_text(lfm_status status);
 
 /* Mutexes */
 
-/* Opens a mutex with this many seats, 1 to 4,095, each of which may take it as often as the budget says, 1 to LFM_MOST_TAKES.
- * `version` is LFM_VERSION. It keeps at most 153 bytes for each seat and 700 more, and takes up to 257 for each meanwhile.
+/* Opens a mutex with this many seats, 1 to 4,095, each of which may take it as often as the budget says, 1 to
+ * LFM_MOST_TAKES. `version` is LFM_VERSION. It keeps at most 153 bytes for each seat and 700 more, and takes up to 257 for
+ * each meanwhile.
  * Refused: LFM_BLANK (null), LFM_TAKEN, LFM_OTHER_HEADER, LFM_LIMIT, LFM_NO_MEMORY. */
 LFM_API lfm_status lfm_mutex_open(lfm_mutex *mutex, uint64_t seats, uint64_t budget, int version);
 /* The same for programs that have this header. */
@@ -193,47 +191,50 @@ static inline lfm_status lfm_mutex_new(lfm_mutex *mutex, uint64_t seats, uint64_
 }
 
 /* Ends the mutex, which is zero then, also if it was LFM_MUTEX_INIT: a later call doesn't open it anew, and is refused as
- * LFM_BLANK. A thread may close it as soon as it has gained it last and given it up, though calls of others that gave it up
- * before have not returned yet, and then give back the memory of the lfm_mutex. It may also be closed during the last
- * lfm_seat_give, and then the memory of that lfm_seat may go too. The memory of the library itself goes back when no thread has
- * a seat: threads that found their seats by themselves give them back as they take others, or when they end. It may sleep until
- * a seat is taken or given back.
+ * LFM_BLANK. A thread may close it as soon as it has acquired it last and released it, though calls of others that released
+ * it before have not returned yet, and then give back the memory of the lfm_mutex. It may also be closed during the last
+ * lfm_seat_give, and then the memory of that lfm_seat may go too. The memory of the library itself goes back when no thread
+ * has a seat: threads that found their seats by themselves give them back as they take others, or when they end. It may
+ * sleep until a seat is taken or given back.
  * Refused: LFM_BLANK, LFM_NOT_BACK if a seat of lfm_seat_take is not given back, LFM_HOLDING, also if a timed lock has left
  * its seat queued. The last is not seen if all seats are taken by living threads and the calling thread has none. */
 LFM_API lfm_status lfm_mutex_close(lfm_mutex *mutex);
 
 /* How many takes the seats of the mutex had left, each when it was last taken or given back: an upper bound, and exact while
- * all are back. A mutex is spent only if all its seats are: a seat that has no take left is exchanged for another by itself. */
+ * all are back. A mutex is spent only if all its seats are: a seat that has no take left is exchanged for another by
+ * itself. */
 LFM_API uint64_t lfm_takes_left(lfm_mutex *mutex);
 
-/* In a forked child, makes a mutex new that the thread which forked held, or that no seat held: that thread holds it as often
- * as before. `seat` is that thread's seat, or null if it finds its seat by itself. It may get another number, and has all
- * takes of the budget again, less one if it holds. Other seats of it are forgotten: an lfm_seat is set to zero before it is
- * taken anew. The library's memory for seats that threads of the parent found goes back, and that of the old mutex too if no
- * other seat was in hand. In the process that opened the mutex it changes nothing.
- * Refused: LFM_BLANK, LFM_FOREIGN, LFM_NO_MEMORY, and LFM_BUSY if another thread held the mutex, asked for it or was giving it
- * up when the parent forked, if a timed lock had left the thread's own seat queued, or if the thread has no seat by which it
- * could see that, and all were taken or another thread was just taking or giving one. */
+/* In a forked child, makes a mutex new that the thread which forked held, or that no seat held: that thread holds it as
+ * often as before. `seat` is that thread's seat, or null if it finds its seat by itself. It may get another number, and has
+ * all takes of the budget again, less one if it holds. Other seats of it are forgotten: an lfm_seat is set to zero before it
+ * is taken anew. The library's memory for seats that threads of the parent found goes back, and that of the old mutex too if
+ * no other seat was in hand. In the process that opened the mutex it changes nothing.
+ * Refused: LFM_BLANK, LFM_FOREIGN, LFM_NO_MEMORY, and LFM_BUSY if another thread held the mutex, asked for it or was
+ * releasing it when the parent forked, if a timed lock had left the thread's own seat queued, or if the thread has no seat
+ * by which it could see that, and all were taken or another thread was just taking or giving one. */
 LFM_NODISCARD lfm_status lfm_after_fork(lfm_mutex *mutex, lfm_seat *seat);
 
 /* Seats in hand */
 
 /* Takes a seat of the mutex: the one that was given back last, or else the next that was never taken. Other threads may take
- * and give back seats at the same time: each may sleep until the other is done. Refused: LFM_BLANK, LFM_TAKEN, LFM_NO_SEAT,
- * and as lfm_mutex_open if it opens the mutex. */
+ * and give back seats at the same time: each may sleep until the other is done.
+ * Refused: LFM_BLANK, LFM_TAKEN, LFM_NO_SEAT, and as lfm_mutex_open if it opens the mutex. */
 LFM_API lfm_status lfm_seat_take(lfm_mutex *mutex, lfm_seat *seat);
 LFM_API lfm_status lfm_seat_take_checked(lfm_mutex *mutex, lfm_seat *seat);
 #ifdef LFM_CHECKED
 #define lfm_seat_take lfm_seat_take_checked
 #endif
 
-/* Gives the seat back. It may sleep until another thread has taken or given one. If a timed lock has left the seat queued, its
- * place is left to the thread that passes it by, with a copy of some 200 bytes, and only then can it be taken anew. If memory
- * for the copy is refused, the call sleeps until the seat's turn comes. A seat of lfm_seat_here is given back as by
- * lfm_seat_give_here. Refused: LFM_BLANK, LFM_HOLDING, LFM_SEAT_ASLEEP, and LFM_FOREIGN if another thread has that seat. */
+/* Gives the seat back. It may sleep until another thread has taken or given one. If a timed lock has left the seat queued,
+ * its place is left to the thread that passes it by, with a copy of some 200 bytes, and only then can it be taken anew. If
+ * memory for the copy is refused, the call sleeps until the seat's turn comes. A seat of lfm_seat_here is given back as by
+ * lfm_seat_give_here.
+ * Refused: LFM_BLANK, LFM_HOLDING, LFM_SEAT_ASLEEP, and LFM_FOREIGN if another thread has that seat. */
 LFM_API lfm_status lfm_seat_give(lfm_seat *seat);
 
-/* The seat's number, 1 and on, or 0 of a seat that is not taken. lfm_after_fork and an exchange of a spent seat change it. */
+/* The seat's number, 1 and on, or 0 of a seat that is not taken. lfm_after_fork and an exchange of a spent seat change
+ * it. */
 LFM_API uint64_t lfm_number(lfm_seat *seat);
 /* How many times the seat holds. */
 LFM_API uint64_t lfm_depth(lfm_seat *seat);
@@ -242,46 +243,48 @@ LFM_API uint64_t lfm_left(lfm_seat *seat);
 
 /* Locks */
 
-/* Gains the mutex, for one take, or deepens the hold: LFM_DONE or LFM_AGAIN. It sleeps until then. It first tries a bounded
- * number of times, between pauses and naps, and so may come before threads that came earlier. Then it queues, and from there
- * on no thread that queues later is served before it.
+/* Acquires the mutex, for one take, or deepens the hold: LFM_DONE or LFM_AGAIN. It sleeps until then. It first tries a
+ * bounded number of times, between pauses and naps, and so may come before threads that came earlier. Then it queues, and
+ * from there on no thread that queues later is served before it.
  * Refused: LFM_BLANK, LFM_SEAT_ASLEEP, LFM_DEPTH_FULL, LFM_SPENT. */
 LFM_NODISCARD lfm_status lfm_lock(lfm_seat *seat);
 
 /* The same, but queues at once. */
 LFM_NODISCARD lfm_status lfm_lock_in_order(lfm_seat *seat);
 
-/* Gains the mutex or deepens the hold, and never waits for a holder: LFM_DONE or LFM_AGAIN. It may come before seats that are
- * queued. Only to exchange a spent seat it may sleep, until another thread has taken or given one.
+/* Acquires the mutex or deepens the hold, and never waits for a holder: LFM_DONE or LFM_AGAIN. It may come before seats that
+ * are queued. Only to exchange a spent seat it may sleep, until another thread has taken or given one.
  * Refused: LFM_BLANK, LFM_SEAT_ASLEEP, LFM_DEPTH_FULL, LFM_SPENT, and LFM_BUSY, which gives the take back. */
 LFM_NODISCARD lfm_status lfm_try_lock(lfm_seat *seat);
 
-/* Locks as lfm_lock does, but at most until this many nanoseconds have passed, or until this time on this clock. It queues, so
- * other threads that queue don't keep it from its turn. If the time is over before it queues, LFM_BUSY gives the take back.
+/* Locks as lfm_lock does, but at most until this many nanoseconds have passed, or until this time on this clock. It queues,
+ * so other threads that queue don't keep it from its turn. If the time is over before it queues, LFM_BUSY gives the take
+ * back.
  *
  * If the time is over later, LFM_BUSY uses the take, and the seat stays queued. The seat's next lock, with a time limit or
  * without, waits from the same place, for no other take. Until then another thread may pass the place by as its turn comes.
  * Then the seat is free again, and its next lock begins anew. While the seat is queued, its other calls answer as for a seat
- * that doesn't hold, lfm_try_lock answers LFM_BUSY, and lfm_mutex_close LFM_HOLDING. It may be given back.
- * If another thread is waking the seat or passing it by at the end of the time, the call waits until that is done.
+ * that doesn't hold, lfm_try_lock answers LFM_BUSY, and lfm_mutex_close LFM_HOLDING. It may be given back. If another thread
+ * is waking the seat or passing it by at the end of the time, the call waits until that is done.
  * Refused: as lfm_lock, LFM_LIMIT (no such clock, or not 0 to 999,999,999 nanoseconds in `time`), and LFM_BUSY, which tells
  * that the time is over. */
 LFM_NODISCARD lfm_status lfm_try_lock_for(lfm_seat *seat, uint64_t nanoseconds);
 LFM_NODISCARD lfm_status lfm_try_lock_until(lfm_seat *seat, int clock, const struct timespec *time);
 
-/* Gives one hold up: LFM_STILL if the seat still holds, else LFM_DONE, LFM_POSTED or LFM_GRANTED. It never sleeps. On its way
- * to the next thread that waits, it passes by the seats that timed locks have left queued, and LFM_GRANTED counts these too.
- * No number bounds these: a seat that was passed by may be queued and left again before the unlock ends. The same holds of a
- * lock that wakes another thread. Refused: LFM_BLANK, LFM_SEAT_ASLEEP, LFM_NOT_OWNER. */
+/* Releases one hold: LFM_STILL if the seat still holds, else LFM_DONE, LFM_POSTED or LFM_GRANTED. It never sleeps. On its
+ * way to the next thread that waits, it passes by the seats that timed locks have left queued, and LFM_GRANTED counts these
+ * too. No number bounds these: a seat that was passed by may be queued and left again before the unlock ends. The same holds
+ * of a lock that wakes another thread.
+ * Refused: LFM_BLANK, LFM_SEAT_ASLEEP, LFM_NOT_OWNER. */
 LFM_API lfm_status lfm_unlock(lfm_seat *seat);
 
 /* Seats that find themselves */
 
-/* The calling thread's seat of the mutex, or null if it is refused, with the cause. `cause` is not null, and it is to be read
- * only then. A thread takes a seat by its first call of a mutex, which takes some 250 bytes, and gives it back when it ends,
- * unless it holds then, or the system had no thread-specific key left. So as many threads may use a mutex at a time as it has
- * seats. Destructors of thread-specific data may call too. Only a seat that this call takes in the last round of them, the
- * fourth in glibc, is not given back. To find a seat takes about as long however many mutexes there are. */
+/* The calling thread's seat of the mutex, or null if it is refused, with the cause. `cause` is not null, and it is to be
+ * read only then. A thread takes a seat by its first call of a mutex, which takes some 250 bytes, and gives it back when it
+ * ends, unless it holds then, or the system had no thread-specific key left. So as many threads may use a mutex at a time as
+ * it has seats. Destructors of thread-specific data may call too. Only a seat that this call takes in the last round of
+ * them, the fourth in glibc, is not given back. To find a seat takes about as long however many mutexes there are. */
 LFM_API lfm_seat *lfm_seat_here(lfm_mutex *mutex, lfm_status *cause);
 
 /* Gives the calling thread's seat back before the thread ends, so that another thread can take it: as lfm_seat_give, and
@@ -289,27 +292,28 @@ LFM_API lfm_seat *lfm_seat_here(lfm_mutex *mutex, lfm_status *cause);
 LFM_API lfm_status lfm_seat_give_here(lfm_mutex *mutex);
 
 /* The calls above with that seat. A call that takes a seat, or an unlock that gives one back as its thread ends, may sleep
- * until another thread has taken or given one. Refused also: LFM_NO_SEAT, LFM_NO_MEMORY, and as lfm_mutex_open if it opens the
- * mutex. */
-LFM_NODISCARD lfm_status lfm_lock_here(lfm_mutex *mutex) LFM_GAINS(*mutex);
-LFM_NODISCARD lfm_status lfm_lock_in_order_here(lfm_mutex *mutex) LFM_GAINS(*mutex);
+ * until another thread has taken or given one.
+ * Refused also: LFM_NO_SEAT, LFM_NO_MEMORY, and as lfm_mutex_open if it opens the mutex. */
+LFM_NODISCARD lfm_status lfm_lock_here(lfm_mutex *mutex) LFM_ACQUIRES(*mutex);
+LFM_NODISCARD lfm_status lfm_lock_in_order_here(lfm_mutex *mutex) LFM_ACQUIRES(*mutex);
 LFM_NODISCARD lfm_status lfm_try_lock_here(lfm_mutex *mutex) LFM_TRIES(*mutex);
 LFM_NODISCARD lfm_status lfm_try_lock_for_here(lfm_mutex *mutex, uint64_t nanoseconds) LFM_TRIES(*mutex);
 LFM_NODISCARD lfm_status lfm_try_lock_until_here(lfm_mutex *mutex, int clock, const struct timespec *time) LFM_TRIES(*mutex);
 /* These take no seat: a thread that has none doesn't hold. */
-LFM_API lfm_status lfm_unlock_here(lfm_mutex *mutex) LFM_GIVES_UP(*mutex);
+LFM_API lfm_status lfm_unlock_here(lfm_mutex *mutex) LFM_RELEASES(*mutex);
 LFM_API uint64_t lfm_depth_here(lfm_mutex *mutex);
 
 /* Conditions */
 
-/* Gives the mutex up, which the seat holds once, waits until a wake, and gains the mutex again, for one take: LFM_DONE. It
- * returns only after a wake, but another seat may hold the mutex in between: wait in a loop that tests what is waited for. If a
- * wake wakes one thread, that locks as by lfm_lock, and if it wakes more, they lock in order.
+/* Releases the mutex, which the seat holds once, waits until a wake, and acquires the mutex again, for one take: LFM_DONE.
+ * It returns only after a wake, but another seat may hold the mutex in between: wait in a loop that tests what is waited
+ * for. If a wake wakes one thread, that locks as by lfm_lock, and if it wakes more, they lock in order.
  * Refused: LFM_BLANK, LFM_SEAT_ASLEEP, LFM_NOT_OWNER, LFM_NESTED, LFM_SPENT. */
 LFM_NODISCARD lfm_status lfm_wait(lfm_condvar *condvar, lfm_seat *seat);
 
 /* The same, but waits for at most this many nanoseconds, or until this time on this clock: LFM_DONE after a wake, or
- * LFM_TIMED_OUT. Refused also: LFM_LIMIT, as lfm_try_lock_until. */
+ * LFM_TIMED_OUT.
+ * Refused also: LFM_LIMIT, as lfm_try_lock_until. */
 LFM_NODISCARD lfm_status lfm_wait_for(lfm_condvar *condvar, lfm_seat *seat, uint64_t nanoseconds);
 LFM_NODISCARD lfm_status lfm_wait_until(lfm_condvar *condvar, lfm_seat *seat, int clock, const struct timespec *time);
 
@@ -319,21 +323,23 @@ LFM_NODISCARD lfm_status lfm_wait_for_here(lfm_condvar *condvar, lfm_mutex *mute
 LFM_NODISCARD lfm_status lfm_wait_until_here(lfm_condvar *condvar, lfm_mutex *mutex, int clock, const struct timespec *time)
     LFM_NEEDS(*mutex);
 
-/* Wakes the thread that has waited longest, or all that wait: LFM_DONE or LFM_NOBODY. The caller may hold the mutex or not, and
- * needs no seat. A thread that gains the mutex after a wait has given it up finds that wait. If no thread waits, a wake is one
- * load. Otherwise it may sleep until another call has left the list. Wakes go in the order of the waits, and none wakes two.
+/* Wakes the thread that has waited longest, or all that wait: LFM_DONE or LFM_NOBODY. The caller may hold the mutex or not,
+ * and needs no seat. A thread that acquires the mutex after a wait has released it finds that wait. If no thread waits, a
+ * wake is one load. Otherwise it may sleep until another call has left the list. Wakes go in the order of the waits, and
+ * none wakes two.
  * Refused: LFM_BLANK (null). */
 LFM_API lfm_status lfm_wake_one(lfm_condvar *condvar);
 LFM_API lfm_status lfm_wake_all(lfm_condvar *condvar);
 /* The same by a thread with a seat in hand. If that seat holds, threads that wait without a time limit and for its mutex are
- * woken when it gives the mutex up, as they are if the holder's seat finds itself. So they don't find it held. */
+ * woken when it releases the mutex, as they are if the holder's seat finds itself. So they don't find it held. */
 LFM_API lfm_status lfm_wake_one_by(lfm_condvar *condvar, lfm_seat *seat);
 LFM_API lfm_status lfm_wake_all_by(lfm_condvar *condvar, lfm_seat *seat);
 
 /* Ends a condition variable. All threads that waited have been woken, or their time is over, but they may still return: it
  * sleeps until waits with a time limit have left it. If none had one, the memory may also be given back without a close. In
  * both cases a program promises that no call of it is under way but those waits and the wakes that woke them: another wake
- * might still look at it. Refused: LFM_BLANK (null), LFM_WAITED_FOR. */
+ * might still look at it.
+ * Refused: LFM_BLANK (null), LFM_WAITED_FOR. */
 LFM_API lfm_status lfm_condvar_close(lfm_condvar *condvar);
 
 #ifdef __cplusplus

@@ -139,7 +139,7 @@ inline lfm_status made(lfm_status status) {
 }
 
 // Whether a try acquired the mutex. Throws if it was refused for another cause than LFM_BUSY.
-inline bool has_gained(lfm_status status) { return status != LFM_BUSY && !lfm_is_refused(made(status)); }
+inline bool has_acquired(lfm_status status) { return status != LFM_BUSY && !lfm_is_refused(made(status)); }
 
 // A mutex that finds the seat of the calling thread by itself. A thread takes a seat by its first call and gives it back when
 // it ends. So a mutex of N seats serves N threads at a time. One thread more is refused as LFM_NO_SEAT.
@@ -190,19 +190,19 @@ public:
   void lock_in_order() LFM_CALL(acquire_capability()) { made(lfm_lock_in_order_here(&raw)); }
   // False if at some moment of the call another thread held the mutex, asked for it or was releasing it. Otherwise throws as
   // lfm_try_lock_here refuses.
-  LFM_MUST_USE bool try_lock() LFM_CALL(try_acquire_capability(true)) { return has_gained(lfm_try_lock_here(&raw)); }
+  LFM_MUST_USE bool try_lock() LFM_CALL(try_acquire_capability(true)) { return has_acquired(lfm_try_lock_here(&raw)); }
   // Locks as lock does, but at most until the time is over. It queues, so other threads that queue don't keep it from its turn.
   // After a false the thread may still be queued: its next lock waits from the same place, and try_lock is false until then.
   template <class Rep, class Period>
   LFM_MUST_USE bool try_lock_for(const std::chrono::duration<Rep, Period> &span) LFM_CALL(try_acquire_capability(true)) {
-    return has_gained(lfm_try_lock_for_here(&raw, nanoseconds_of(span)));
+    return has_acquired(lfm_try_lock_for_here(&raw, nanoseconds_of(span)));
   }
   template <class Clock, class Duration>
   LFM_MUST_USE bool try_lock_until(const std::chrono::time_point<Clock, Duration> &time)
       LFM_CALL(try_acquire_capability(true)) {
     const timespec at = timespec_of(time);
     const int clock = number_of<Clock>();
-    if (clock >= 0) return has_gained(lfm_try_lock_until_here(&raw, clock, &at));
+    if (clock >= 0) return has_acquired(lfm_try_lock_until_here(&raw, clock, &at));
     while (!try_lock_for(time - Clock::now()))
       if (time <= Clock::now()) return false;
     return true;
@@ -335,7 +335,7 @@ public:
   void lock_in_order() { made(lfm_lock_in_order(of)); }
   // False if at some moment of the call another seat held the mutex, asked for it or was releasing it. Otherwise throws as
   // lfm_try_lock refuses.
-  LFM_MUST_USE bool try_lock() { return has_gained(lfm_try_lock(of)); }
+  LFM_MUST_USE bool try_lock() { return has_acquired(lfm_try_lock(of)); }
   // Throws as lfm_unlock refuses.
   void unlock() { made(lfm_unlock(of)); }
 };

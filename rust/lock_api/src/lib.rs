@@ -31,7 +31,7 @@ pub type Mutex<T> = lock_api::Mutex<RawMutex, T>;
 pub type ReentrantMutex<T> = lock_api::ReentrantMutex<RawMutex, ThreadId, T>;
 
 /// Whether a call acquired the mutex.
-fn has_gained(call: Result<ligdrosa::MutexGuard<'_, ()>, Refusal>) -> bool {
+fn has_acquired(call: Result<ligdrosa::MutexGuard<'_, ()>, Refusal>) -> bool {
     match call.map(mem::forget) {
         Ok(()) => true,
         Err(Refusal::Busy | Refusal::Holding) => false,
@@ -47,13 +47,13 @@ unsafe impl lock_api::RawMutex for RawMutex {
 
     fn lock(&self) {
         assert!(
-            has_gained(self.0.lock()),
+            has_acquired(self.0.lock()),
             "the thread holds the mutex already"
         );
     }
 
     fn try_lock(&self) -> bool {
-        has_gained(self.0.try_lock())
+        has_acquired(self.0.try_lock())
     }
 
     unsafe fn unlock(&self) {
@@ -68,11 +68,11 @@ unsafe impl RawMutexTimed for RawMutex {
     type Instant = Instant;
 
     fn try_lock_for(&self, time: Duration) -> bool {
-        has_gained(self.0.try_lock_for(time))
+        has_acquired(self.0.try_lock_for(time))
     }
 
     fn try_lock_until(&self, end: Instant) -> bool {
-        has_gained(self.0.try_lock_until(end))
+        has_acquired(self.0.try_lock_until(end))
     }
 }
 

@@ -1,0 +1,54 @@
+/* A bell is a one-shot event on a futex word: SILENT, LISTENED (a thread sleeps on it) or RUNG. One thread waits for it, and
+ * another rings it once. Each seat has one, and each wait at a condition variable. Whom to ring is not decided here.
+ *
+ * No ring is missed. A ring is one exchange, and a thread sleeps only after it has changed SILENT into LISTENED. If the ring
+ * comes before that change, the change fails. If it comes after it, the ring finds LISTENED and wakes the thread. If the
+ * thread is not asleep by then, the system compares the word and doesn't put it to sleep.
+ *
+ * A bell may be gone as soon as it is RUNG: its thread goes on and may free its memory. The ring's exchange is the last
+ * access to it. The wake after it uses the address alone. If other memory lies there, a thread that sleeps there by futex
+ * may be woken too early. As the system may do so as well, its program has to expect it. */
+
+enum { SILENT, LISTENED, RUNG };
+
+/* For how many nanoseconds a queued seat spins before its thread sleeps: about as long as two wake-ups by the system. If it
+ * is shorter, a thread that sleeps early makes all that queue behind it sleep too. With one processor a seat never spins,
+ * nor if more seats are queued than the program has processors. */
+#ifndef LFM_SPIN_NANOSECONDS
+#define LFM_SPIN_NANOSECONDS 20000
+#endif
+enum { PAUSES_PER_LOAD = 4, LOADS_PER_TIME = 16 /* between two readings of the clock */ };
+/* How many loads a thread makes before it sleeps, if it waits for a few steps of another. */
+enum { SHORT_SPIN = 64 };
+
+static uint32_t bell_of(uint32_t *bell) { return __atomic_load_n(bell, __ATOMIC_ACQUIRE); }
+
+static void silence(uint32_t *bell) { __atomic_store_n(bell, SILENT, __ATOMIC_RELAXED); }
+
+static void ring(uint32_t *bell) {
+  if (__atomic_exchange_n(bell, RUNG, __ATOMIC_ACQ_REL) == LISTENED) wake_sleeper(bell);
+}
+
+/* Spins at the bell for this many nanoseconds: whether it has rung. */
+static bool spin_at_bell(uint32_t *bell, uint64_t spin_time) {
+  if (spin_time == 0) return false;
+  uint64_t begun = nanoseconds();
+  do {
+    for (int i = 0; i < LOADS_PER_TIME; i++) {
+      pause_for(PAUSES_PER_LOAD);
+      if (bell_of(bell) == RUNG) return true;
+    }
+  } while (nanoseconds() - begun < spin_time);
+  return false;
+}
+
+/* Waits until the bell rings, at most until the deadline if there is one: whether it has rung. It spins first, for this many
+ * nanoseconds, and then sleeps. */
+static bool await_ring(uint32_t *bell, uint64_t spin_time, const struct deadline *deadline) {
+  if (spin_at_bell(bell, spin_time)) return true;
+  uint32_t found = SILENT;
+  __atomic_compare_exchange_n(bell, &found, LISTENED, false, __ATOMIC_ACQ_REL, __ATOMIC_ACQUIRE);
+  while (bell_of(bell) == LISTENED)
+    if (sleep_while(bell, LISTENED, deadline)) return false;
+  return true;
+}

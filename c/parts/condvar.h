@@ -1,0 +1,195 @@
+/* Condition variables: waits and wakes. How the mutex is released and acquired again by a wait is in lock.h.
+ *
+ * A wait is a waiter on its thread's stack, in the list of its condition variable, and sleeps at a bell of its own.
+ *
+ * No wake is lost. A wait is listed before it releases the mutex. So a thread that acquires the mutex after it finds it in
+ * the list, and if it makes a wake, the acquisition orders its first load of the list after that. A wake takes waiters out
+ * of the list under the latch, the oldest first, and rings once for each that it has taken out. So each wake that finds one
+ * wakes exactly one, and no waiter is woken twice. If the time of a wait is over, it takes its waiter out itself, under the
+ * latch. If a wake was first, the waiter is not listed any more: then it counts as woken, and waits for its ring.
+ *
+ * A thread that would be woken while the caller holds its mutex could only sleep again, or take the caller's processor. So
+ * if the caller's own seat holds it, the ring is put off until that seat releases the mutex: no waiter could go on before.
+ * This is not done for a timed wait, for which a close may wait.
+ *
+ * Nothing is touched after its end. A wake reads a waiter's neighbour before it rings for it, and releases the latch before
+ * the first ring. A waiter without a deadline touches its condition variable no more once it is listed and has released the
+ * latch, and no wake takes it out before, since that takes the latch. A timed one may still take the latch when others have
+ * woken it. So it is counted in `inside` until it has done so, and a close waits for that. */
+
+/* Releases the mutex, waits for a wake or the deadline, and acquires the mutex again. */
+static lfm_status wait_until(lfm_condvar *condvar, lfm_seat *seat, const struct deadline *deadline);
+/* Wakes the oldest waiter, or all. The caller's seat is this one, or else finds itself. */
+static lfm_status wake(lfm_condvar *condvar, lfm_seat *seat, bool all);
+
+/* Makes a wait, which is given a condition variable. */
+#define WAIT_AT(condvar, call) ((condvar) ? (call) : LFM_BLANK)
+
+lfm_status lfm_wait(lfm_condvar *condvar, lfm_seat *seat) {
+  return WAIT_AT(condvar, CALL_BY(seat, wait_until(condvar, seat, NULL)));
+}
+
+lfm_status lfm_wait_for(lfm_condvar *condvar, lfm_seat *seat, uint64_t nanoseconds) {
+  struct deadline deadline = deadline_after(nanoseconds);
+  return WAIT_AT(condvar, CALL_BY(seat, wait_until(condvar, seat, &deadline)));
+}
+
+lfm_status lfm_wait_until(lfm_condvar *condvar, lfm_seat *seat, int clock, const struct timespec *time) {
+  struct deadline deadline;
+  lfm_status status = deadline_at(clock, time, &deadline);
+  return status == LFM_DONE ? WAIT_AT(condvar, CALL_BY(seat, wait_until(condvar, seat, &deadline))) : status;
+}
+
+/* The body of a function that waits with the calling thread's `seat`. A thread without one doesn't hold. */
+#define RETURN_WAIT_HERE(mutex, call) \
+  lfm_seat *seat = find_of(mutex);    \
+  return seat ? end_here(seat, call) : status_without_seat(mutex)
+
+lfm_status lfm_wait_here(lfm_condvar *condvar, lfm_mutex *mutex) { RETURN_WAIT_HERE(mutex, lfm_wait(condvar, seat)); }
+
+lfm_status lfm_wait_for_here(lfm_condvar *condvar, lfm_mutex *mutex, uint64_t nanoseconds) {
+  RETURN_WAIT_HERE(mutex, lfm_wait_for(condvar, seat, nanoseconds));
+}
+
+lfm_status lfm_wait_until_here(lfm_condvar *condvar, lfm_mutex *mutex, int clock, const struct timespec *time) {
+  RETURN_WAIT_HERE(mutex, lfm_wait_until(condvar, seat, clock, time));
+}
+
+lfm_status lfm_wake_one(lfm_condvar *condvar) { return wake(condvar, NULL, false); }
+lfm_status lfm_wake_all(lfm_condvar *condvar) { return wake(condvar, NULL, true); }
+lfm_status lfm_wake_one_by(lfm_condvar *condvar, lfm_seat *seat) { return CALL_BY(seat, wake(condvar, seat, false)); }
+lfm_status lfm_wake_all_by(lfm_condvar *condvar, lfm_seat *seat) { return CALL_BY(seat, wake(condvar, seat, true)); }
+
+enum { IS_CLOSING = 1 << 30 };
+
+lfm_status lfm_condvar_close(lfm_condvar *condvar) {
+  if (!condvar) return LFM_BLANK;
+  acquire_latch(&condvar->latch);
+  bool is_waited_for = condvar->oldest;
+  release_latch(&condvar->latch);
+  if (is_waited_for) return LFM_WAITED_FOR;
+  uint32_t inside = __atomic_or_fetch(&condvar->inside, IS_CLOSING, __ATOMIC_ACQUIRE);
+  while (inside != IS_CLOSING) {
+    sleep_while(&condvar->inside, inside, NULL);
+    inside = __atomic_load_n(&condvar->inside, __ATOMIC_ACQUIRE);
+  }
+  memset(condvar, 0, sizeof *condvar);
+  return LFM_DONE;
+}
+
+/* The list. The latch is held for these two. The first load of a wake may come at the same time. */
+
+static void append_waiter(lfm_condvar *condvar, struct lfm_waiter *waiter) {
+  waiter->older = condvar->newest;
+  waiter->newer = NULL;
+  waiter->is_listed = true;
+  condvar->newest = waiter;
+  if (waiter->older)
+    waiter->older->newer = waiter;
+  else
+    __atomic_store_n(&condvar->oldest, waiter, __ATOMIC_RELAXED);
+}
+
+static void remove_waiter(lfm_condvar *condvar, struct lfm_waiter *waiter) {
+  waiter->is_listed = false;
+  if (waiter->newer)
+    waiter->newer->older = waiter->older;
+  else
+    condvar->newest = waiter->older;
+  if (waiter->older)
+    waiter->older->newer = waiter->newer;
+  else
+    __atomic_store_n(&condvar->oldest, waiter->newer, __ATOMIC_RELAXED);
+}
+
+/* Waits */
+
+/* Waits for the waiter's ring, at most until the deadline if there is one: whether it came first. */
+static bool await_wake(lfm_condvar *condvar, struct lfm_waiter *waiter, const struct deadline *deadline) {
+  if (await_ring(&waiter->bell, 0, deadline)) return true;
+  acquire_latch(&condvar->latch);
+  bool is_listed = waiter->is_listed;
+  if (is_listed) remove_waiter(condvar, waiter);
+  release_latch(&condvar->latch);
+  return !is_listed && await_ring(&waiter->bell, 0, NULL);
+}
+
+/* For how many nanoseconds a waiter spins before its thread sleeps. Between two threads that take turns a ring comes early,
+ * but on busy processors a spin keeps the other from its work. So a seat spins if rings have come during its last spins, and
+ * otherwise at some of its waits, as a trial. If others wait too, it doesn't spin. */
+enum { CREDIT_AFTER_A_RING = 16, WAITS_PER_TRIAL = 32, WAIT_SPIN = 5000 };
+
+static bool spin_for_wake(lfm_seat *seat, uint32_t *bell) {
+  bool is_trial = ++seat->waits % WAITS_PER_TRIAL == 0;
+  if (most_spinners() == 0 || (seat->spin_credit == 0 && !is_trial)) return false;
+  bool is_rung = spin_at_bell(bell, WAIT_SPIN);
+  seat->spin_credit = is_rung ? CREDIT_AFTER_A_RING : seat->spin_credit / 2;
+  return is_rung;
+}
+
+/* Why a wait of this seat is refused, or LFM_DONE. An unlock of a seat that doesn't hold is refused and says why. If the
+ * seat has no take left to acquire the mutex after the wait, another is reserved, for which it is to be exchanged. */
+static lfm_status prepare_wait(lfm_seat *seat, struct spent_seat **reserved) {
+  if (!reclaim(seat)) return LFM_NOT_OWNER;
+  uint64_t depth = lfm_c_depth(seat->handle);
+  if (depth == 0) return status_of(lfm_c_unlock(seat->handle));
+  if (depth > 1) return LFM_NESTED;
+  if (UNLIKELY(lfm_c_left(seat->handle) == 0) && !(*reserved = reserve_seat(seat->core))) return LFM_SPENT;
+  return LFM_DONE;
+}
+
+static lfm_status wait_until(lfm_condvar *condvar, lfm_seat *seat, const struct deadline *deadline) {
+  struct spent_seat *reserved = NULL;
+  lfm_status status = prepare_wait(seat, &reserved);
+  if (status != LFM_DONE) return status;
+  struct lfm_waiter waiter = {NULL, NULL, seat->core, SILENT, true, deadline != NULL, false};
+  hide(condvar, sizeof *condvar);
+  hide(&waiter, sizeof waiter);
+  acquire_latch(&condvar->latch);
+  append_waiter(condvar, &waiter);
+  bool is_alone = !waiter.older;
+  if (deadline) __atomic_add_fetch(&condvar->inside, 1, __ATOMIC_RELAXED);
+  release_latch(&condvar->latch);
+  unlock(seat);
+  if (UNLIKELY(reserved)) exchange_seat(seat, reserved);
+  bool is_done = (is_alone && spin_for_wake(seat, &waiter.bell)) || await_wake(condvar, &waiter, deadline);
+  if (deadline && __atomic_sub_fetch(&condvar->inside, 1, __ATOMIC_ACQ_REL) == IS_CLOSING) wake_sleeper(&condvar->inside);
+  /* Of threads that are woken together each would nap while another holds. In order they go on one after another. */
+  status = is_done && waiter.is_one_of_many ? tell_if_acquired(seat, queue(seat, NULL)) : lock(seat);
+  return is_done || lfm_is_refused(status) ? status : LFM_TIMED_OUT;
+}
+
+/* Wakes */
+
+/* Rings for a waiter that was taken out of its list, or puts it off. */
+static void ring_for(struct lfm_waiter *waiter, lfm_seat *seat) {
+  if (!seat || seat->core != waiter->core) seat = find(waiter->core);
+  if (waiter->is_timed || lfm_depth(seat) == 0) {
+    ring(&waiter->bell);
+    return;
+  }
+  waiter->newer = NULL;
+  if (seat->unrung)
+    seat->last_unrung->newer = waiter;
+  else
+    seat->unrung = waiter;
+  seat->last_unrung = waiter;
+}
+
+static lfm_status wake(lfm_condvar *condvar, lfm_seat *seat, bool all) {
+  if (!condvar) return LFM_BLANK;
+  if (!__atomic_load_n(&condvar->oldest, __ATOMIC_RELAXED)) return LFM_NOBODY;
+  acquire_latch(&condvar->latch);
+  struct lfm_waiter *first = condvar->oldest, *last = NULL;
+  while (condvar->oldest && (all || !last)) {
+    last = condvar->oldest;
+    remove_waiter(condvar, last);
+  }
+  release_latch(&condvar->latch);
+  for (struct lfm_waiter *waiter = first, *next; waiter; waiter = next) {
+    next = waiter == last ? NULL : waiter->newer;
+    waiter->is_one_of_many = first != last;
+    ring_for(waiter, seat);
+  }
+  return first ? LFM_DONE : LFM_NOBODY;
+}

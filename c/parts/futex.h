@@ -1,0 +1,93 @@
+/* Sleeping on a word and waking a sleeper, by the system; clocks, and deadlines of timed calls. No word of the library is
+ * known here: what a word means is said in bell.h, latch.h and condvar.h. */
+
+enum { FUTEX_PRIVATE_WAIT = 128, FUTEX_PRIVATE_WAKE = 129, FUTEX_PRIVATE_WAIT_UNTIL = 137, FUTEX_BY_REALTIME = 256 };
+enum { NANOSECONDS = 1000000000 };
+
+/* Until when a timed call waits. */
+struct deadline {
+  int clock;
+  struct timespec time;
+};
+
+/* A call of futex that leaves errno as it was: whether its time was over. It is no cancellation point. */
+static bool futex(uint32_t *word, int operation, uint32_t value, const struct timespec *time) {
+  int before = errno;
+  bool is_over = syscall(SYS_futex, word, operation, value, time, NULL, ~0u) == -1 && errno == ETIMEDOUT;
+  errno = before;
+  return is_over;
+}
+
+/* Sleeps while the word has this value, at most until the deadline if there is one: whether that is over. */
+static bool sleep_while(uint32_t *word, uint32_t value, const struct deadline *deadline) {
+  if (!deadline) return futex(word, FUTEX_PRIVATE_WAIT, value, NULL);
+  int clock = deadline->clock == LFM_REALTIME ? FUTEX_BY_REALTIME : 0;
+  return futex(word, FUTEX_PRIVATE_WAIT_UNTIL | clock, value, &deadline->time);
+}
+
+static void wake_sleeper(uint32_t *word) { futex(word, FUTEX_PRIVATE_WAKE, 1, NULL); }
+
+/* Sleeps for this many nanoseconds, less than a second, or less if a signal comes. */
+static void nap_for(uint64_t nanoseconds) {
+  uint32_t nothing = 0;
+  struct timespec time = {0, (long)nanoseconds};
+  futex(&nothing, FUTEX_PRIVATE_WAIT, 0, &time);
+}
+
+/* Tells the processor this many times that its thread waits in a loop. */
+static void pause_for(int pauses) {
+  for (int i = 0; i < pauses; i++) {
+#if defined(__x86_64__)
+    __builtin_ia32_pause();
+#elif defined(__aarch64__)
+    __asm__ volatile("yield");
+#else
+    __asm__ volatile("" ::: "memory");
+#endif
+  }
+}
+
+static struct timespec time_of(int clock) {
+  struct timespec now;
+  clock_gettime(clock, &now);
+  return now;
+}
+
+/* The time on a clock that is never set. */
+static uint64_t nanoseconds(void) {
+  struct timespec now = time_of(CLOCK_MONOTONIC);
+  return (uint64_t)now.tv_sec * NANOSECONDS + (uint64_t)now.tv_nsec;
+}
+
+/* How many nanoseconds are left until the deadline, or a second if it is more. */
+static uint64_t time_left(const struct deadline *deadline) {
+  struct timespec now = time_of(deadline->clock);
+  if (deadline->time.tv_sec > now.tv_sec + 1) return NANOSECONDS;
+  if (deadline->time.tv_sec < now.tv_sec) return 0;
+  int64_t left = (deadline->time.tv_sec - now.tv_sec) * NANOSECONDS + deadline->time.tv_nsec - now.tv_nsec;
+  return left < 0 ? 0 : left < NANOSECONDS ? (uint64_t)left : NANOSECONDS;
+}
+
+/* The deadline that lies this far ahead. 2^64 nanoseconds are less than 600 years, so the sum is no greater than a
+ * time_t. */
+static struct deadline deadline_after(uint64_t ahead) {
+  struct deadline deadline = {CLOCK_MONOTONIC, time_of(CLOCK_MONOTONIC)};
+  deadline.time.tv_sec += (time_t)(ahead / NANOSECONDS);
+  deadline.time.tv_nsec += (long)(ahead % NANOSECONDS);
+  if (deadline.time.tv_nsec >= NANOSECONDS) {
+    deadline.time.tv_sec++;
+    deadline.time.tv_nsec -= NANOSECONDS;
+  }
+  return deadline;
+}
+
+/* The deadline that a caller gives, or LFM_LIMIT or LFM_BLANK. The system refuses times before 0, which are over. */
+static lfm_status deadline_at(int clock, const struct timespec *time, struct deadline *deadline) {
+  if (!time) return LFM_BLANK;
+  bool is_clock = clock == LFM_REALTIME || clock == LFM_MONOTONIC;
+  if (!is_clock || time->tv_nsec < 0 || time->tv_nsec >= NANOSECONDS) return LFM_LIMIT;
+  deadline->clock = clock;
+  deadline->time = *time;
+  if (time->tv_sec < 0) deadline->time.tv_sec = 0;
+  return LFM_DONE;
+}

@@ -1,0 +1,86 @@
+/* The state that the explorer saves, compares and restores, and what its files share. All memory of the fibers lies in one
+ * region at a fixed address. */
+#ifndef STATE_H
+#define STATE_H
+#include <stdlib.h>
+#include <string.h>
+#include "explorer.h"
+
+typedef uint64_t u64;
+typedef uint32_t u32;
+typedef uint8_t u8;
+
+enum { HEAPS = MOST_FIBERS + 1, HEAP = 16384, STACK = 32768, MOST_BLOCKS = 64, OWN = 96, MOST_TRANSITIONS = 48 };
+enum status { READY, BLOCKED, FINISHED };
+/* Where a fiber has stopped: before its start, a point of the scenario, an atomic operation, a sleep or wake by futex, a
+ * choice. */
+enum kind { START, POINT, ATOMIC, FUTEX_WAIT, FUTEX_WAKE, WOKEN, CHOICE };
+/* How a sleep ends without a wake. */
+enum { TIMEOUT = 200, SPURIOUS = 201 };
+
+struct fiber {
+  u64 sp, address, caller;
+  void *specific;
+  u32 value;
+  u8 status, kind, timed, result, count, variant, toggled, writes;
+  u64 own[OWN / 8]; /* its thread-local table of seats */
+};
+struct block {
+  u32 at, bytes, live;
+};
+struct heap {
+  u32 used, count;
+  struct block blocks[MOST_BLOCKS];
+};
+struct region {
+  struct fiber fibers[MOST_FIBERS];
+  struct heap control[HEAPS]; /* one for each fiber, and one for what comes before and after them */
+  u8 heaps[HEAPS][HEAP] __attribute__((aligned(4096)));
+  u8 stacks[MOST_FIBERS][STACK] __attribute__((aligned(4096)));
+};
+#define REGION ((struct region *)0x10000000000)
+
+/* One step: this fiber goes on, in this variant: which sleeper it wakes, what it chooses, or how its sleep ends. */
+struct transition {
+  u8 fiber, variant;
+};
+
+/* Options */
+extern int processors;
+extern bool may_refuse_memory, may_wake_spuriously, looks_for_ends;
+extern u64 most_states, seed;
+extern volatile int is_time_over;
+
+extern const struct scenario *scenario;
+extern int fibers, current; /* how many, and which runs, or -1 */
+extern const char *fault;   /* what was found, or null */
+extern bool detects_races;
+
+/* memory.c */
+int heap_of(const void *at);
+struct block *block_of(const void *at);
+void touch(const void *at, size_t bytes, bool writes, bool atomic);
+
+/* fibers.c */
+void stop_at(int kind, const void *at, u64 caller, bool writes);
+int transitions(struct transition *to, int *by_time);
+void make(struct transition t);
+void keep_own(void);
+void begin_run(void);
+void end_run(void);
+bool all_finished(void);
+
+/* races.c */
+void make_shadows(void);
+void begin_clocks(void);
+void race_touch(u64 at, size_t bytes, bool writes, bool atomic, bool frees);
+void acquires(const void *at, int order);
+void releases(const void *at, int order, bool is_rmw);
+
+/* states.c, chance.c, trace.c */
+u8 *save(u8 *to);
+void restore(const u8 *from);
+int explore_all(void);
+int run_by_chance(u64 runs);
+void print_trace(const struct transition *path, size_t count, const u8 *first);
+#endif

@@ -5,4 +5,5 @@ pub mod runs
 pub mod touched
 pub mod refusals
 pub mod bounds
+pub mod rounds
 pub mod calls

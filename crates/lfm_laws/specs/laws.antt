@@ -4,8 +4,11 @@ pub mod Errands
 pub mod Schedules
 pub mod Overtaking
 pub mod Service
+pub mod Rounds
+pub mod FairRounds
 pub mod Reading
 pub mod Watched
+pub mod TriedPosts
 pub mod Lawful
 pub mod Cases
 pub mod Laws

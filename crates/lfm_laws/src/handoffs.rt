@@ -13,6 +13,7 @@ ghost use Rattle.lfm_laws.specs.laws.InSchedules.{
   CallsGrantOnceInSchedules,
 };
 ghost use Rattle.lfm_laws.specs.laws.Laws.{HandoffsAreWatched, QuiescentStatesRest, SleepersAreReachable, TakesFindARecord, WonPostsHaveARecord, FailedPushesSeeChange, CallsPostOnce};
+ghost use Rattle.lfm_laws.specs.laws.TriedPosts.{PostsWithRecordsAreTried};
 
 /// While the mutex is posted, some open call has yet to load the post, or has made or loaded it and has yet to try its
 /// exchange.
@@ -22,6 +23,14 @@ ghost use Rattle.lfm_laws.specs.laws.Laws.{HandoffsAreWatched, QuiescentStatesRe
 pub fn handoffs_are_watched()
     ensures steady { HandoffsAreWatched }
     ensures schedules { HandoffsAreWatchedInSchedules }
+{}
+
+/// While the mutex is posted and the push list has a record, some open call has pushed and loads the handoff next, or has loaded
+/// or made this post and has yet to try its exchange.
+///
+/// Definition: `PostsWithRecordsAreTried` in `specs/laws/TriedPosts.antt`. Proof: `proofs/lawful/rounds/TriedPosts.antt`.
+pub fn posts_with_records_are_tried()
+    ensures { PostsWithRecordsAreTried }
 {}
 
 /// If no call is open, nothing is posted. If then the count is above 0, a seat owns the mutex or a sleeping seat has its grant.

@@ -4,6 +4,7 @@ pub mod Beside
 pub mod Branches
 pub mod CallWeights
 pub mod CallsEnd
+pub mod CanServe
 pub mod ConstantBounds
 pub mod DueAtPoints
 pub mod DueCalls

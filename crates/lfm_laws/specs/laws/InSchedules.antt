@@ -38,7 +38,7 @@ use Rattle.lfm_laws.specs.laws.Progress.{changes_beside, changes_of_call, open_c
 use Rattle.lfm_laws.specs.laws.Reading.{Claims, Reads}
 use Rattle.lfm_laws.specs.laws.Releases.{StaysInCall}
 use Rattle.lfm_laws.specs.laws.Schedules.{Event, begins, makes, happens, run_of, steps, push_record, popped_record, is_call, weight_of_call, steps_of_call}
-use Rattle.lfm_laws.specs.laws.Service.{OnlyServes}
+use Rattle.lfm_laws.specs.laws.Service.{OnlyServes, CanServe}
 use Rattle.lfm_laws.specs.laws.Watched.{IsQueued, Watched}
 
 -- Mutual exclusion
@@ -109,6 +109,17 @@ abbrev pub QueuedSeatsAreServedSoonInSchedules : Type 0
 QueuedSeatsAreServedSoonInSchedules =
     (c : Core) (events : List Event) (k : ℕ) → IsReached c → k < length (queue_of c) → OnlyServes c events
     → length (popped_record c events) ≤ k → steps_of_run c events ≤ (5 * length c.seats + 5) * (open_calls c + 2 * k + 2)
+
+-- so once calls have made more steps than that, the record has left the queue
+abbrev pub StepsServeInSchedules : Type 0
+StepsServeInSchedules =
+    (c : Core) (events : List Event) (k : ℕ) → IsReached c → k < length (queue_of c) → OnlyServes c events
+    → (5 * length c.seats + 5) * (open_calls c + 2 * k + 2) < steps_of_run c events → k < length (popped_record c events)
+
+-- while a record is queued the count is above 0, and while the count is above 0 some event that serves is possible
+abbrev pub SomebodyCanServeInSchedules : Type 0
+SomebodyCanServeInSchedules =
+    (c : Core) → IsReached c → (0 < length (queue_of c) → 0 < c.count) × (0 < c.count → (e : Event) × CanServe c e)
 
 -- No lost hand-off
 

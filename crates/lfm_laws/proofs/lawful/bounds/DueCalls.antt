@@ -162,7 +162,7 @@ passed_place (accepting t) u e = absurd (cc)
 passed_place (leaving t) u e = absurd (cc)
 passed_place (serving t) u e = absurd (cc)
 
-granted_word : (c : Core) (g : Ghost) (u stamp : ℕ) → Fits c g → g.place ≡ Places.granted u stamp → wake c.wakes u ≡ Grant stamp
+pub granted_word : (c : Core) (g : Ghost) (u stamp : ℕ) → Fits c g → g.place ≡ Places.granted u stamp → wake c.wakes u ≡ Grant stamp
 granted_word c g u stamp fits place = (fits.each u).woken ∙ rw (place, eq-eqb u u refl) refl
 
 ungranted : (c : Core) (g : Ghost) (u : ℕ) → Fits c g → takes_up (wake c.wakes u) ≡ None → abstract_place g.place ≡ passed u → ⊥

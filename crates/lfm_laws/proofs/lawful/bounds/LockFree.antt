@@ -57,7 +57,7 @@ owed_unit k share c s most =
 -- A step
 
 -- a seat whose call is not open makes no step
-idle_made : (c : Core) (s : ℕ) (p : Point) → (seat c.seats s).point ≡ p → is_call p ≡ false → (made c s).core ≡ c
+pub idle_made : (c : Core) (s : ℕ) (p : Point) → (seat c.seats s).point ≡ p → is_call p ≡ false → (made c s).core ≡ c
 idle_made c s Rest at closed = rw at refl
 idle_made c s (Asleep sleeper) at closed = rw at refl
 idle_made c s _ at closed = absurd (false≢true (sym closed))
@@ -145,11 +145,11 @@ pays : (k share : ℕ) (c : Core) (g : Ghost) (e : Event) → Fits c g → 2 * l
 pays k share c g (begins t call) fits enough most = let few = begin_pays k share c t call most in omega (arith, few)
 pays k share c g (makes s) fits enough most = let few = step_pays k c g s fits enough in omega (arith, few)
 
-size_event : (c : Core) (e : Event) → length (happens c e).core.seats ≡ length c.seats
+pub size_event : (c : Core) (e : Event) → length (happens c e).core.seats ≡ length c.seats
 size_event c (begins t call) = seats-begin c t call
 size_event c (makes s) = seats-step c s
 
-steady_event : (c : Core) (e : Event) → Steady c → Steady (happens c e).core
+pub steady_event : (c : Core) (e : Event) → Steady c → Steady (happens c e).core
 steady_event c e steady = run_keeps c (e ∷ []) steady
 
 run_pays : (k share : ℕ) (c : Core) (events : List Event) → Steady c → 2 * length c.seats ≤ k + 2 → length c.seats + 9 + k * 2 ≤ share

@@ -16,7 +16,7 @@ use Rattle.lfm_laws.proofs.steady.frames.Sums.{sum_member, sum_witness}
 use Rattle.lfm_laws.proofs.steady.frames.SameSeats.{seats-step}
 
 -- if the number of open calls is 0, no call is open
-quiet_of_none : (c : Core) → open_calls c ≡ 0 → IsQuiet c
+pub quiet_of_none : (c : Core) → open_calls c ≡ 0 → IsQuiet c
 quiet_of_none c none s =
     elim (cases_Bool (is_call (seat c.seats s).point)) [
       | inl inside ↦ elim (cases_Bool (is_seat c.seats s)) [

@@ -1,7 +1,7 @@
 -- If only unlocks and receives of granted seats begin, few calls begin while a record stays queued: two for each record before
 -- it, and two more. So few steps are made.
-use Rattle.std.proofs.Common.{◌≡◌, ℕ, true, false, ◌+◌, ◌-◌, ◌*◌, ◌≤◌, ◌<◌, List, [], ◌∷◌, length, refl, sym, ap, ◌∙◌, inl, inr, arith}
-use Rattle.std.proofs.lemmas.Bool.{cases_Bool, cases_eq, ne_eqb}
+use Rattle.std.proofs.Common.{◌≡◌, ℕ, true, false, ◌+◌, ◌*◌, ◌≤◌, ◌<◌, List, [], ◌∷◌, length, refl, sym, ap, ◌∙◌, inl, inr, arith}
+use Rattle.std.proofs.lemmas.Bool.{cases_Bool, cases_eq, cases_lt, ne_eqb}
 use Rattle.std.proofs.lemmas.List.{length-append}
 use Rattle.std.proofs.Math.Nat.{mul-le-mul_left}
 use Rattle.lfm_model.specs.Abstract.{AbstractPlace, AbstractStep, free, owner, passed, carried, brought_in}
@@ -20,7 +20,7 @@ use Rattle.lfm_protocol.specs.Seats.{seat, wake, is_seat, IsSeat}
 use Rattle.lfm_protocol.specs.Step.{made, begin}
 use Rattle.lfm_laws.specs.laws.Events.{popped_by}
 use Rattle.lfm_laws.specs.laws.Progress.{opened_at, opened_in, opened_in_run, open_calls}
-use Rattle.lfm_laws.specs.laws.Service.{Serves, OnlyServes, QueuedSeatsAreServedSoon}
+use Rattle.lfm_laws.specs.laws.Service.{Serves, OnlyServes, QueuedSeatsAreServedSoon, StepsServe}
 use Rattle.lfm_laws.specs.laws.Schedules.{Event, begins, makes, happens, is_call, popped_in, popped_record}
 use Rattle.lfm_laws.specs.steady.Ghost.{owned, Ghost}
 use Rattle.lfm_laws.specs.steady.EventOutcome.{abstract_place}
@@ -30,8 +30,7 @@ use Rattle.lfm_laws.proofs.lawful.bounds.Leaving.{begun_other, begin_leaves}
 use Rattle.lfm_laws.proofs.lawful.bounds.LockFree.{calls_share_their_steps}
 use Rattle.lfm_laws.specs.laws.Laws.{post_weight}
 use Rattle.lfm_laws.proofs.lawful.bounds.HistoryCounts.{popped_by_history, pushed_by_history}
-use Rattle.lfm_laws.proofs.lawful.read.QueueRead.{queue_read}
-use Rattle.lfm_laws.proofs.lawful.read.RecordsRead.{length-records}
+use Rattle.lfm_laws.proofs.lawful.read.QueueRead.{queue_length}
 use Rattle.lfm_laws.proofs.lawful.runs.Reached.{absent_tested, begin_keeps, made_keeps}
 use Rattle.lfm_laws.proofs.steady.frames.Entries.{seat-with_same}
 use Rattle.lfm_laws.proofs.steady.frames.Frames.{place_of_claim}
@@ -67,7 +66,7 @@ quiet_begin c g u call same =
       | inr closed ↦ rw (closed, same, closed) (omega (arith, stays))
     ]
 
-begun_view : (c : Core) (u : ℕ) (call : Call) → IsSeat c.seats u → is_seat c.seats u ≡ true
+pub begun_view : (c : Core) (u : ℕ) (call : Call) → IsSeat c.seats u → is_seat c.seats u ≡ true
     → seat (begin c u call).core.seats u ≡ (Begin.begin (seat c.seats u) (limits c) call).seat
 begun_view c u call is known = rw known (seat-with_same c.seats u (Begin.begin (seat c.seats u) (limits c) call).seat is)
 
@@ -170,10 +169,17 @@ pub queued_seats_are_served_soon : QueuedSeatsAreServedSoon
 queued_seats_are_served_soon c events k is within serve few =
     let steady = is in
     let g : Ghost = steady.ghost_state in
-    let long = ap length (queue_read c g steady.fits) ∙ length-records g.pushed_at g.popped (g.pushed - g.popped) in
+    let long = queue_length c g steady.fits in
     let opened = opened-le c g events steady.fits serve (omega (arith, within, few, long)) in
     let two = due_at-le c (abstract_place g.place) in
     let steps = calls_share_their_steps c events is in
     let calls : open_calls c + opened_in_run c events ≤ open_calls c + 2 * k + 2 = omega (arith, opened, two, few) in
     let most = mul-le-mul_left (5 * length c.seats + 5) calls in
     omega (arith, steps, most)
+
+pub steps_serve : StepsServe
+steps_serve c events k is within serve more =
+    elim (cases_lt k (length (popped_record c events))) [
+      | inl left ↦ left
+      | inr few ↦ let most = queued_seats_are_served_soon c events k is within serve few in absurd (omega (arith, most, more))
+    ]

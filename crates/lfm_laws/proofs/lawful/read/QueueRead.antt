@@ -72,7 +72,7 @@ queue_read c g fits =
 -- The seats that wait
 
 -- the length of the queue
-queue_length : (c : Core) (g : Ghost) → Fits c g → length (queue_of c) ≡ g.pushed - g.popped
+pub queue_length : (c : Core) (g : Ghost) → Fits c g → length (queue_of c) ≡ g.pushed - g.popped
 queue_length c g fits = ap length (queue_read c g fits) ∙ length-records g.pushed_at g.popped (g.pushed - g.popped)
 
 -- the record at an index of the queue

@@ -12,6 +12,8 @@ use Rattle.lfm_laws.specs.laws.InSchedules.{
   QueuedSeatsWaitForFewReleasesInSchedules,
   NoSeatOvertakesTwiceInSchedules,
   QueuedSeatsAreServedSoonInSchedules,
+  StepsServeInSchedules,
+  SomebodyCanServeInSchedules,
   HandoffsAreWatchedInSchedules,
   QuiescentStatesRestInSchedules,
   SleepersAreReachableInSchedules,
@@ -48,7 +50,8 @@ use Rattle.lfm_laws.proofs.lawful.bounds.PostsOnce.{calls_post_once}
 use Rattle.lfm_laws.proofs.lawful.bounds.PushesAlone.{pushes_alone_fail_once}
 use Rattle.lfm_laws.proofs.lawful.bounds.ReleaseBounds.{unlocks_are_bounded, start_waits_are_bounded}
 use Rattle.lfm_laws.proofs.lawful.bounds.Resting.{no_state_is_stuck}
-use Rattle.lfm_laws.proofs.lawful.bounds.Served.{queued_seats_are_served_soon}
+use Rattle.lfm_laws.proofs.lawful.bounds.CanServe.{somebody_can_serve}
+use Rattle.lfm_laws.proofs.lawful.bounds.Served.{queued_seats_are_served_soon, steps_serve}
 use Rattle.lfm_laws.proofs.lawful.bounds.TriesAlone.{tries_alone_hold}
 use Rattle.lfm_laws.proofs.lawful.calls.ClaimedSeats.{claimed_seats_are_queued}
 use Rattle.lfm_laws.proofs.lawful.refusals.BusyMoments.{busy_was_busy}
@@ -104,6 +107,12 @@ no_seat_overtakes_twice_in_schedules c t events k is = no_seat_overtakes_twice c
 
 pub queued_seats_are_served_soon_in_schedules : QueuedSeatsAreServedSoonInSchedules
 queued_seats_are_served_soon_in_schedules c events k is = queued_seats_are_served_soon c events k (states_are_steady c is)
+
+pub steps_serve_in_schedules : StepsServeInSchedules
+steps_serve_in_schedules c events k is = steps_serve c events k (states_are_steady c is)
+
+pub somebody_can_serve_in_schedules : SomebodyCanServeInSchedules
+somebody_can_serve_in_schedules c is = somebody_can_serve c (states_are_steady c is)
 
 -- No lost hand-off
 

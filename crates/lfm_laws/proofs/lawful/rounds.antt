@@ -1,0 +1,16 @@
+-- Starvation freedom: how many rounds pass before a queued record leaves, outside of holds and if owners only release.
+pub mod CarrierSteps
+pub mod Carriers
+pub mod Collecting
+pub mod Events
+pub mod FairRounds
+pub mod Holds
+pub mod Made
+pub mod OtherSteps
+pub mod OwnSteps
+pub mod OwnerSteps
+pub mod Runs
+pub mod Slack
+pub mod TriedPosts
+pub mod Waits
+pub mod Weights

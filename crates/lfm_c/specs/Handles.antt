@@ -19,6 +19,8 @@ use Rattle.lfm_mutex.specs.declared.seat.Seat.{Seat}
 use Rattle.lfm_mutex.specs.Belongs.{Beside, OfMutex, limits_of}
 use Rattle.lfm_mutex.specs.Close.{AllStand, FirstMissing}
 use Rattle.lfm_mutex.specs.calls.FailedPushes.{MakesBesideFailures}
+use Rattle.lfm_mutex.specs.calls.Granted.{granted_of}
+use Rattle.lfm_mutex.specs.calls.RunGoesOn.{RunGoesOnFrom}
 use Rattle.lfm_mutex.specs.calls.Sight as Sight
 use Rattle.lfm_mutex.specs.calls.Sight.{Sight, new_sight, sight}
 use Rattle.lfm_mutex.specs.calls.Trails.{MakesAtMost, MakesCall}
@@ -38,20 +40,21 @@ abbrev pub Fits : ℕ → ℕ → Type 0
 Fits v k = Unit {0}
 
 -- A call of a seat that returns n, with the relation P. With a blank handle it only returns that the handle is blank. The mutex
--- of the seat does not change.
+-- of the seat does not change, and the run of its table that the seat knows is extended.
 abbrev pub OfSeated : (Limits → Sight ℕ → Sight ℕ → ℕ → Type 0) → Option Seated → Option Seated → ℕ → Type 0
 OfSeated P None y n = (y ≡ None) × (n ≡ code Status.Blank)
 OfSeated P (Some a) None n = ⊥
-OfSeated P (Some a) (Some b) n = (b.mutex ≡ a.mutex) × Beside a.seat b.seat × P (limits_of (arc_value a.mutex)) (sight a.seat) (sight b.seat) n
+OfSeated P (Some a) (Some b) n =
+    (b.mutex ≡ a.mutex) × Beside a.seat b.seat × RunGoesOnFrom a.seat b.seat × P (limits_of (arc_value a.mutex)) (sight a.seat) (sight b.seat) n
 
 -- A call of a seat that may grant another seat the mutex. Its answer names the seat of the wake-up that it leaves: the seat
--- that its steps granted, and none if they granted none.
-abbrev pub WakesOf : (Limits → Sight ℕ → Sight ℕ → Status → Type 0) → Limits → Sight ℕ → Sight ℕ → ℕ → Type 0
-WakesOf P l s t n = (status : Status) × (w : Option ℕ) × P l s t status × Wakes l.seats w s.trail t.trail × (n ≡ told status w) × Names w n
+-- that its steps granted, and none if they granted none. The relation P is between the status and this wake-up too.
+abbrev pub WakesOf : (Limits → Sight ℕ → Sight ℕ → Status → Option ℕ → Type 0) → Limits → Sight ℕ → Sight ℕ → ℕ → Type 0
+WakesOf P l s t n = (status : Status) × (w : Option ℕ) × P l s t status w × Wakes l.seats w s.trail t.trail × (n ≡ told status w) × Names w n
 
 abbrev pub TellsAsk : SeatHandle → SeatHandle → ℕ → Type 0
 TellsAsk x y n =
-    OfSeated (WakesOf (λ l s t status. (r : Result Asked Refusal) × Sight.Asks Follows Fits l.budget s t r × MakesCall l (λ a. Answer.Asked a) Call.Lock s t r × MakesBesideFailures (l.seats + 9) s t × (status ≡ asked r))) x.seated y.seated n
+    OfSeated (WakesOf (λ l s t status w. (r : Result Asked Refusal) × Sight.Asks Follows Fits l.budget s t r × MakesCall l (λ a. Answer.Asked a) Call.Lock s t r × MakesBesideFailures (l.seats + 9) s t × (status ≡ asked r))) x.seated y.seated n
 
 abbrev pub TellsReceive : SeatHandle → SeatHandle → ℕ → Type 0
 TellsReceive x y n =
@@ -61,9 +64,10 @@ abbrev pub TellsTry : SeatHandle → SeatHandle → ℕ → Type 0
 TellsTry x y n =
     OfSeated (λ l s t k. (r : Result Locked Refusal) × Sight.Locks Follows Fits l.budget s t r × MakesCall l (λ a. Answer.Locked a) Call.TryLock s t r × MakesAtMost 6 s t × (k ≡ code (locked r))) x.seated y.seated n
 
+-- the number above the status is that of the granted seat with an answer Granted, and none with any other answer or a refusal
 abbrev pub TellsUnlock : SeatHandle → SeatHandle → ℕ → Type 0
 TellsUnlock x y n =
-    OfSeated (WakesOf (λ l s t status. (r : Result Unlocked Refusal) × Sight.Unlocks s t r × MakesCall l (λ a. Answer.Unlocked a) Call.Unlock s t r × MakesAtMost (l.seats + 7) s t × (status ≡ unlocked r))) x.seated y.seated n
+    OfSeated (WakesOf (λ l s t status w. (r : Result Unlocked Refusal) × Sight.Unlocks s t r × MakesCall l (λ a. Answer.Unlocked a) Call.Unlock s t r × MakesAtMost (l.seats + 7) s t × (status ≡ unlocked r) × (w ≡ granted_of r))) x.seated y.seated n
 
 -- a reader of a seat, which does not change the handle and returns 0 if the handle is blank
 abbrev pub ReadsSeated : (Seated → ℕ) → Option Seated → ℕ → Type 0

@@ -6,6 +6,8 @@ ghost use Rattle.lfm_protocol.specs.declared.answers.Answer.TheVariants as Answe
 ghost use Rattle.lfm_protocol.specs.declared.answers.Call.{Call};
 ghost use Rattle.lfm_mutex.specs.Belongs.{Beside, limits_of};
 ghost use Rattle.lfm_mutex.specs.calls.FailedPushes.{MakesBesideFailures};
+ghost use Rattle.lfm_mutex.specs.calls.Granted.{granted_of};
+ghost use Rattle.lfm_mutex.specs.calls.RunGoesOn.{RunGoesOnFrom};
 ghost use Rattle.lfm_mutex.specs.calls.Sight.{sight, Asks, Locks, Receives, Unlocks};
 ghost use Rattle.lfm_mutex.specs.calls.Trails.{MakesAtMost, MakesCall};
 ghost use Rattle.lfm_mutex.specs.calls.WakeUps.{Wakes};
@@ -91,6 +93,7 @@ impl Seated {
     /// `ask_without_waking` of the mutex.
     fn ask(&mut self) -> (Result<Asked, Refusal>, Option<WakeUp>)
         ensures same { (self.new.mutex ≡ self.old.mutex) × Beside self.old.seat self.new.seat }
+        ensures run { RunGoesOnFrom self.old.seat self.new.seat }
         ensures asks { Asks Follows Fits (limits_of (arc_value self.old.mutex)).budget (sight self.old.seat) (sight self.new.seat) result.0 }
         ensures steps { MakesCall (limits_of (arc_value self.old.mutex)) (λ a. Answered.Asked a) Call.Lock (sight self.old.seat) (sight self.new.seat) result.0 }
         ensures bounded { MakesBesideFailures ((limits_of (arc_value self.old.mutex)).seats + 9) (sight self.old.seat) (sight self.new.seat) }
@@ -102,6 +105,7 @@ impl Seated {
     /// `try_receive` of the mutex.
     fn receive(&mut self) -> Result<Option<How>, Refusal>
         ensures same { (self.new.mutex ≡ self.old.mutex) × Beside self.old.seat self.new.seat }
+        ensures run { RunGoesOnFrom self.old.seat self.new.seat }
         ensures receives { Receives Follows Fits (sight self.old.seat) (sight self.new.seat) result }
         ensures steps { MakesCall (limits_of (arc_value self.old.mutex)) (λ a. Answered.Got a) Call.Receive (sight self.old.seat) (sight self.new.seat) result }
         ensures bounded { MakesAtMost 3 (sight self.old.seat) (sight self.new.seat) }
@@ -112,6 +116,7 @@ impl Seated {
     /// `try_lock` of the mutex.
     fn try_lock(&mut self) -> Result<Locked, Refusal>
         ensures same { (self.new.mutex ≡ self.old.mutex) × Beside self.old.seat self.new.seat }
+        ensures run { RunGoesOnFrom self.old.seat self.new.seat }
         ensures locks { Locks Follows Fits (limits_of (arc_value self.old.mutex)).budget (sight self.old.seat) (sight self.new.seat) result }
         ensures steps { MakesCall (limits_of (arc_value self.old.mutex)) (λ a. Answered.Locked a) Call.TryLock (sight self.old.seat) (sight self.new.seat) result }
         ensures bounded { MakesAtMost 6 (sight self.old.seat) (sight self.new.seat) }
@@ -122,10 +127,12 @@ impl Seated {
     /// `unlock_without_waking` of the mutex.
     fn unlock(&mut self) -> (Result<Unlocked, Refusal>, Option<WakeUp>)
         ensures same { (self.new.mutex ≡ self.old.mutex) × Beside self.old.seat self.new.seat }
+        ensures run { RunGoesOnFrom self.old.seat self.new.seat }
         ensures unlocks { Unlocks (sight self.old.seat) (sight self.new.seat) result.0 }
         ensures steps { MakesCall (limits_of (arc_value self.old.mutex)) (λ a. Answered.Unlocked a) Call.Unlock (sight self.old.seat) (sight self.new.seat) result.0 }
         ensures bounded { MakesAtMost ((limits_of (arc_value self.old.mutex)).seats + 7) (sight self.old.seat) (sight self.new.seat) }
         ensures wakes { Wakes (limits_of (arc_value self.old.mutex)).seats result.1 (sight self.old.seat).trail (sight self.new.seat).trail }
+        ensures names { result.1 ≡ granted_of result.0 }
     {
         self.mutex.unlock_without_waking(&mut self.seat)
     }

@@ -5,5 +5,6 @@ pub mod HeldBack
 pub mod ListFacts
 pub mod Modelled
 pub mod OneHold
+pub mod Order
 pub mod Repeating
 pub mod Sent

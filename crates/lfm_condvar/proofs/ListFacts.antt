@@ -1,5 +1,5 @@
 -- Room for one more waiter, and how many waiters there may be.
-use Rattle.std.proofs.Common.{◌≡◌, ℕ, zero, suc, ◌+◌, ◌*◌, ◌<◌, ◌≤◌, List, [], ◌∷◌, ◌++◌, length, refl, sym, ◌∙◌, ap, arith, get_or}
+use Rattle.std.proofs.Common.{◌≡◌, ℕ, zero, suc, ◌+◌, ◌*◌, ◌<◌, ◌≤◌, List, [], ◌∷◌, ◌++◌, length, refl, sym, ◌∙◌, ap, subst, arith, get_or}
 use Rattle.std.specs.Prelude.{All, sum}
 use Rattle.std.proofs.lemmas.List.Sums.{sum_by-le}
 use mathlib.Core.Logic.{dite}
@@ -12,6 +12,11 @@ use Rattle.lfm_condvar.specs.Lists.{GoOnFrom, times, Among}
 pub go_on_more : (k : ℕ) (ws : List Waiter) (w : Waiter) → GoOnFrom k ws → w.ticket ≡ k + length ws + 1 → GoOnFrom k (ws ++ w ∷ [])
 go_on_more k [] w g e = (omega arith, tt)
 go_on_more k (x ∷ ws) w g e = (g.0, go_on_more (k + 1) ws w g.1 (omega arith))
+
+-- tickets that go on from those of a list
+pub go_on_join : (k n : ℕ) (ws xs : List Waiter) → GoOnFrom k ws → n ≡ k + length ws → GoOnFrom n xs → GoOnFrom k (ws ++ xs)
+go_on_join k n [] xs g e h = subst (λ (j : ℕ). GoOnFrom j xs) (omega arith) h
+go_on_join k n (w ∷ ws) xs g e h = (g.0, go_on_join (k + 1) n ws xs g.1 (omega arith) h)
 
 pub times_more : (s : ℕ) (ws : List Waiter) (w : Waiter) → times s (ws ++ w ∷ []) ≡ times s ws + one_at w.seat s
 times_more s [] w = omega arith

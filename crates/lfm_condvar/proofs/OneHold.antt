@@ -5,11 +5,11 @@ use Rattle.lfm_protocol.specs.declared.limits.Limits.{Limits}
 use Rattle.lfm_mutex.specs.declared.seat.Seat.{Seat}
 use Rattle.lfm_mutex.specs.calls.Sight.{Sight, sight, Gains, LeavesOff, MayLeave}
 use Rattle.lfm_mutex.specs.calls.WakeUps.{grants_of}
-use Rattle.lfm_mutex.specs.calls.Woken.{WakesNobody, WokenAsGranted}
+use Rattle.lfm_mutex.specs.calls.Woken.{WakesNobody, WokenAsGranted, LooksAndWakesAsGranted}
 use Rattle.lfm_condvar.specs.declared.waiters.Waiters.{Waiters}
 use Rattle.lfm_condvar.specs.Keeping.{WaitersFollow}
 use Rattle.lfm_condvar.specs.Holds.{CountsKnown, CondKept, StepsOfOneHold, HeldOnce, InHand, LeavesList, LocksList, MadeFor, Rewrites}
-use Rattle.lfm_mutex.proofs.runs.Woken.{woken_join, woken_none}
+use Rattle.lfm_mutex.proofs.runs.Woken.{looks_join, may_look, woken_join, woken_none}
 use Rattle.lfm_condvar.proofs.Followed.{since_reached}
 
 abbrev pub WaitersFit : Waiters → ℕ → Type 0
@@ -93,7 +93,7 @@ pub one_hold : (limits : Limits) (s t u z : Sight Waiters) (x v w : Waiters) →
 one_hold limits s t u z x v w h r l tk aw = let same : x ≡ v = one_some t.value x v h.value r.0 in
     let k = subst (λ (y : Waiters). InHand limits s t y y) same h in
     let named = k.number in let few : slice_index w.counts.items s.number ≤ slice_index v.counts.items s.number + 1 = subst (λ (i : ℕ). slice_index w.counts.items i ≤ slice_index v.counts.items i + 1) named r.3 in
-    done limits s u z v w (rewritten limits s t u v w k r.1) r.2.0 r.2.1 few l tk aw
+    done limits s u z v w (rewritten limits s t u v w k r.1) r.2.seats r.2.budget few l tk aw
 
 -- the changed list may be left in the mutex
 pub may_leave_it : (limits : Limits) (s t u : Sight Waiters) (x v w : Waiters) → InHand limits s t x x → Rewrites t u v w → MayLeave WaitersFollow WaitersFit u
@@ -112,5 +112,5 @@ held_by own tries s t u z v w l r k = record {
 }
 
 -- A cond seat that locks the list, changes it and unlocks it wakes the seats to which the lock and the unlock granted the list
-pub woken_in_hold : (c l h d : Seat Waiters) (v w : Waiters) → WokenAsGranted c l → WakesNobody l h → Rewrites (sight l) (sight h) v w → WokenAsGranted h d → WokenAsGranted c d
-woken_in_hold c l h d v w locks nobody r leaves = woken_join c h d (woken_join c l h locks (woken_none l h nobody (ap (λ (s : Sight Waiters). grants_of s.trail) r.1))) leaves
+pub woken_in_hold : (c l h d : Seat Waiters) (v w : Waiters) → LooksAndWakesAsGranted c l → WakesNobody l h → Rewrites (sight l) (sight h) v w → WokenAsGranted h d → LooksAndWakesAsGranted c d
+woken_in_hold c l h d v w locks nobody r leaves = looks_join c l d locks (may_look l d (woken_join l h d (woken_none l h nobody (ap (λ (s : Sight Waiters). grants_of s.trail) r.1)) leaves))

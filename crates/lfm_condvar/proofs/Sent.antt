@@ -27,15 +27,9 @@ taken_more gone x u v w a b = record {
   budget = b.budget ∙ a.budget;
 }
 
-pub follows_none : (s : ℕ) (v : Waiters) → WaitersFollow s v v
-follows_none s v = (refl, refl, omega arith, omega arith, λ k ne. refl)
-
-pub follows_more : (s : ℕ) (u v w : Waiters) → WaitersFollow s u v → WaitersFollow s v w → WaitersFollow s u w
-follows_more s u v w a b = let p = a.2 in let q = a.3 in let x = b.2 in let y = b.3 in (b.0 ∙ a.0, b.1 ∙ a.1, omega arith, omega arith, λ k ne. b.4 k ne ∙ a.4 k ne)
-
 -- a change that counts no ticket for any cond seat keeps every count
 pub same_count : (v w : Waiters) (k : ℕ) → ((s : ℕ) → WaitersFollow s v w) → slice_index w.counts.items k ≤ slice_index v.counts.items k + 1
-same_count v w k f = let same = (f (k + 1)).4 k (λ q. omega arith) in omega arith
+same_count v w k f = let same = (f (k + 1)).others k (λ q. omega arith) in omega arith
 
 seats_more : (xs : List Waiter) (x : Waiter) → map (λ (y : Waiter). y.seat) (xs ++ x ∷ []) ≡ map (λ (y : Waiter). y.seat) xs ++ x.seat ∷ []
 seats_more [] x = refl

@@ -31,8 +31,8 @@ abbrev pub MadeFor : Limits → Sight Waiters → Type 0
 MadeFor limits s = (l : Waiters) → s.last ≡ Some l → (l.seats ≡ limits.seats) × (l.budget ≡ limits.budget)
 
 -- One hold of the inner mutex, which costs one take: the cond seat, with the sight s before and t after, found the list v and
--- left the list w. Its sight t still has the list that it found. Since it last left a list, neither sent nor added has fallen,
--- and no other cond seat has counted tickets for it
+-- left the list w. Its sight t still has the list that it found. Since it last left a list, other cond seats only added waiters
+-- behind it and took the oldest off it, and none has counted tickets for this cond seat
 pub record HeldOnce (budget : ℕ) (s t : Sight Waiters) (v w : Waiters) : Type 0 where
   pub finds : (l : Waiters) → s.last ≡ Some l → Since s.number l v
   pub leaves : t.last ≡ Some w

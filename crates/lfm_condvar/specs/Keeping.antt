@@ -1,21 +1,31 @@
 -- How the list is changed, by a call and by other cond seats.
-use Rattle.std.specs.Prelude.{◌≡◌, ◌≢◌, ℕ, ◌+◌, ◌≤◌, List, [], ◌∷◌, ◌++◌, length, slice_index, slice_set}
+use Rattle.std.specs.Prelude.{◌≡◌, ◌≢◌, ℕ, ◌+◌, List, [], ◌∷◌, ◌++◌, length, slice_index, slice_set}
 use Rattle.lfm_condvar.specs.declared.waiters.Waiter.{Waiter}
 use Rattle.lfm_condvar.specs.declared.waiters.Waiters.{Waiters}
-use Rattle.lfm_condvar.specs.Lists.{waiter}
+use Rattle.lfm_condvar.specs.Lists.{GoOnFrom, waiter}
 
--- How the cond seat s may change the list: the number of seats and the budget stay, neither sent nor added falls, and no ticket
--- is counted for another cond seat
-abbrev pub WaitersFollow : ℕ → Waiters → Waiters → Type 0
-WaitersFollow s v w = (w.seats ≡ v.seats) × (w.budget ≡ v.budget) × (v.sent ≤ w.sent) × (v.added ≤ w.added)
-    × ((k : ℕ) → k ≢ s → slice_index w.counts.items k ≡ slice_index v.counts.items k)
+-- The list changed only at its ends: since it was v, the waiters `new` were added behind it, with the next tickets, and the
+-- oldest ones, `gone`, left it. Those that left are counted as sent
+pub record GoesOnInOrder (v w : Waiters) : Type 0 where
+  pub new : List Waiter
+  pub gone : List Waiter
+  pub list : v.list.items ++ new ≡ gone ++ w.list.items
+  pub tickets : GoOnFrom v.added new
+  pub added : w.added ≡ v.added + length new
+  pub sent : w.sent ≡ v.sent + length gone
+
+-- how the cond seat s may change the list: no ticket is counted for another cond seat
+pub record WaitersFollow (s : ℕ) (v w : Waiters) : Type 0 where
+  pub seats : w.seats ≡ v.seats
+  pub budget : w.budget ≡ v.budget
+  pub order : GoesOnInOrder v w
+  pub others : (k : ℕ) → k ≢ s → slice_index w.counts.items k ≡ slice_index v.counts.items k
 
 -- how cond seats other than s may have changed the list from v to w
 pub record Since (s : ℕ) (v w : Waiters) : Type 0 where
   pub seats : w.seats ≡ v.seats
   pub budget : w.budget ≡ v.budget
-  pub sent : v.sent ≤ w.sent
-  pub added : v.added ≤ w.added
+  pub order : GoesOnInOrder v w
   pub own : slice_index w.counts.items s ≡ slice_index v.counts.items s
 
 -- the user seat was appended with the next ticket, which was counted for the cond seat `by`

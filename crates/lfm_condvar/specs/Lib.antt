@@ -4,6 +4,7 @@ pub mod Holds
 pub mod Keeping
 pub mod Lists
 pub mod Modelled
+pub mod Order
 pub mod Repeated
 pub mod Waits
 pub mod Wakes

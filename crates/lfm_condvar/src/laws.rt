@@ -1,6 +1,7 @@
 //! The laws of condition variables over the core of the user mutex. They are stated in `lfm_condvar_laws` and re-exported here.
-//! The law in this file is about the list of a running condvar.
+//! The laws in this file are about the list of a running condvar.
 ghost use Rattle.lfm_condvar.specs.Modelled.{ListsGoAsTheModel};
+ghost use Rattle.lfm_condvar.specs.Order.{WaitersAreSentInOrder};
 
 pub use lfm_condvar_laws::claims::{
     claims_are_in_order, claims_never_fail, pushes_are_in_order, tickets_are_claimed_once,
@@ -17,10 +18,19 @@ pub use lfm_condvar_laws::{claims, lists, user_mutex, waits};
 use lfm_mutex::Kept;
 
 /// The list of a running condvar changes as that of the model does. `enlist` puts an unlisted seat at its end, with the model's
-/// ticket, and refuses only a listed one as Busy. A send of one sends and removes the oldest. A send of all sends and removes
-/// one after another, until the list is empty, or until a send is refused while a seat is left.
+/// ticket, and refuses only a listed one as Busy. A send of one sends and removes the oldest. A send of all does so until the
+/// list is empty or a send is refused.
 ///
 /// Definition: `ListsGoAsTheModel` in `specs/Modelled.antt`. Proof: `proofs/Modelled.antt`.
 pub fn lists_go_as_the_model<T: Kept>()
     ensures { ListsGoAsTheModel T }
+{}
+
+/// First come, first served, whichever cond seats change the list of a running condvar: waiters leave it in the order of their
+/// tickets. Until it is sent, a waiter keeps its seat and its ticket, and ahead of it are only those that were ahead of it
+/// before. The seat that a wake sends for a ticket is the one whose wait got it.
+///
+/// Definition: `WaitersAreSentInOrder` in `specs/Order.antt`. Proof: `proofs/Order.antt`.
+pub fn waiters_are_sent_in_order()
+    ensures { WaitersAreSentInOrder }
 {}

@@ -4,7 +4,7 @@ ghost use Rattle.std.specs.Prelude.{◌≡◌, ◌<◌, ◌≤◌, Some, IfOk, l
 ghost use Rattle.lfm_mutex.specs.Belongs.{Beside, OfMutex, limits_of};
 ghost use Rattle.lfm_mutex.specs.calls.RunGoesOn.{RunGoesOnFrom};
 ghost use Rattle.lfm_mutex.specs.calls.Sight.{sight, MayRelease};
-ghost use Rattle.lfm_mutex.specs.calls.Woken.{WokenAsGranted};
+ghost use Rattle.lfm_mutex.specs.calls.Woken.{LooksAndWakesAsGranted, WokenAsGranted};
 ghost use Rattle.lfm_condvar.specs.Belongs.{CondWokenAsGranted, OfCondvar, cond_limits, cond_sight, cond_tries};
 ghost use Rattle.lfm_condvar.specs.Waits.{BeginWaitEnds, WaitEnds, ticket_of};
 
@@ -117,11 +117,11 @@ impl Condvar {
         ensures belongs { OfCondvar cond.new self.now × Beside seat.old seat.new }
         ensures run { RunGoesOnFrom seat.old seat.new }
         ensures cond_woken { CondWokenAsGranted cond.old cond.new }
-        ensures woken { WokenAsGranted seat.old seat.new }
+        ensures woken { LooksAndWakesAsGranted seat.old seat.new }
         ensures waits { WaitEnds T.follows T.fits (limits_of mutex.now) (cond_limits self.now) (cond_tries self.now) (cond_sight cond.old) (cond_sight cond.new) (sight seat.old) (sight seat.new) result }
     {
         let enlisted = self.begin_wait_counted(rt, cond, mutex, seat)?;
-        let looks = looks_behind(mutex.pace(), enlisted.ahead, mutex.count());
+        let looks = looks_behind(mutex.pace(), enlisted.ahead, mutex.count_from(seat));
         match mutex.receive_lock_within(rt, seat, looks) {
             Ok(how) => Ok((how, enlisted.ticket)),
             Err(_) => unreachable!(),

@@ -12,7 +12,7 @@ use Rattle.lfm_monitor.specs.declared.monitor.Monitor.{Monitor}
 use Rattle.lfm_monitor.specs.declared.pass.Pass.{Pass}
 use Rattle.lfm_monitor.specs.Belongs.{OfMonitor, cond_seats_of, conditions_in, passes_of, tries_in}
 use Rattle.lfm_monitor.specs.CondSeats.{CondsWokenAsGranted, OfConditions, condition_limits}
-use Rattle.lfm_mutex.proofs.runs.Woken.{woken_join, woken_none}
+use Rattle.lfm_mutex.proofs.runs.Woken.{looks_join, looks_none}
 use Rattle.lfm_monitor.proofs.Places.{in_range, stands, stands_or_was}
 
 -- another cond seat of the same condition is put at its index
@@ -28,7 +28,7 @@ still_of_conditions cs vs n d v of at belongs = record {
 -- Cond seats wake the seats that they granted the list
 
 same_woken : (c d : CondSeat) → c ≡ d → CondWokenAsGranted c d
-same_woken c d e = subst (CondWokenAsGranted c) e (woken_none c.seat c.seat refl refl)
+same_woken c d e = subst (CondWokenAsGranted c) e (looks_none c.seat c.seat refl refl)
 
 pub conds_woken_none : (cs : List CondSeat) → CondsWokenAsGranted cs cs
 conds_woken_none cs = record { long = refl; each = λ i c d ac ad. same_woken c d (some-injective c d (sym ac ∙ ad)) }
@@ -52,7 +52,7 @@ pub conds_woken_join : (cs ms ds : List CondSeat) → CondsWokenAsGranted cs ms 
 conds_woken_join cs ms ds h k = record {
   long = k.long ∙ h.long;
   each = λ i c d ac ad. let m = some_stands ms i (let low = in_range cs i c ac in let e = h.long in omega arith) in
-      woken_join c.seat m.0.seat d.seat (h.each i c m.0 ac m.1) (k.each i m.0 d m.1 ad);
+      looks_join c.seat m.0.seat d.seat (h.each i c m.0 ac m.1) (k.each i m.0 d m.1 ad);
 }
 
 module _ {O A R : Type 0} {K : _} where

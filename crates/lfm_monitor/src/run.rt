@@ -41,11 +41,12 @@ impl<O: Object> Monitor<O> {
 
     /// Starts a thread for each pass. Each thread makes `rounds` rounds, numbered from 0. In each round it executes the section
     /// in its own hold. A thread stops early if its section returns Break or is refused, or if `hold` is refused. Each round
-    /// uses `hold`, so a thread tries before it queues. `run` sleeps until all threads have ended, and returns the passes in
-    /// their order.
+    /// uses `hold`, so a thread tries before it queues. `run` sleeps until all threads have ended. Then it returns Ok with all
+    /// passes, in their order.
     ///
     /// No round is made before all threads have been started, so sections may wait for one another. If an allocation fails
-    /// (Memory), or a thread can't be started (Thread), no round is made, and all passes are returned as they were.
+    /// (Memory), or a thread can't be started (Thread), it returns NotStarted: no round was made, and all passes are returned as
+    /// they were. No clause says that NotStarted has such a cause.
     pub fn run<R: Threads + Wait + Sync, S: CriticalSection<O, R, Answer = ControlFlow<()>>>(
         &self,
         rt: &R,

@@ -1,6 +1,6 @@
 //! How a pass waits on a condition: it leaves, sleeps until it is sent, and acquires the monitor again, which is written into
 //! the journal.
-ghost use Rattle.lfm_monitor.specs.Belongs.{OfMonitor, PassRunGoesOnFrom, PassWokenAsGranted, cond_seats_of, conditions_of, mine_of, mutex_limits, pass_sight, passes_of, seen_of, share_of, tries_in};
+ghost use Rattle.lfm_monitor.specs.Belongs.{OfMonitor, PassLooksAndWakesAsGranted, PassRunGoesOnFrom, cond_seats_of, conditions_of, mine_of, mutex_limits, pass_sight, passes_of, seen_of, share_of, tries_in};
 ghost use Rattle.lfm_monitor.specs.CondSeats.{CondsWokenAsGranted, condition_limits};
 ghost use Rattle.lfm_monitor.specs.Conditions.{MayWait, WaitEnds, WaitRefused, WaitReturns};
 ghost use Rattle.lfm_mutex.specs.Belongs.{budget_of};
@@ -54,7 +54,7 @@ impl<O: Object> Monitor<O> {
         ensures belongs { OfMonitor pass.new self.now }
         ensures number { (pass_sight pass.new).number ≡ (pass_sight pass.old).number }
         ensures run { PassRunGoesOnFrom pass.old pass.new }
-        ensures woken { PassWokenAsGranted pass.old pass.new }
+        ensures woken { PassLooksAndWakesAsGranted pass.old pass.new }
         ensures cond_woken { CondsWokenAsGranted (cond_seats_of pass.old) (cond_seats_of pass.new) }
         ensures waits { WaitEnds (mutex_limits self.now) (condition_limits (passes_of self.now)) (tries_in self.now) (share_of self.now) (conditions_of self.now) condition (cond_seats_of pass.old) (cond_seats_of pass.new) (pass_sight pass.old) (pass_sight pass.new) (mine_of pass.old) result }
         ensures returns { WaitReturns (pass_sight pass.old) (pass_sight pass.new) (seen_of pass.old) (seen_of pass.new) (mine_of pass.old) (mine_of pass.new) result }

@@ -16,6 +16,10 @@ use Rattle.lfm_laws.specs.laws.Progress.{ended_in_run, steps_of_run}
 use Rattle.lfm_laws.specs.table.Words.{index, written}
 use Rattle.lfm_laws.proofs.lawful.runs.AbstractBridge.{runs_are_abstract_runs}
 use Rattle.lfm_laws.proofs.lawful.runs.InSchedules.{queue_is_in_push_order_in_schedules, stamps_are_consecutive_in_schedules, queued_seats_are_overtaken_once_in_schedules, queued_seats_wait_for_few_releases_in_schedules, no_seat_overtakes_twice_in_schedules, some_call_ends_in_schedules}
+use Rattle.lfm_laws.specs.laws.FairRounds.{HasFairRounds, rounds_to_release}
+use Rattle.lfm_laws.specs.laws.Rounds.{HasUnownedRounds}
+use Rattle.lfm_laws.proofs.lawful.rounds.FairRounds.{queued_seats_are_served_in_fair_rounds}
+use Rattle.lfm_laws.proofs.lawful.rounds.Runs.{queued_seats_are_served_in_rounds}
 use Rattle.lfm_laws.proofs.lawful.runs.LimitsKept.{limits_stay}
 use Rattle.lfm_laws.proofs.lawful.runs.PushOrder.{answers_are_the_records}
 use Rattle.lfm_laws.proofs.lawful.runs.Reached.{steady_reached}
@@ -30,7 +34,7 @@ use Rattle.lfm_mutex.proofs.LawsHeld.{core_of}
 use Rattle.lfm_mutex.proofs.RunTrails.{answers_told, entries_of_part, pushes_told, rest_is_nil, steps_of_parts}
 use Rattle.lfm_mutex.proofs.ends.Seats.{joins, joins_keep, owner_keeps, owner_tells, splits, splits_keep, starts, starts_at}
 use Rattle.lfm_mutex.specs.Laws.{IsCore}
-use Rattle.lfm_mutex.specs.TableRuns.{HoldsAfter, OtherStepsKeepTheCore, SeatsKnowUpToTheirLastStep, TablesEndCalls, TablesGoOnAsTheCore, TablesGoThroughReachedStates, TablesRunAsTheAbstractMutex, TablesHaveARun, TablesOpenAtTheStart, TablesOvertakeOnce, TablesServeInPushOrder, TrailsTellThePushes, TrailsTellTheAnswers, answers_noted, late_part, pushes_noted, popped_since, pushed_since, state_after}
+use Rattle.lfm_mutex.specs.TableRuns.{HoldsAfter, OtherStepsKeepTheCore, SeatsKnowUpToTheirLastStep, TablesEndCalls, TablesGoOnAsTheCore, TablesGoThroughReachedStates, TablesRunAsTheAbstractMutex, TablesHaveARun, TablesOpenAtTheStart, TablesOvertakeOnce, TablesServeInPushOrder, TablesServeInRounds, TrailsTellThePushes, TrailsTellTheAnswers, answers_noted, late_part, pushes_noted, popped_since, pushed_since, state_after}
 
 -- at each moment of a run within the limits, the state is one that a schedule reaches
 reached_after : (l : Limits) (actions : List Action) → are_in_limits l.seats l.budget ≡ true → IsReached (state_after l actions)
@@ -150,6 +154,20 @@ module _ {T : Type 0} (follows : ℕ → T → T → Type 0) (fits : T → ℕ �
         (λ t.
             let once = no_seat_overtakes_twice_in_schedules (state_after l early) t (events_of late) k reached low few in
             (once, subst (λ (n : ℕ). n ≤ 1) (entries_of_part (state_after l early) t late) once)),
+      )
+
+  pub tables_serve_in_rounds : TablesServeInRounds follows fits
+  tables_serve_in_rounds s l early late k holds queued =
+      let c = state_after l early in
+      let allowed = in_limits s l (early ++ late) holds in
+      let reached = reached_after l early allowed in
+      let seats : length c.seats ≡ l.seats = ap (λ (m : Limits). m.seats) (limits_stay l (events_of early) allowed) in (
+        (λ has.
+            queued_seats_are_served_in_rounds c (events_of late) k reached queued
+            (subst (λ (n : ℕ). HasUnownedRounds (n + 8 * k + 7) c (events_of late)) (sym seats) has)),
+        (λ rests release has.
+            queued_seats_are_served_in_fair_rounds c (events_of late) k reached rests release queued
+            (subst (λ (n : ℕ). HasFairRounds (n + 10 * k + 9 + rounds_to_release c) c (events_of late)) (sym seats) has)),
       )
 
   -- only the seats of the mutex have a part in the late actions

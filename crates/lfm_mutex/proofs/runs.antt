@@ -5,6 +5,7 @@ pub mod Courses
 pub mod DueFalls
 pub mod FirstPoints
 pub mod GoesOn
+pub mod Granted
 pub mod MadeCalls
 pub mod OneStep
 pub mod PlainCourses

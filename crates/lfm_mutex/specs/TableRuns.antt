@@ -25,6 +25,8 @@ use Rattle.lfm_laws.specs.laws.Laws.{IsReached}
 use Rattle.lfm_laws.specs.laws.Overtaking.{enters_at, entries_of_run, releases_of_run, entries_of_seat}
 use Rattle.lfm_laws.specs.laws.Progress.{steps_of_run, ended_in_run}
 use Rattle.lfm_laws.specs.laws.Reading.{Reads}
+use Rattle.lfm_laws.specs.laws.FairRounds.{HasFairRounds, OwnerRestsOrReleases, OwnersOnlyRelease, rounds_to_release}
+use Rattle.lfm_laws.specs.laws.Rounds.{HasUnownedRounds}
 use Rattle.lfm_laws.specs.laws.Schedules.{is_call, reached, run_of, push_record, popped_record, answer_record}
 use Rattle.lfm_laws.specs.table.Words.{index, link_of, written}
 use Rattle.lfm_mutex.specs.Laws.{IsCore}
@@ -188,6 +190,19 @@ module _ {T : Type 0} (follows : ℕ → T → T → Type 0) (fits : T → ℕ �
       → (entries_of_run (state_after l early) (events_of late) ≤ length (popped_since l early late) + 1)
       × (releases_of_run (state_after l early) (events_of late) ≤ length (popped_since l early late) + 1)
       × ((t : ℕ) → (entries_of_seat (state_after l early) t (events_of late) ≤ 1) × (entries_told (late_part l early late t) ≤ 1))
+
+  -- Starvation freedom. Take a record that was queued at an earlier moment, with k before it. It has left the queue if the actions
+  -- since then have N + 8k + 7 rounds that begin while no seat owns. It also has if owners have begun no calls but releases since,
+  -- and the actions have N + 10k + 9 fair rounds, and as many more as the owner of that moment needed to release. A load for
+  -- `owner` is no step of a round.
+  abbrev pub TablesServeInRounds : Type 0
+  TablesServeInRounds =
+      (s : State (Option (Moving T)) (View T)) (l : Limits) (early late : List Action) (k : ℕ) → HoldsAfter l (early ++ late) s
+      → k < length (queue_of (state_after l early))
+      → (HasUnownedRounds (l.seats + 8 * k + 7) (state_after l early) (events_of late) → k < length (popped_since l early late))
+      × (OwnerRestsOrReleases (state_after l early) → OwnersOnlyRelease (state_after l early) (events_of late)
+      → HasFairRounds (l.seats + 10 * k + 9 + rounds_to_release (state_after l early)) (state_after l early) (events_of late)
+      → k < length (popped_since l early late))
 
   -- Lock freedom. Since an earlier moment calls have made at most (5N + 5)(N + k) steps, k being the number of calls that have
   -- ended since. The trails of the N seats have grown by exactly these steps and the loads for `owner`.

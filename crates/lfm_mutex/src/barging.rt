@@ -7,16 +7,16 @@ ghost use Rattle.lfm_mutex.specs.Belongs.{Beside, OfMutex, limits_of, tries_of};
 ghost use Rattle.lfm_mutex.specs.calls.Barging.{BargesBy, FailedTry, GainsIf, MayTry, TriesBy, TriesFirst, TryHeld};
 ghost use Rattle.lfm_mutex.specs.calls.RunGoesOn.{RunGoesOnFrom};
 ghost use Rattle.lfm_mutex.specs.calls.Sight.{sight, LocksWaiting};
-ghost use Rattle.lfm_mutex.specs.calls.Woken.{WakesNobody, WokenAsGranted};
+ghost use Rattle.lfm_mutex.specs.calls.Woken.{LooksAndWakesAsGranted, LooksAndWakesNobody, WakesNobody};
 
 use crate::mutex::Mutex;
 use crate::pace::pause_for;
 use crate::seat::Seat;
 use crate::try_lock::try_without_hold;
 use lfm_model::{How, Locked, Refusal};
-use lfm_table::Kept;
 use lfm_table::layout::wake_at;
 use lfm_table::parking::park_for;
+use lfm_table::{Kept, OffTrail};
 use std::sync::Wait;
 use std::thread::yield_now;
 use std::time::Duration;
@@ -60,7 +60,7 @@ impl<T: Kept> Mutex<T> {
     pub fn lock_barging<R: Wait>(&self, rt: &R, seat: &mut Seat<T>) -> Result<Locked, Refusal>
         requires belongs { OfMutex seat.old self.now }
         ensures belongs { Beside seat.old seat.new }
-        ensures woken { WokenAsGranted seat.old seat.new }
+        ensures woken { LooksAndWakesAsGranted seat.old seat.new }
         ensures run { RunGoesOnFrom seat.old seat.new }
         ensures locks { LocksWaiting T.follows T.fits (limits_of self.now).budget (sight seat.old) (sight seat.new) result }
         ensures steps { BargesBy (limits_of self.now) (tries_of self.now) (sight seat.old) (sight seat.new) result }
@@ -101,7 +101,7 @@ impl<T: Kept> Mutex<T> {
         requires belongs { OfMutex seat.old self.now }
         requires free { MayTry (limits_of self.now).budget (sight seat.old) }
         ensures belongs { Beside seat.old seat.new }
-        ensures woken { WokenAsGranted seat.old seat.new }
+        ensures woken { LooksAndWakesAsGranted seat.old seat.new }
         ensures run { RunGoesOnFrom seat.old seat.new }
         ensures locks { LocksWaiting T.follows T.fits (limits_of self.now).budget (sight seat.old) (sight seat.new) result }
         ensures steps { BargesBy (limits_of self.now) (self.now.pace.spins - 1 + self.now.pace.naps) (sight seat.old) (sight seat.new) result }
@@ -118,7 +118,7 @@ impl<T: Kept> Mutex<T> {
         requires belongs { OfMutex seat.old self.now }
         requires free { MayTry (limits_of self.now).budget (sight seat.old) }
         ensures belongs { Beside seat.old seat.new }
-        ensures woken { WakesNobody seat.old seat.new }
+        ensures woken { LooksAndWakesNobody seat.old seat.new }
         ensures run { RunGoesOnFrom seat.old seat.new }
         ensures gains { GainsIf T.follows T.fits (limits_of self.now).budget (sight seat.old) (sight seat.new) result }
         ensures tries { TriesBy (limits_of self.now) (self.now.pace.spins - 1 + self.now.pace.naps) (sight seat.old) (sight seat.new) result }
@@ -137,14 +137,14 @@ impl<T: Kept> Mutex<T> {
         requires belongs { OfMutex seat.old self.now }
         requires free { MayTry (limits_of self.now).budget (sight seat.old) }
         ensures belongs { Beside seat.old seat.new }
-        ensures woken { WakesNobody seat.old seat.new }
+        ensures woken { LooksAndWakesNobody seat.old seat.new }
         ensures run { RunGoesOnFrom seat.old seat.new }
         ensures gains { GainsIf T.follows T.fits (limits_of self.now).budget (sight seat.old) (sight seat.new) result }
         ensures tries { TriesBy (limits_of self.now) (self.now.pace.spins - 1) (sight seat.old) (sight seat.new) result }
     {
         'spins: for made in 1..self.pace.spins {
             pause_for(1 << (made - 1).min(MOST_DOUBLINGS));
-            let count = self.table.look_at_count();
+            let count = self.table.look_at_count(&mut seat.off_trail);
             match self.try_if_free(seat, count) {
                 Some(how) => return Some(how),
                 None => {}
@@ -164,24 +164,18 @@ impl<T: Kept> Mutex<T> {
         requires belongs { OfMutex seat.old self.now }
         requires free { MayTry (limits_of self.now).budget (sight seat.old) }
         ensures belongs { Beside seat.old seat.new }
-        ensures woken { WakesNobody seat.old seat.new }
+        ensures woken { LooksAndWakesNobody seat.old seat.new }
         ensures run { RunGoesOnFrom seat.old seat.new }
         ensures gains { GainsIf T.follows T.fits (limits_of self.now).budget (sight seat.old) (sight seat.new) result }
         ensures tries { TriesBy (limits_of self.now) self.now.pace.naps (sight seat.old) (sight seat.new) result }
     {
         let wake = wake_at(seat.table_seat.limits.seats, seat.table_seat.number);
         'naps: for made in 0..self.pace.naps {
-            let found = self.table.look_at_count();
+            let found = self.table.look_at_count(&mut seat.off_trail);
             if self.pace.is_crowd(found) {
                 return None;
             }
-            let count = if found == 0 {
-                0
-            } else if made == 0 && self.is_handed_over(found) {
-                self.count_after_yield()
-            } else {
-                self.count_after_nap(rt, wake)
-            };
+            let count = self.later_count(rt, wake, made == 0, found, &mut seat.off_trail);
             match self.try_if_free(seat, count) {
                 Some(how) => return Some(how),
                 None => {}
@@ -190,27 +184,54 @@ impl<T: Kept> Mutex<T> {
         None
     }
 
-    /// Whether the mutex may have been handed over to a seat whose thread has not run since: one seat is counted, and none
-    /// owns.
-    fn is_handed_over(&self, count: u64) -> bool {
-        count == 1 && self.table.look_at_owner() == 0
+    /// The count after a nap, or 0 at once if this count is 0 already.
+    #[inline(always)]
+    fn later_count<R: Wait>(
+        &self,
+        rt: &R,
+        wake: usize,
+        is_first: bool,
+        found: u64,
+        off_trail: &mut OffTrail,
+    ) -> u64
+        requires { wake < self.now.table.table_id.words }
+        ensures { off_trail.new.woken ≡ off_trail.old.woken }
+    {
+        if found == 0 {
+            return 0;
+        }
+        if is_first && self.is_handed_over(found, off_trail) {
+            return self.count_after_yield(off_trail);
+        }
+        self.count_after_nap(rt, wake, off_trail)
     }
 
-    /// The count after a nap.
-    fn count_after_nap<R: Wait>(&self, rt: &R, wake: usize) -> u64
+    /// Whether the mutex may have been handed over to a seat whose thread has not run since: one seat is counted, and none
+    /// owns.
+    fn is_handed_over(&self, count: u64, off_trail: &mut OffTrail) -> bool
+        ensures { off_trail.new.woken ≡ off_trail.old.woken }
+    {
+        count == 1 && self.table.look_at_owner(off_trail) == 0
+    }
+
+    /// The count after a sleep.
+    fn count_after_nap<R: Wait>(&self, rt: &R, wake: usize, off_trail: &mut OffTrail) -> u64
         requires { wake < self.now.table.table_id.words }
+        ensures { off_trail.new.woken ≡ off_trail.old.woken }
     {
         let nap = Duration::from_micros(NAP_MICROSECONDS);
         park_for(rt, &self.table, wake, nap);
-        self.table.look_at_count()
+        self.table.look_at_count(off_trail)
     }
 
     /// The count after a yield. The thread to which the mutex was handed over may be ready on this processor. A yield lets it
     /// run at once; a nap would last longer than its section. On a busy processor a yield costs a whole time slice, so it is
     /// made only here.
-    fn count_after_yield(&self) -> u64 {
+    fn count_after_yield(&self, off_trail: &mut OffTrail) -> u64
+        ensures { off_trail.new.woken ≡ off_trail.old.woken }
+    {
         yield_now();
-        self.table.look_at_count()
+        self.table.look_at_count(off_trail)
     }
 
     /// Makes one try if this count is 0, and none otherwise. Reading the count costs the holder less than a failed try. It

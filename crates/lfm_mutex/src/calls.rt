@@ -1,22 +1,18 @@
 //! The slow path: a call begins, and makes one step after another until it ends. Each public call has a file of its own. None
 //! of these functions allocates or wakes a seat: if a step grants another seat the mutex, its wake-up is returned with the
 //! turn.
-ghost use Rattle.std.specs.Prelude.{◌≡◌, ◌≢◌, ◌+◌, ◌≤◌, ℕ, length, false, true, Some, None};
-ghost use Rattle.lfm_model.specs.declared.answers.How.{How as HowNow};
+ghost use Rattle.std.specs.Prelude.{◌≡◌, ◌≢◌, ◌+◌, ℕ, false, true, Some, None};
 ghost use Rattle.lfm_protocol.specs.declared.points.Point.TheVariants.{ReleaseOwnerStore};
 ghost use Rattle.lfm_protocol.specs.declared.points.Releaser.{Releaser};
-ghost use Rattle.lfm_table.specs.FastPath.{KeepsNumberAndLimits};
-ghost use Rattle.lfm_table.specs.Rule.{value_in, last_hold};
-ghost use Rattle.lfm_mutex.specs.calls.Due.{due};
-ghost use Rattle.lfm_mutex.specs.calls.FailedPushes.{Spends, MakesBesideFailures};
-ghost use Rattle.lfm_mutex.specs.calls.RunGoesOn.{RunGoesOnFrom};
-ghost use Rattle.lfm_mutex.specs.calls.Runs.{nothing, errand, errand_of, is_releasing, is_release, release_steps, weight, Ends, Answers, Ran, Holds, how_held, opens};
-ghost use Rattle.lfm_mutex.specs.Belongs.{Beside, OfMutex};
+ghost use Rattle.lfm_mutex.specs.calls.FailedPushes.{MakesBesideFailures};
+ghost use Rattle.lfm_mutex.specs.calls.Runs.{nothing, errand, errand_of, is_releasing, is_release, release_steps, Ends, Answers, Ran, opens};
+ghost use Rattle.lfm_mutex.specs.Belongs.{OfMutex};
 ghost use Rattle.lfm_mutex.specs.calls.Trails.{Made, MakesAtMost};
-ghost use Rattle.lfm_mutex.specs.calls.Sight.{sight, is_asleep, Concludes, MayRelease, Stays, Turned};
+ghost use Rattle.lfm_mutex.specs.calls.Sight.{sight, is_asleep, Concludes, MayRelease, Turned};
 ghost use Rattle.lfm_mutex.specs.calls.WakeUps.{Wakes, first_of, may_grant};
 ghost use Rattle.lfm_table.specs.Steps.{MayBeLeft};
-ghost use Rattle.lfm_mutex.specs.calls.Woken.{WakesNobody};
+ghost use Rattle.lfm_mutex.specs.calls.OpenCalls.{AtTableOf, WithinDue, WithinWeight, OwesWakeUp, FinishesAs, KeepsSeat, EndsHold};
+ghost use Rattle.lfm_mutex.specs.calls.Acts.{ActsWakingNobody};
 
 use crate::mutex::Mutex;
 use crate::seat::Seat;
@@ -43,21 +39,13 @@ fn either(first: Option<WakeUp>, then: Option<WakeUp>) -> Option<WakeUp>
 /// Finishes an open call: makes one step after another until the call ends.
 #[inline(never)]
 pub fn finish<T: Kept>(mutex: &Mutex<T>, seat: &mut Seat<T>) -> (Turn, Option<WakeUp>)
-    requires belongs { seat.old.table_seat.place.table_id ≡ mutex.now.table.table_id }
+    requires belongs { AtTableOf seat.old mutex.now }
     requires open { errand seat.old.state.point ≢ nothing }
     requires keeps { is_release seat.old.state.point ≡ false }
-    ensures belongs { seat.new.table_seat.place.table_id ≡ seat.old.table_seat.place.table_id }
-    ensures woken { WakesNobody seat.old seat.new }
-    ensures same { KeepsNumberAndLimits seat.old.table_seat seat.new.table_seat }
+    ensures finishes { FinishesAs T.follows T.fits seat.old result.0 result.1 seat.new }
     ensures ends { Ends (errand seat.old.state.point) result.0 }
-    ensures last { last_hold seat.new.table_seat.place.me.0 ≡ last_hold seat.old.table_seat.place.me.0 }
-    ensures held { (how : HowNow) → how_held result.0 ≡ Some how → Holds T.follows T.fits seat.old.table_seat.number (last_hold seat.old.table_seat.place.me.0) how seat.new.state seat.new.table_seat.moving seat.new.table_seat.place.me.0 }
-    ensures ran { Ran seat.old.table_seat.number (opens seat.old.state) seat.old.table_seat.place.me.0 result.0 seat.new.state seat.new.table_seat.place.me.0 }
-    ensures concludes { Concludes seat.old.state result.0 seat.new.state }
-    ensures stays { Stays seat.old.state.depth seat.old.table_seat.place.me.0 (value_in seat.old.table_seat.moving) seat.new.table_seat.place.me.0 (value_in seat.new.table_seat.moving) }
-    ensures bounded { length seat.new.table_seat.place.me.0.trail ≤ length seat.old.table_seat.place.me.0.trail + weight seat.old.table_seat.limits.seats (length seat.old.table_seat.place.me.0.popped) seat.old.state.point }
-    ensures spends { Spends (due seat.old.table_seat.limits.seats (length seat.old.table_seat.place.me.0.popped) seat.old.state.point) 0 seat.old.table_seat.place.me.0.trail seat.new.table_seat.place.me.0.trail }
-    ensures wakes { Wakes seat.old.table_seat.limits.seats result.1 seat.old.table_seat.place.me.0.trail seat.new.table_seat.place.me.0.trail }
+    ensures bounded { WithinWeight seat.old seat.new }
+    ensures spends { WithinDue seat.old seat.new }
     ensures none { may_grant (errand seat.old.state.point) ≡ false → result.1 ≡ None }
 {
     let mut owed = None;
@@ -80,9 +68,7 @@ pub fn begin_and_finish<T: Kept>(
 ) -> (Turn, Option<WakeUp>)
     requires belongs { OfMutex seat.old mutex.now }
     requires keeps { is_releasing (errand_of call) ≡ false }
-    ensures belongs { Beside seat.old seat.new }
-    ensures woken { WakesNobody seat.old seat.new }
-    ensures run { RunGoesOnFrom seat.old seat.new }
+    ensures acts { ActsWakingNobody seat.old seat.new }
     ensures answers { Answers (errand_of call) result.0 }
     ensures turned { Turned T.follows T.fits mutex.now.limits call (sight seat.old) (sight seat.new) result.0 }
     ensures made { Made mutex.now.limits call (sight seat.old) (sight seat.new) result.0 }
@@ -106,9 +92,7 @@ pub fn begin_and_release<T: Kept>(
     requires belongs { OfMutex seat.old mutex.now }
     requires gives { is_releasing (errand_of call) ≡ true }
     requires leaves { MayRelease T.follows T.fits (sight seat.old) }
-    ensures belongs { Beside seat.old seat.new }
-    ensures woken { WakesNobody seat.old seat.new }
-    ensures run { RunGoesOnFrom seat.old seat.new }
+    ensures acts { ActsWakingNobody seat.old seat.new }
     ensures answers { Answers (errand_of call) result.0 }
     ensures turned { Turned T.follows T.fits mutex.now.limits call (sight seat.old) (sight seat.new) result.0 }
     ensures made { Made mutex.now.limits call (sight seat.old) (sight seat.new) result.0 }
@@ -123,18 +107,16 @@ pub fn begin_and_release<T: Kept>(
 
 /// Finishes an open release. Its first step is the store that ends the hold.
 fn finish_from_owner_store<T: Kept>(mutex: &Mutex<T>, seat: &mut Seat<T>) -> (Turn, Option<WakeUp>)
-    requires belongs { seat.old.table_seat.place.table_id ≡ mutex.now.table.table_id }
+    requires belongs { AtTableOf seat.old mutex.now }
     requires gives { (r : Releaser) × (seat.old.state.point ≡ ReleaseOwnerStore r) }
     requires leaves { MayBeLeft T.follows T.fits seat.old.table_seat.moving seat.old.table_seat.place.me.0 }
-    ensures belongs { seat.new.table_seat.place.table_id ≡ seat.old.table_seat.place.table_id }
-    ensures woken { WakesNobody seat.old seat.new }
-    ensures same { KeepsNumberAndLimits seat.old.table_seat seat.new.table_seat }
+    ensures kept { KeepsSeat seat.old seat.new }
     ensures ends { Ends (errand seat.old.state.point) result.0 }
-    ensures last { last_hold seat.new.table_seat.place.me.0 ≡ (value_in seat.old.table_seat.moving, seat.old.table_seat.place.me.0.found, seat.old.table_seat.place.me.0.limits, seat.old.table_seat.place.me.0.holds_ended + 1) }
+    ensures last { EndsHold seat.old seat.new }
     ensures ran { Ran seat.old.table_seat.number (opens seat.old.state) seat.old.table_seat.place.me.0 result.0 seat.new.state seat.new.table_seat.place.me.0 }
     ensures concludes { Concludes (record seat.old.state { depth = 0 }) result.0 seat.new.state }
-    ensures bounded { length seat.new.table_seat.place.me.0.trail ≤ length seat.old.table_seat.place.me.0.trail + weight seat.old.table_seat.limits.seats (length seat.old.table_seat.place.me.0.popped) seat.old.state.point }
-    ensures wakes { Wakes seat.old.table_seat.limits.seats result.1 seat.old.table_seat.place.me.0.trail seat.new.table_seat.place.me.0.trail }
+    ensures bounded { WithinWeight seat.old seat.new }
+    ensures wakes { OwesWakeUp seat.old result.1 seat.new }
 {
     match make_waking_none(mutex, seat, Kind::OwnerStore) {
         Turn::Open => finish(mutex, seat),

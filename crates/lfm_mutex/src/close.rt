@@ -136,7 +136,7 @@ fn into_place<T: Kept, P: Holder<T>>(holder: P) -> AtomicSeat<T>
     let Seat {
         table_seat,
         state: _,
-        woken: _,
+        off_trail: _,
     } = holder.into_seat();
     let TableSeat {
         place,

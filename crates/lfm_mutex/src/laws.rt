@@ -7,6 +7,7 @@ ghost use Rattle.lfm_mutex.specs.TableStates.{RestingTablesAreFree, TablesStand}
 ghost use Rattle.lfm_mutex.specs.TableEvents.{TablesStepAsTheCore};
 ghost use Rattle.lfm_mutex.specs.TableRuns.{OtherStepsKeepTheCore, TablesGoOnAsTheCore, TablesOpenAtTheStart};
 ghost use Rattle.lfm_mutex.specs.EndedHolds.{HoldsAreNumbered, OneLastValue};
+ghost use Rattle.lfm_mutex.specs.calls.Granted.{GrantsAreTold, WakeUpsAreTold};
 
 use lfm_table::Kept;
 
@@ -111,4 +112,13 @@ pub fn other_steps_keep_the_core<T: Kept>()
 /// Definition: `KnowsItsMutex` in `specs/Laws.antt`. Proof: `proofs/LawsHeld.antt`.
 pub fn seats_know_their_mutex<T: Kept>()
     ensures { KnowsItsMutex T }
+{}
+
+/// An `unlock` that answers `Granted` stored one grant, for the seat that it names, and has that seat's wake-up. With any other
+/// answer or a refusal it stored no grant and has no wake-up.
+///
+/// Definitions: `GrantsAreTold` and `WakeUpsAreTold` in `specs/calls/Granted.antt`. Proof: `proofs/runs/Granted.antt`.
+pub fn granted_told<T: Kept>()
+    ensures grants { GrantsAreTold T }
+    ensures wake_ups { WakeUpsAreTold T }
 {}

@@ -1,22 +1,22 @@
 //! `ask` locks or queues; `lock` also waits for the grant. Fast path: the mutex is free, the seat holds it already, or the seat
 //! queues (`push`). It writes only the fields of the seat that change. Everything else is the slow path (`calls::finish`).
-ghost use Rattle.std.specs.Prelude.{◌≡◌, ◌+◌, ◌<◌, length};
+ghost use Rattle.std.specs.Prelude.{◌≡◌, ◌+◌, ◌<◌};
 ghost use Rattle.lfm_protocol.specs.declared.answers.Answer.TheVariants as Answered;
 ghost use Rattle.lfm_protocol.specs.declared.answers.Call.{Call as CallNow};
 ghost use Rattle.lfm_protocol.specs.declared.answers.Turn.TheVariants.{Ended};
 ghost use Rattle.lfm_protocol.specs.declared.points.Point.TheVariants.{Rest, LockOwnerLoad};
 ghost use Rattle.lfm_protocol.specs.Limits.{max_depth};
-ghost use Rattle.lfm_table.specs.FastPath.{KeepsNumberAndLimits};
 ghost use Rattle.lfm_mutex.specs.Belongs.{Beside, OfMutex, limits_of};
-ghost use Rattle.lfm_mutex.specs.calls.Due.{due};
-ghost use Rattle.lfm_mutex.specs.calls.FailedPushes.{Spends, MakesBesideFailures};
+ghost use Rattle.lfm_mutex.specs.calls.FailedPushes.{MakesBesideFailures};
 ghost use Rattle.lfm_mutex.specs.calls.RunGoesOn.{RunGoesOnFrom};
 ghost use Rattle.lfm_mutex.specs.calls.Runs.{errand, locking};
 ghost use Rattle.lfm_mutex.specs.calls.Sight.{sight, Asks, LocksWaiting};
-ghost use Rattle.lfm_mutex.specs.calls.FastPath.{Course, ComesTo};
+ghost use Rattle.lfm_mutex.specs.calls.FastPath.{ComesTo};
 ghost use Rattle.lfm_mutex.specs.calls.Trails.{MakesCall, LocksBy};
 ghost use Rattle.lfm_mutex.specs.calls.WakeUps.{Wakes};
-ghost use Rattle.lfm_mutex.specs.calls.Woken.{WakesNobody, WokenAsGranted};
+ghost use Rattle.lfm_mutex.specs.calls.Woken.{LooksAndWakesAsGranted, WakesNobody, WokenAsGranted};
+ghost use Rattle.lfm_mutex.specs.calls.OpenCalls.{AtTableOf, WithinDue, FinishesAs};
+ghost use Rattle.lfm_mutex.specs.calls.Acts.{ActsWakingNobody};
 
 use crate::calls::{asleep, begin_and_finish, finish};
 use crate::mutex::Mutex;
@@ -51,7 +51,7 @@ impl<T: Kept> Mutex<T> {
         ensures bounded { MakesBesideFailures ((limits_of self.now).seats + 9) (sight seat.old) (sight seat.new) }
     {
         let (asked, wake_up) = self.ask_without_waking(seat);
-        self.wake_seat(wake_up, &mut seat.woken);
+        self.wake_seat(wake_up, &mut seat.off_trail);
         asked
     }
 
@@ -100,7 +100,7 @@ impl<T: Kept> Mutex<T> {
     pub fn lock<R: Wait>(&self, rt: &R, seat: &mut Seat<T>) -> Result<Locked, Refusal>
         requires belongs { OfMutex seat.old self.now }
         ensures belongs { Beside seat.old seat.new }
-        ensures woken { WokenAsGranted seat.old seat.new }
+        ensures woken { LooksAndWakesAsGranted seat.old seat.new }
         ensures run { RunGoesOnFrom seat.old seat.new }
         ensures locks { LocksWaiting T.follows T.fits (limits_of self.now).budget (sight seat.old) (sight seat.new) result }
         ensures steps { LocksBy (limits_of self.now) (sight seat.old) (sight seat.new) result }
@@ -123,9 +123,7 @@ pub fn ask_without_hold<T: Kept>(mutex: &Mutex<T>, seat: &mut Seat<T>) -> (Asked
     requires rests { seat.old.state.point ≡ Rest }
     requires flat { seat.old.state.depth ≡ 0 }
     requires charged { seat.old.state.takes < seat.old.table_seat.limits.budget }
-    ensures belongs { Beside seat.old seat.new }
-    ensures woken { WakesNobody seat.old seat.new }
-    ensures run { RunGoesOnFrom seat.old seat.new }
+    ensures acts { ActsWakingNobody seat.old seat.new }
     ensures made { ComesTo T.follows T.fits (limits_of mutex.now) CallNow.Lock (sight seat.old) (sight seat.new) (Ended (Answered.Asked result.0)) }
     ensures bounded { MakesBesideFailures ((limits_of mutex.now).seats + 9) (sight seat.old) (sight seat.new) }
     ensures wakes { Wakes (limits_of mutex.now).seats result.1 (sight seat.old).trail (sight seat.new).trail }
@@ -160,9 +158,7 @@ pub fn ask_with_hold<T: Kept>(mutex: &Mutex<T>, seat: &mut Seat<T>) -> (Asked, O
     requires rests { seat.old.state.point ≡ Rest }
     requires held { 0 < seat.old.state.depth }
     requires room { seat.old.state.depth < max_depth }
-    ensures belongs { Beside seat.old seat.new }
-    ensures woken { WakesNobody seat.old seat.new }
-    ensures run { RunGoesOnFrom seat.old seat.new }
+    ensures acts { ActsWakingNobody seat.old seat.new }
     ensures made { ComesTo T.follows T.fits (limits_of mutex.now) CallNow.Lock (sight seat.old) (sight seat.new) (Ended (Answered.Asked result.0)) }
     ensures bounded { MakesBesideFailures ((limits_of mutex.now).seats + 9) (sight seat.old) (sight seat.new) }
     ensures wakes { Wakes (limits_of mutex.now).seats result.1 (sight seat.old).trail (sight seat.new).trail }
@@ -195,15 +191,11 @@ pub fn ask_with_hold<T: Kept>(mutex: &Mutex<T>, seat: &mut Seat<T>) -> (Asked, O
 /// record.
 #[inline(never)]
 fn queue<T: Kept>(mutex: &Mutex<T>, seat: &mut Seat<T>) -> (Asked, Option<WakeUp>)
-    requires belongs { seat.old.table_seat.place.table_id ≡ mutex.now.table.table_id }
+    requires belongs { AtTableOf seat.old mutex.now }
     requires stands { seat.old.state.point ≡ LockOwnerLoad }
     requires flat { seat.old.state.depth ≡ 0 }
-    ensures belongs { seat.new.table_seat.place.table_id ≡ seat.old.table_seat.place.table_id }
-    ensures woken { WakesNobody seat.old seat.new }
-    ensures same { KeepsNumberAndLimits seat.old.table_seat seat.new.table_seat }
-    ensures made { Course T.follows T.fits seat.old.table_seat.number seat.old.state seat.old.table_seat.moving seat.old.table_seat.place.me.0 (Ended (Answered.Asked result.0)) seat.new.state seat.new.table_seat.moving seat.new.table_seat.place.me.0 }
-    ensures spends { Spends (due seat.old.table_seat.limits.seats (length seat.old.table_seat.place.me.0.popped) seat.old.state.point) 0 seat.old.table_seat.place.me.0.trail seat.new.table_seat.place.me.0.trail }
-    ensures wakes { Wakes seat.old.table_seat.limits.seats result.1 seat.old.table_seat.place.me.0.trail seat.new.table_seat.place.me.0.trail }
+    ensures finishes { FinishesAs T.follows T.fits seat.old (Ended (Answered.Asked result.0)) result.1 seat.new }
+    ensures spends { WithinDue seat.old seat.new }
 {
     let table = &mutex.table;
     let mut state = SeatState {
@@ -228,14 +220,10 @@ fn queue<T: Kept>(mutex: &Mutex<T>, seat: &mut Seat<T>) -> (Asked, Option<WakeUp
 /// The slow path of an open `lock`, from the seat's point to the end of the call.
 #[inline(always)]
 fn finish_ask<T: Kept>(mutex: &Mutex<T>, seat: &mut Seat<T>) -> (Asked, Option<WakeUp>)
-    requires belongs { seat.old.table_seat.place.table_id ≡ mutex.now.table.table_id }
+    requires belongs { AtTableOf seat.old mutex.now }
     requires locks { errand seat.old.state.point ≡ locking }
-    ensures belongs { seat.new.table_seat.place.table_id ≡ seat.old.table_seat.place.table_id }
-    ensures woken { WakesNobody seat.old seat.new }
-    ensures same { KeepsNumberAndLimits seat.old.table_seat seat.new.table_seat }
-    ensures made { Course T.follows T.fits seat.old.table_seat.number seat.old.state seat.old.table_seat.moving seat.old.table_seat.place.me.0 (Ended (Answered.Asked result.0)) seat.new.state seat.new.table_seat.moving seat.new.table_seat.place.me.0 }
-    ensures spends { Spends (due seat.old.table_seat.limits.seats (length seat.old.table_seat.place.me.0.popped) seat.old.state.point) 0 seat.old.table_seat.place.me.0.trail seat.new.table_seat.place.me.0.trail }
-    ensures wakes { Wakes seat.old.table_seat.limits.seats result.1 seat.old.table_seat.place.me.0.trail seat.new.table_seat.place.me.0.trail }
+    ensures finishes { FinishesAs T.follows T.fits seat.old (Ended (Answered.Asked result.0)) result.1 seat.new }
+    ensures spends { WithinDue seat.old seat.new }
 {
     let (turn, wake_up) = finish(mutex, seat);
     match turn {
@@ -251,9 +239,7 @@ fn ask_slow<T: Kept>(
     seat: &mut Seat<T>,
 ) -> (Result<Asked, Refusal>, Option<WakeUp>)
     requires belongs { OfMutex seat.old mutex.now }
-    ensures belongs { Beside seat.old seat.new }
-    ensures woken { WakesNobody seat.old seat.new }
-    ensures run { RunGoesOnFrom seat.old seat.new }
+    ensures acts { ActsWakingNobody seat.old seat.new }
     ensures asks { Asks T.follows T.fits (limits_of mutex.now).budget (sight seat.old) (sight seat.new) result.0 }
     ensures steps { MakesCall (limits_of mutex.now) (λ x. Answered.Asked x) CallNow.Lock (sight seat.old) (sight seat.new) result.0 }
     ensures bounded { MakesBesideFailures ((limits_of mutex.now).seats + 9) (sight seat.old) (sight seat.new) }

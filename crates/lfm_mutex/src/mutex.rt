@@ -5,9 +5,10 @@ ghost use Rattle.std.specs.Prelude.{◌≡◌, ◌+◌, ◌*◌, ◌<◌, ◌≤
 ghost use Rattle.lfm_protocol.specs.Limits.{max_seats};
 
 use crate::pace::Pace;
+use crate::seat::Seat;
 use lfm_protocol::Limits;
-use lfm_table::Kept;
 use lfm_table::shared_table::SharedTable;
+use lfm_table::{Kept, OffTrail};
 
 /// A mutex around a value of type T: at most one seat at a time holds it, and only that seat reaches the value. A call takes
 /// the mutex by a shared reference, with one of its seats. Each call requires that the seat is one of this mutex.
@@ -15,18 +16,12 @@ use lfm_table::shared_table::SharedTable;
 /// These lines are compiled in the crate `example_counter`:
 ///
 /// ```
-/// // a mutex with four seats, each of which may acquire it `ROUNDS` times, around a value that starts at 0
-/// let (mutex, seats) = Mutex::new(rt.alloc(), 4, ROUNDS, 0u64)?;
-/// // each seat counts in a thread of its own
-/// let seats = mutex.run(
-///     &rt,
-///     seats,
-///     ROUNDS,
-///     &|_: u64, seat: &mut Seat<u64>| -> Result<(), Refusal>
-///         requires { OfMutex seat.old mutex }
-///     { mutex.with(&rt, seat, |total| *total = total.wrapping_add(1)) },
-/// )?;
-/// let Ok(total) = mutex.close(seats) else {
+/// // a mutex with four seats, each of which may acquire it `ROUNDS` times, around a counter
+/// let (mutex, seats) = Mutex::new(alloc, THREADS, ROUNDS, Counter::new(book))?;
+/// // in a thread of its own, each seat acquires the mutex, changes the counter, and gives the mutex up
+/// share = mutex.with(rt, &mut seat, move |counter| counter.add(share))?;
+/// // when all threads have ended
+/// let Ok(counter) = mutex.close(seats) else {
 ///     bail!("a seat still holds the mutex");
 /// };
 /// ```
@@ -42,11 +37,29 @@ pub struct Mutex<T: Kept> {
 }
 
 impl<T: Kept> Mutex<T> {
+    ghost use Rattle.lfm_mutex.specs.Belongs.{Beside, OfMutex};
+    ghost use Rattle.lfm_mutex.specs.calls.RunGoesOn.{RunGoesOnFrom};
+    ghost use Rattle.lfm_mutex.specs.calls.Sight.{sight};
+    ghost use Rattle.lfm_mutex.specs.calls.Woken.{LooksOnce};
+
     /// How many seats hold the mutex or want it, by one read of the count word. A queued seat is counted; a seat that spins,
     /// naps or waits for a send is not. The holder is counted twice while its `lock` adds a hold. The number is a hint, since
     /// it may change at once. The read is no atomic step of the protocol.
     pub fn count(&self) -> u64 {
-        self.table.look_at_count()
+        let mut off_trail = OffTrail::new();
+        self.table.look_at_count(&mut off_trail)
+    }
+
+    /// `count`, for a call that is made with this seat. The look is added to those that calls with this seat have made.
+    #[inline(always)]
+    pub fn count_from(&self, seat: &mut Seat<T>) -> u64
+        requires belongs { OfMutex seat.old self.now }
+        ensures belongs { Beside seat.old seat.new }
+        ensures same { sight seat.new ≡ sight seat.old }
+        ensures run { RunGoesOnFrom seat.old seat.new }
+        ensures woken { LooksOnce seat.old seat.new }
+    {
+        self.table.look_at_count(&mut seat.off_trail)
     }
 
     /// How a seat waits for this mutex.

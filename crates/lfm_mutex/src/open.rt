@@ -1,5 +1,5 @@
 //! How a mutex is made: one table of words, whose first seat is seat 1, and the other seats split off it.
-ghost use Rattle.std.specs.Prelude.{◌≡◌, ◌+◌, ◌*◌, ℕ, [], IfOk, IfErr, vec_len, true, false};
+ghost use Rattle.std.specs.Prelude.{◌≡◌, ◌+◌, ℕ, [], IfOk, IfErr, vec_len, true, false};
 ghost use mathlib.Core.Option.{some};
 ghost use lib.ListN.{get_elem?};
 ghost use Rattle.lfm_model.specs.declared.refusals.NewFault.{NewFault};
@@ -9,7 +9,7 @@ ghost use Rattle.lfm_mutex.specs.Belongs.{OfMutex, limits_of};
 ghost use Rattle.lfm_mutex.specs.Paces.{usual_pace};
 ghost use Rattle.lfm_mutex.specs.calls.RunGoesOn.{past_of};
 ghost use Rattle.lfm_mutex.specs.calls.Sight.{sight, new_sight};
-ghost use Rattle.lfm_table.specs.Rule.{first_view};
+ghost use Rattle.lfm_mutex.specs.Fresh.{IsFirstAt};
 
 use crate::mutex::Mutex;
 use crate::pace::Pace;
@@ -19,7 +19,7 @@ use lfm_protocol::{Limits, SeatState};
 use lfm_table::moving_box::MovingBox;
 use lfm_table::rule::Key;
 use lfm_table::shared_table::{AtomicSeat, SharedTable};
-use lfm_table::{Kept, TableSeat, Woken};
+use lfm_table::{Kept, OffTrail, TableSeat};
 use lfm_words::PopList;
 use std::alloc::Global;
 use std::snapshot::Snapshot;
@@ -71,7 +71,7 @@ impl<T: Kept> Mutex<T> {
                     limits,
                 },
                 state: SeatState::REST,
-                woken: Woken::new(),
+                off_trail: OffTrail::new(),
             });
         }
         let first = Seat {
@@ -82,7 +82,7 @@ impl<T: Kept> Mutex<T> {
                 limits,
             },
             state: SeatState::REST,
-            woken: Woken::new(),
+            off_trail: OffTrail::new(),
         };
         let Ok(()) = all.insert(0, first) else {
             unreachable!()
@@ -104,7 +104,7 @@ fn new_table<T: Kept>(
 ) -> Result<(SharedTable<T>, AtomicSeat<T>), NewFault>
     requires allowed { are_in_limits limits.seats limits.budget ≡ true }
     requires fits { T.fits value 0 }
-    ensures ok { IfOk result (λ r. (r.0.table_id.words ≡ 4 + 2 * limits.seats) × (r.0.table_id.slots ≡ 1) × (r.1.table_id ≡ r.0.table_id) × (r.1.id ≡ 0) × (r.1.me ≡ (first_view limits value, []))) }
+    ensures ok { IfOk result (λ r. IsFirstAt r.0 limits value r.1) }
     ensures err { IfErr result (λ e. e ≡ NewFault.Memory) }
 {
     let about = Key {

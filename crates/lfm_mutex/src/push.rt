@@ -3,7 +3,7 @@
 ghost use Rattle.std.specs.Prelude.{◌≡◌};
 ghost use Rattle.lfm_protocol.specs.declared.points.Point.TheVariants.{PushLoad};
 ghost use Rattle.lfm_table.specs.FastPath.{KeepsNumberAndLimits, SeatFits};
-ghost use Rattle.lfm_mutex.specs.calls.Pushes.{PlainCourse, push_end};
+ghost use Rattle.lfm_mutex.specs.calls.Pushes.{PushLeadsTo, push_end};
 
 use crate::stops::PushStop;
 use lfm_protocol::SeatState;
@@ -35,7 +35,7 @@ pub(crate) fn push<T: Kept>(
     ensures belongs { seat.new.place.table_id ≡ seat.old.place.table_id }
     ensures same { KeepsNumberAndLimits seat.old seat.new }
     ensures fit { SeatFits seat.new (push_end result state.now pusher).seat }
-    ensures made { PlainCourse T.follows T.fits seat.old.number seat.old.limits.seats state.now seat.old.moving seat.old.place.me.0 (push_end result state.now pusher).turn (push_end result state.now pusher).seat seat.new.moving seat.new.place.me.0 }
+    ensures made { PushLeadsTo T.follows T.fits seat.old state.now (push_end result state.now pusher) seat.new }
 {
     let mut at = SeatState {
         point: Point::PushLoad(pusher),

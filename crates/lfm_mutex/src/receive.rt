@@ -10,7 +10,8 @@ ghost use Rattle.lfm_mutex.specs.calls.RunGoesOn.{RunGoesOnFrom};
 ghost use Rattle.lfm_mutex.specs.calls.Sight.{sight, ReceivesLock, Receives};
 ghost use Rattle.lfm_mutex.specs.calls.FastPath.{ComesTo};
 ghost use Rattle.lfm_mutex.specs.calls.Trails.{ReceivesBy, MakesAtMost, MakesCall};
-ghost use Rattle.lfm_mutex.specs.calls.Woken.{WakesNobody, WokenAsGranted};
+ghost use Rattle.lfm_mutex.specs.calls.Woken.{LooksAndWakesAsGranted, WakesNobody, WokenAsGranted};
+ghost use Rattle.lfm_mutex.specs.calls.Acts.{ActsWakingNobody};
 
 use crate::calls::begin_and_finish;
 use crate::mutex::Mutex;
@@ -23,7 +24,7 @@ use lfm_table::layout::wake_at;
 use lfm_table::operations::{OwnerStore, WakeStore};
 use lfm_table::parking::park;
 use lfm_table::steps::{gain_by_grant, keep, keep_held};
-use lfm_table::{Kept, WakeUp};
+use lfm_table::{Kept, OffTrail, WakeUp};
 use lfm_words::Wake;
 use std::sync::Wait;
 
@@ -35,12 +36,12 @@ impl<T: Kept> Mutex<T> {
     pub fn receive_lock<R: Wait>(&self, rt: &R, seat: &mut Seat<T>) -> Result<How, Refusal>
         requires belongs { OfMutex seat.old self.now }
         ensures belongs { Beside seat.old seat.new }
-        ensures woken { WokenAsGranted seat.old seat.new }
+        ensures woken { LooksAndWakesAsGranted seat.old seat.new }
         ensures run { RunGoesOnFrom seat.old seat.new }
         ensures receives { ReceivesLock T.follows T.fits (sight seat.old) (sight seat.new) result }
         ensures steps { ReceivesBy (limits_of self.now) (sight seat.old) (sight seat.new) result }
     {
-        let count = self.table.look_at_count();
+        let count = self.table.look_at_count(&mut seat.off_trail);
         self.receive_lock_within(rt, seat, self.pace.looks_at(count))
     }
 
@@ -55,7 +56,7 @@ impl<T: Kept> Mutex<T> {
     ) -> Result<How, Refusal>
         requires belongs { OfMutex seat.old self.now }
         ensures belongs { Beside seat.old seat.new }
-        ensures woken { WokenAsGranted seat.old seat.new }
+        ensures woken { LooksAndWakesAsGranted seat.old seat.new }
         ensures run { RunGoesOnFrom seat.old seat.new }
         ensures receives { ReceivesLock T.follows T.fits (sight seat.old) (sight seat.new) result }
         ensures steps { ReceivesBy (limits_of self.now) (sight seat.old) (sight seat.new) result }
@@ -68,7 +69,7 @@ impl<T: Kept> Mutex<T> {
                 Err(refusal) => return Err(refusal),
                 Ok(None) => {}
             }
-            left = self.await_grant(rt, wake, left);
+            left = self.await_grant(rt, wake, left, &mut seat.off_trail);
         }
         unreachable!()
     }
@@ -76,12 +77,13 @@ impl<T: Kept> Mutex<T> {
     /// Waits for a grant in the wake word: polls at most `looks` times, and parks if no poll finds a grant. Returns how many
     /// polls are left. A poll is a load, but no step of the seat. The pauses between polls leave the cache line of the word to
     /// the seat that grants.
-    fn await_grant<R: Wait>(&self, rt: &R, wake: usize, looks: u32) -> u32
+    fn await_grant<R: Wait>(&self, rt: &R, wake: usize, looks: u32, off_trail: &mut OffTrail) -> u32
         requires { wake < self.now.table.table_id.words }
+        ensures { off_trail.new.woken ≡ off_trail.old.woken }
     {
         for made in 0..looks {
             pause();
-            if Wake::is_grant_word(self.table.look_at_wake(wake)) {
+            if Wake::is_grant_word(self.table.look_at_wake(wake, off_trail)) {
                 return looks - made - 1;
             }
         }
@@ -128,9 +130,7 @@ pub fn receive_asleep<T: Kept>(
     requires belongs { OfMutex seat.old mutex.now }
     requires sleeps { seat.old.state.point ≡ Asleep sleeper }
     requires flat { seat.old.state.depth ≡ 0 }
-    ensures belongs { Beside seat.old seat.new }
-    ensures woken { WakesNobody seat.old seat.new }
-    ensures run { RunGoesOnFrom seat.old seat.new }
+    ensures acts { ActsWakingNobody seat.old seat.new }
     ensures made { ComesTo T.follows T.fits (limits_of mutex.now) CallNow.Receive (sight seat.old) (sight seat.new) (Ended (Answered.Got result)) }
 {
     let table = &mutex.table;

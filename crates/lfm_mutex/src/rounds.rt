@@ -15,15 +15,16 @@ use std::thread::Threads;
 
 impl<T: Kept> Mutex<T> {
     /// Starts a thread for each seat. Each thread calls the closure with its round, from 0 to `rounds - 1`, and its seat, and
-    /// stops early at the first Err. `run` joins all threads, and returns all seats, in their order. It sleeps until all
-    /// threads have ended.
+    /// stops early at the first Err. `run` sleeps until all threads have ended. Then it returns Ok with all seats, in their
+    /// order.
     ///
     /// The results of the closure are not kept: `run` returns Ok with all seats even if a thread stopped early. A caller that
     /// needs to know this lets the closure count the rounds. It is a precondition that the closure leaves a seat of this mutex,
     /// with the same number, at the same depth as before, and asleep exactly if it slept before.
     ///
     /// No thread calls the closure before all threads have been started. If a request for memory is refused (Memory), or a
-    /// thread can't be started (Thread), the closure is never called, and all seats are returned.
+    /// thread can't be started (Thread), it returns NotStarted: the closure was never called, and all seats are returned as
+    /// they were. No clause says that NotStarted has such a cause, since none says when a thread can't be started.
     ///
     /// ```
     /// let seats = mutex.run(&rt, seats, 1_000, &|_: u64, seat: &mut Seat<u64>| -> Result<(), Refusal>

@@ -10,6 +10,7 @@ ghost use Rattle.lfm_mutex.specs.TableRuns.{
   TablesOvertakeOnce,
   TablesRunAsTheAbstractMutex,
   TablesServeInPushOrder,
+  TablesServeInRounds,
   TrailsTellTheAnswers,
   TrailsTellThePushes,
 };
@@ -67,6 +68,14 @@ pub fn tables_serve_in_push_order<T: Kept>()
 /// Definition: `TablesOvertakeOnce` in `specs/TableRuns.antt`. Proof: `proofs/TableRuns.antt`.
 pub fn tables_overtake_once<T: Kept>()
     ensures { TablesOvertakeOnce T.follows T.fits }
+{}
+
+/// From each moment of a table's run on, `queued_seats_are_served_in_rounds` and `queued_seats_are_served_in_fair_rounds` hold. So
+/// a queued thread with k before it waits for at most k + 1 releases, and for N + 8k + 7 rounds between holds.
+///
+/// Definition: `TablesServeInRounds` in `specs/TableRuns.antt`. Proof: `proofs/TableRuns.antt`.
+pub fn tables_serve_in_rounds<T: Kept>()
+    ensures { TablesServeInRounds T.follows T.fits }
 {}
 
 /// If k calls have ended since some moment of a table's run, at most (5N + 5)(N + k) steps of calls were made since then. The

@@ -11,7 +11,7 @@ ghost use Rattle.lfm_table.specs.Settled.{Became};
 use lfm_model::SeatNo;
 use lfm_protocol::SeatState;
 use lfm_protocol::points::Point;
-use lfm_table::{Kept, TableSeat, Woken};
+use lfm_table::{Kept, OffTrail, TableSeat};
 
 /// A thread's handle of the mutex. A seat may move between threads, and each call borrows it until the call returns. A seat
 /// *sleeps* from the call that queued it, or from its `start_wait`, until a receive finds its grant, whether or not a thread is
@@ -35,8 +35,8 @@ pub struct Seat<T: Drop> {
     pub(crate) table_seat: TableSeat<T>,
     /// The state of the seat. A fast path writes only the fields that a call changes.
     pub(crate) state: SeatState,
-    /// The seats that calls with this one have woken.
-    pub(crate) woken: Woken,
+    /// The seats that calls with this one have woken, and how often they looked.
+    pub(crate) off_trail: OffTrail,
     pub ghost seated: { Seated table_seat.number table_seat.limits state table_seat.place.me table_seat.moving },
     pub ghost became: { Became table_seat.place.me.0.state table_seat.limits state } by { Became-prop (Coded-set state-code) table_seat.place.me.0.state table_seat.limits state },
     pub ghost ready: { IsReady table_seat.limits.seats table_seat.number state } by { IsReady-prop table_seat.limits.seats table_seat.number state },

@@ -1,12 +1,13 @@
 //! Sections: a seat locks, a closure changes the value, and the seat gives up that hold.
-ghost use Rattle.std.specs.Prelude.{◌≡◌, ◌+◌, ◌<◌, Some};
+ghost use Rattle.std.specs.Prelude.{◌+◌, ◌<◌};
 ghost use Rattle.std.specs.Fn.{FnOnceReturnsAtMut};
-ghost use Rattle.lfm_mutex.specs.Belongs.{Beside, OfMutex, limits_of, tries_of};
+ghost use Rattle.lfm_mutex.specs.Belongs.{Beside, OfMutex, limits_of};
 ghost use Rattle.lfm_mutex.specs.calls.RunGoesOn.{RunGoesOnFrom};
-ghost use Rattle.lfm_mutex.specs.calls.Sections.{BargesSo, SectionEnds, SectionKeeps, StandsAs, TriesSo, with_value};
+ghost use Rattle.lfm_mutex.specs.calls.Sections.{SectionEnds, SectionKeeps, StandsAs, Changes, BargesFrom, TriesFrom};
 ghost use Rattle.lfm_mutex.specs.calls.Sight.{sight};
 ghost use Rattle.lfm_mutex.specs.calls.Trails.{MakesAtMost};
-ghost use Rattle.lfm_mutex.specs.calls.Woken.{WakesNobody, WokenAsGranted};
+ghost use Rattle.lfm_mutex.specs.calls.Woken.{LooksAndWakesAsGranted, WakesNobody, WokenAsGranted};
+ghost use Rattle.lfm_mutex.specs.calls.Acts.{ActsWakingNobody};
 
 use crate::mutex::Mutex;
 use crate::seat::Seat;
@@ -37,11 +38,11 @@ impl<T: Kept> Mutex<T> {
     ) -> Result<U, Refusal>
         requires belongs { OfMutex seat.old self.now }
         requires callable { F.IsAlwaysCallable f }
-        requires keeps { SectionKeeps T.follows T.fits (limits_of self.now) (BargesSo T.follows T.fits (limits_of self.now) (tries_of self.now) (sight seat.old)) (λ v u w. FnOnceReturnsAtMut F.FnOnce f v u w) }
+        requires keeps { SectionKeeps T.follows T.fits (limits_of self.now) (BargesFrom T.follows T.fits self.now seat.old) (λ v u w. FnOnceReturnsAtMut F.FnOnce f v u w) }
         ensures belongs { Beside seat.old seat.new }
-        ensures woken { WokenAsGranted seat.old seat.new }
+        ensures woken { LooksAndWakesAsGranted seat.old seat.new }
         ensures run { RunGoesOnFrom seat.old seat.new }
-        ensures section { SectionEnds T.follows T.fits (limits_of self.now) (BargesSo T.follows T.fits (limits_of self.now) (tries_of self.now) (sight seat.old)) (λ v u w. FnOnceReturnsAtMut F.FnOnce f v u w) (sight seat.new) result }
+        ensures section { SectionEnds T.follows T.fits (limits_of self.now) (BargesFrom T.follows T.fits self.now seat.old) (λ v u w. FnOnceReturnsAtMut F.FnOnce f v u w) (sight seat.new) result }
         ensures same { StandsAs (sight seat.old) (sight seat.new) }
     {
         let _locked = self.lock_barging(rt, seat)?;
@@ -71,11 +72,11 @@ impl<T: Kept> Mutex<T> {
     ) -> Result<U, Refusal>
         requires belongs { OfMutex seat.old self.now }
         requires callable { F.IsAlwaysCallable f }
-        requires keeps { SectionKeeps T.follows T.fits (limits_of self.now) (TriesSo T.follows T.fits (limits_of self.now) (sight seat.old)) (λ v u w. FnOnceReturnsAtMut F.FnOnce f v u w) }
+        requires keeps { SectionKeeps T.follows T.fits (limits_of self.now) (TriesFrom T.follows T.fits self.now seat.old) (λ v u w. FnOnceReturnsAtMut F.FnOnce f v u w) }
         ensures belongs { Beside seat.old seat.new }
         ensures woken { WokenAsGranted seat.old seat.new }
         ensures run { RunGoesOnFrom seat.old seat.new }
-        ensures section { SectionEnds T.follows T.fits (limits_of self.now) (TriesSo T.follows T.fits (limits_of self.now) (sight seat.old)) (λ v u w. FnOnceReturnsAtMut F.FnOnce f v u w) (sight seat.new) result }
+        ensures section { SectionEnds T.follows T.fits (limits_of self.now) (TriesFrom T.follows T.fits self.now seat.old) (λ v u w. FnOnceReturnsAtMut F.FnOnce f v u w) (sight seat.new) result }
         ensures same { StandsAs (sight seat.old) (sight seat.new) }
         ensures bounded { MakesAtMost ((limits_of self.now).seats + 13) (sight seat.old) (sight seat.new) }
     {
@@ -93,10 +94,8 @@ impl<T: Kept> Mutex<T> {
 fn change<T: Kept, U, F: FnOnce(&mut T) -> U>(seat: &mut Seat<T>, f: F) -> U
     requires holds { 0 < (sight seat.old).depth }
     requires callable { F.IsAlwaysCallable f }
-    ensures belongs { Beside seat.old seat.new }
-    ensures woken { WakesNobody seat.old seat.new }
-    ensures run { RunGoesOnFrom seat.old seat.new }
-    ensures changes { (v : T) × (w : T) × ((sight seat.old).value ≡ Some v) × FnOnceReturnsAtMut F.FnOnce f v result w × (sight seat.new ≡ with_value (sight seat.old) w) }
+    ensures acts { ActsWakingNobody seat.old seat.new }
+    ensures changes { Changes (λ v u w. FnOnceReturnsAtMut F.FnOnce f v u w) (sight seat.old) result (sight seat.new) }
 {
     let Some(value) = seat.value_mut() else {
         unreachable!()

@@ -1,21 +1,21 @@
 //! `send_lock`: locks on behalf of a seat that waits, the target. Fast path: the target is granted a free mutex, or is queued
 //! while no handoff is posted (`push`). Everything else is the slow path (`calls::finish`).
-ghost use Rattle.std.specs.Prelude.{◌≡◌, ◌+◌, ◌<◌, ◌≤◌, length};
+ghost use Rattle.std.specs.Prelude.{◌≡◌, ◌+◌, ◌<◌, ◌≤◌};
 ghost use Rattle.lfm_protocol.specs.declared.answers.Answer.TheVariants as Answered;
 ghost use Rattle.lfm_protocol.specs.declared.answers.Call.{Call as CallNow};
 ghost use Rattle.lfm_protocol.specs.declared.points.Point.TheVariants.{Rest, PushLoad, SendCountAdd};
 ghost use Rattle.lfm_protocol.specs.declared.points.Pusher.{Pusher as PusherNow};
-ghost use Rattle.lfm_table.specs.FastPath.{KeepsNumberAndLimits};
 ghost use Rattle.lfm_mutex.specs.Belongs.{Beside, OfMutex, limits_of};
-ghost use Rattle.lfm_mutex.specs.calls.Due.{due};
-ghost use Rattle.lfm_mutex.specs.calls.FailedPushes.{Spends, MakesBesideFailures};
+ghost use Rattle.lfm_mutex.specs.calls.FailedPushes.{MakesBesideFailures};
 ghost use Rattle.lfm_mutex.specs.calls.RunGoesOn.{RunGoesOnFrom};
 ghost use Rattle.lfm_mutex.specs.calls.Runs.{errand, sending, Ends};
-ghost use Rattle.lfm_mutex.specs.calls.FastPath.{Course, ComesTo, send_turn};
+ghost use Rattle.lfm_mutex.specs.calls.FastPath.{ComesTo, send_turn};
 ghost use Rattle.lfm_mutex.specs.calls.Trails.{MakesCall};
 ghost use Rattle.lfm_mutex.specs.calls.WakeUps.{Wakes};
 ghost use Rattle.lfm_mutex.specs.calls.Sight.{sight, Sends};
 ghost use Rattle.lfm_mutex.specs.calls.Woken.{WakesNobody, WokenAsGranted};
+ghost use Rattle.lfm_mutex.specs.calls.OpenCalls.{AtTableOf, WithinDue, FinishesAs};
+ghost use Rattle.lfm_mutex.specs.calls.Acts.{ActsWakingNobody};
 
 use crate::calls::{asleep, begin_and_finish, finish};
 use crate::mutex::Mutex;
@@ -49,7 +49,7 @@ impl<T: Kept> Mutex<T> {
         ensures bounded { MakesBesideFailures ((limits_of self.now).seats + 9) (sight seat.old) (sight seat.new) }
     {
         let (sent, wake_up) = self.send_lock_without_waking(seat, target);
-        self.wake_seat(wake_up, &mut seat.woken);
+        self.wake_seat(wake_up, &mut seat.off_trail);
         sent
     }
 
@@ -92,9 +92,7 @@ pub fn send_awake<T: Kept>(
     requires rests { seat.old.state.point ≡ Rest }
     requires above { 0 < target }
     requires within { target ≤ seat.old.table_seat.limits.seats }
-    ensures belongs { Beside seat.old seat.new }
-    ensures woken { WakesNobody seat.old seat.new }
-    ensures run { RunGoesOnFrom seat.old seat.new }
+    ensures acts { ActsWakingNobody seat.old seat.new }
     ensures made { ComesTo T.follows T.fits (limits_of mutex.now) (CallNow.SendLock target) (sight seat.old) (sight seat.new) (send_turn result.0) }
     ensures bounded { MakesBesideFailures ((limits_of mutex.now).seats + 9) (sight seat.old) (sight seat.new) }
     ensures wakes { Wakes (limits_of mutex.now).seats result.1 (sight seat.old).trail (sight seat.new).trail }
@@ -123,16 +121,12 @@ fn send_without_hold<T: Kept>(
     seat: &mut Seat<T>,
     target: u64,
 ) -> (Result<(), Refusal>, Option<WakeUp>)
-    requires belongs { seat.old.table_seat.place.table_id ≡ mutex.now.table.table_id }
+    requires belongs { AtTableOf seat.old mutex.now }
     requires stands { seat.old.state.point ≡ SendCountAdd target }
     requires flat { seat.old.state.depth ≡ 0 }
-    ensures belongs { seat.new.table_seat.place.table_id ≡ seat.old.table_seat.place.table_id }
-    ensures woken { WakesNobody seat.old seat.new }
-    ensures same { KeepsNumberAndLimits seat.old.table_seat seat.new.table_seat }
+    ensures finishes { FinishesAs T.follows T.fits seat.old (send_turn result.0) result.1 seat.new }
     ensures ends { Ends sending (send_turn result.0) }
-    ensures made { Course T.follows T.fits seat.old.table_seat.number seat.old.state seat.old.table_seat.moving seat.old.table_seat.place.me.0 (send_turn result.0) seat.new.state seat.new.table_seat.moving seat.new.table_seat.place.me.0 }
-    ensures spends { Spends (due seat.old.table_seat.limits.seats (length seat.old.table_seat.place.me.0.popped) seat.old.state.point) 0 seat.old.table_seat.place.me.0.trail seat.new.table_seat.place.me.0.trail }
-    ensures wakes { Wakes seat.old.table_seat.limits.seats result.1 seat.old.table_seat.place.me.0.trail seat.new.table_seat.place.me.0.trail }
+    ensures spends { WithinDue seat.old seat.new }
 {
     let table = &mutex.table;
     let mut state = SeatState {
@@ -159,16 +153,12 @@ fn send_with_hold<T: Kept>(
     seat: &mut Seat<T>,
     target: u64,
 ) -> (Result<(), Refusal>, Option<WakeUp>)
-    requires belongs { seat.old.table_seat.place.table_id ≡ mutex.now.table.table_id }
+    requires belongs { AtTableOf seat.old mutex.now }
     requires stands { seat.old.state.point ≡ SendCountAdd target }
     requires held { 0 < seat.old.state.depth }
-    ensures belongs { seat.new.table_seat.place.table_id ≡ seat.old.table_seat.place.table_id }
-    ensures woken { WakesNobody seat.old seat.new }
-    ensures same { KeepsNumberAndLimits seat.old.table_seat seat.new.table_seat }
+    ensures finishes { FinishesAs T.follows T.fits seat.old (send_turn result.0) result.1 seat.new }
     ensures ends { Ends sending (send_turn result.0) }
-    ensures made { Course T.follows T.fits seat.old.table_seat.number seat.old.state seat.old.table_seat.moving seat.old.table_seat.place.me.0 (send_turn result.0) seat.new.state seat.new.table_seat.moving seat.new.table_seat.place.me.0 }
-    ensures spends { Spends (due seat.old.table_seat.limits.seats (length seat.old.table_seat.place.me.0.popped) seat.old.state.point) 0 seat.old.table_seat.place.me.0.trail seat.new.table_seat.place.me.0.trail }
-    ensures wakes { Wakes seat.old.table_seat.limits.seats result.1 seat.old.table_seat.place.me.0.trail seat.new.table_seat.place.me.0.trail }
+    ensures spends { WithinDue seat.old seat.new }
 {
     let table = &mutex.table;
     let state = SeatState {
@@ -191,15 +181,11 @@ fn queue_target<T: Kept>(
     seat: &mut Seat<T>,
     target: u64,
 ) -> (Result<(), Refusal>, Option<WakeUp>)
-    requires belongs { seat.old.table_seat.place.table_id ≡ mutex.now.table.table_id }
+    requires belongs { AtTableOf seat.old mutex.now }
     requires stands { seat.old.state.point ≡ PushLoad (PusherNow.Sender target) }
-    ensures belongs { seat.new.table_seat.place.table_id ≡ seat.old.table_seat.place.table_id }
-    ensures woken { WakesNobody seat.old seat.new }
-    ensures same { KeepsNumberAndLimits seat.old.table_seat seat.new.table_seat }
+    ensures finishes { FinishesAs T.follows T.fits seat.old (send_turn result.0) result.1 seat.new }
     ensures ends { Ends sending (send_turn result.0) }
-    ensures made { Course T.follows T.fits seat.old.table_seat.number seat.old.state seat.old.table_seat.moving seat.old.table_seat.place.me.0 (send_turn result.0) seat.new.state seat.new.table_seat.moving seat.new.table_seat.place.me.0 }
-    ensures spends { Spends (due seat.old.table_seat.limits.seats (length seat.old.table_seat.place.me.0.popped) seat.old.state.point) 0 seat.old.table_seat.place.me.0.trail seat.new.table_seat.place.me.0.trail }
-    ensures wakes { Wakes seat.old.table_seat.limits.seats result.1 seat.old.table_seat.place.me.0.trail seat.new.table_seat.place.me.0.trail }
+    ensures spends { WithinDue seat.old seat.new }
 {
     let state = SeatState {
         point: Point::PushLoad(Pusher::Sender(target)),
@@ -228,15 +214,11 @@ fn finish_send<T: Kept>(
     mutex: &Mutex<T>,
     seat: &mut Seat<T>,
 ) -> (Result<(), Refusal>, Option<WakeUp>)
-    requires belongs { seat.old.table_seat.place.table_id ≡ mutex.now.table.table_id }
+    requires belongs { AtTableOf seat.old mutex.now }
     requires sends { errand seat.old.state.point ≡ sending }
-    ensures belongs { seat.new.table_seat.place.table_id ≡ seat.old.table_seat.place.table_id }
-    ensures woken { WakesNobody seat.old seat.new }
-    ensures same { KeepsNumberAndLimits seat.old.table_seat seat.new.table_seat }
+    ensures finishes { FinishesAs T.follows T.fits seat.old (send_turn result.0) result.1 seat.new }
     ensures ends { Ends sending (send_turn result.0) }
-    ensures made { Course T.follows T.fits seat.old.table_seat.number seat.old.state seat.old.table_seat.moving seat.old.table_seat.place.me.0 (send_turn result.0) seat.new.state seat.new.table_seat.moving seat.new.table_seat.place.me.0 }
-    ensures spends { Spends (due seat.old.table_seat.limits.seats (length seat.old.table_seat.place.me.0.popped) seat.old.state.point) 0 seat.old.table_seat.place.me.0.trail seat.new.table_seat.place.me.0.trail }
-    ensures wakes { Wakes seat.old.table_seat.limits.seats result.1 seat.old.table_seat.place.me.0.trail seat.new.table_seat.place.me.0.trail }
+    ensures spends { WithinDue seat.old seat.new }
 {
     let (turn, wake_up) = finish(mutex, seat);
     match turn {
@@ -254,9 +236,7 @@ fn send_slow<T: Kept>(
     target: SeatNo,
 ) -> (Result<(), Refusal>, Option<WakeUp>)
     requires belongs { OfMutex seat.old mutex.now }
-    ensures belongs { Beside seat.old seat.new }
-    ensures woken { WakesNobody seat.old seat.new }
-    ensures run { RunGoesOnFrom seat.old seat.new }
+    ensures acts { ActsWakingNobody seat.old seat.new }
     ensures sends { Sends (limits_of mutex.now).seats (sight seat.old) target (sight seat.new) result.0 }
     ensures steps { MakesCall (limits_of mutex.now) (λ x. Answered.Sent) (CallNow.SendLock target) (sight seat.old) (sight seat.new) result.0 }
     ensures bounded { MakesBesideFailures ((limits_of mutex.now).seats + 9) (sight seat.old) (sight seat.new) }

@@ -1,15 +1,13 @@
 //! How a release that found others in the count serves the oldest queued seat, in `unlock` and in `start_wait`. Fast path: the
 //! pop list has a record, or the push list has exactly one. Everything else is the slow path (`calls::finish`).
-ghost use Rattle.std.specs.Prelude.{◌≡◌, ◌+◌, ◌≤◌, length, false};
+ghost use Rattle.std.specs.Prelude.{◌≡◌, false};
 ghost use Rattle.lfm_protocol.specs.declared.points.Carrier.{Carrier as CarrierNow};
 ghost use Rattle.lfm_protocol.specs.declared.points.Point.TheVariants.{GrantWakeStore, TakeClearHead};
 ghost use Rattle.lfm_protocol.specs.After.{take};
-ghost use Rattle.lfm_table.specs.FastPath.{KeepsNumberAndLimits};
 ghost use Rattle.lfm_table.specs.Steps.{oldest_in};
-ghost use Rattle.lfm_mutex.specs.calls.Runs.{errand, is_release, releasing, weight};
-ghost use Rattle.lfm_mutex.specs.calls.FastPath.{Course, release_turn};
-ghost use Rattle.lfm_mutex.specs.calls.WakeUps.{Wakes};
-ghost use Rattle.lfm_mutex.specs.calls.Woken.{WakesNobody};
+ghost use Rattle.lfm_mutex.specs.calls.Runs.{errand, is_release, releasing};
+ghost use Rattle.lfm_mutex.specs.calls.FastPath.{release_turn};
+ghost use Rattle.lfm_mutex.specs.calls.OpenCalls.{AtTableOf, WithinWeight, FinishesAs};
 
 use crate::calls::finish;
 use crate::mutex::Mutex;
@@ -32,15 +30,11 @@ fn finish_release<T: Kept>(
     seat: &mut Seat<T>,
     releaser: Releaser,
 ) -> (Unlocked, Option<WakeUp>)
-    requires belongs { seat.old.table_seat.place.table_id ≡ mutex.now.table.table_id }
+    requires belongs { AtTableOf seat.old mutex.now }
     requires releases { errand seat.old.state.point ≡ releasing releaser }
     requires keeps { is_release seat.old.state.point ≡ false }
-    ensures belongs { seat.new.table_seat.place.table_id ≡ seat.old.table_seat.place.table_id }
-    ensures woken { WakesNobody seat.old seat.new }
-    ensures same { KeepsNumberAndLimits seat.old.table_seat seat.new.table_seat }
-    ensures made { Course T.follows T.fits seat.old.table_seat.number seat.old.state seat.old.table_seat.moving seat.old.table_seat.place.me.0 (release_turn releaser result.0) seat.new.state seat.new.table_seat.moving seat.new.table_seat.place.me.0 }
-    ensures bounded { length seat.new.table_seat.place.me.0.trail ≤ length seat.old.table_seat.place.me.0.trail + weight seat.old.table_seat.limits.seats (length seat.old.table_seat.place.me.0.popped) seat.old.state.point }
-    ensures wakes { Wakes seat.old.table_seat.limits.seats result.1 seat.old.table_seat.place.me.0.trail seat.new.table_seat.place.me.0.trail }
+    ensures finishes { FinishesAs T.follows T.fits seat.old (release_turn releaser result.0) result.1 seat.new }
+    ensures bounded { WithinWeight seat.old seat.new }
 {
     let _releaser = releaser;
     let (turn, wake_up) = finish(mutex, seat);
@@ -75,15 +69,11 @@ fn grant<T: Kept>(
     releaser: Releaser,
     oldest: Record,
 ) -> (Unlocked, Option<WakeUp>)
-    requires belongs { seat.old.table_seat.place.table_id ≡ mutex.now.table.table_id }
+    requires belongs { AtTableOf seat.old mutex.now }
     requires stands { seat.old.state.point ≡ GrantWakeStore (CarrierNow.Releaser releaser) oldest }
     requires flat { seat.old.state.depth ≡ 0 }
-    ensures belongs { seat.new.table_seat.place.table_id ≡ seat.old.table_seat.place.table_id }
-    ensures woken { WakesNobody seat.old seat.new }
-    ensures same { KeepsNumberAndLimits seat.old.table_seat seat.new.table_seat }
-    ensures made { Course T.follows T.fits seat.old.table_seat.number seat.old.state seat.old.table_seat.moving seat.old.table_seat.place.me.0 (release_turn releaser result.0) seat.new.state seat.new.table_seat.moving seat.new.table_seat.place.me.0 }
-    ensures bounded { length seat.new.table_seat.place.me.0.trail ≤ length seat.old.table_seat.place.me.0.trail + weight seat.old.table_seat.limits.seats (length seat.old.table_seat.place.me.0.popped) seat.old.state.point }
-    ensures wakes { Wakes seat.old.table_seat.limits.seats result.1 seat.old.table_seat.place.me.0.trail seat.new.table_seat.place.me.0.trail }
+    ensures finishes { FinishesAs T.follows T.fits seat.old (release_turn releaser result.0) result.1 seat.new }
+    ensures bounded { WithinWeight seat.old seat.new }
 {
     let table = &mutex.table;
     let Record { seat: next, stamp } = oldest;
@@ -116,15 +106,11 @@ fn serve_pushed<T: Kept>(
     seat: &mut Seat<T>,
     releaser: Releaser,
 ) -> (Unlocked, Option<WakeUp>)
-    requires belongs { seat.old.table_seat.place.table_id ≡ mutex.now.table.table_id }
+    requires belongs { AtTableOf seat.old mutex.now }
     requires stands { seat.old.state.point ≡ TakeClearHead (CarrierNow.Releaser releaser) }
     requires flat { seat.old.state.depth ≡ 0 }
-    ensures belongs { seat.new.table_seat.place.table_id ≡ seat.old.table_seat.place.table_id }
-    ensures woken { WakesNobody seat.old seat.new }
-    ensures same { KeepsNumberAndLimits seat.old.table_seat seat.new.table_seat }
-    ensures made { Course T.follows T.fits seat.old.table_seat.number seat.old.state seat.old.table_seat.moving seat.old.table_seat.place.me.0 (release_turn releaser result.0) seat.new.state seat.new.table_seat.moving seat.new.table_seat.place.me.0 }
-    ensures bounded { length seat.new.table_seat.place.me.0.trail ≤ length seat.old.table_seat.place.me.0.trail + weight seat.old.table_seat.limits.seats (length seat.old.table_seat.place.me.0.popped) seat.old.state.point }
-    ensures wakes { Wakes seat.old.table_seat.limits.seats result.1 seat.old.table_seat.place.me.0.trail seat.new.table_seat.place.me.0.trail }
+    ensures finishes { FinishesAs T.follows T.fits seat.old (release_turn releaser result.0) result.1 seat.new }
+    ensures bounded { WithinWeight seat.old seat.new }
 {
     let table = &mutex.table;
     let carrier = Carrier::Releaser(releaser);
@@ -159,15 +145,11 @@ pub(crate) fn serve<T: Kept>(
     seat: &mut Seat<T>,
     releaser: Releaser,
 ) -> (Unlocked, Option<WakeUp>)
-    requires belongs { seat.old.table_seat.place.table_id ≡ mutex.now.table.table_id }
+    requires belongs { AtTableOf seat.old mutex.now }
     requires stands { seat.old.state.point ≡ take (CarrierNow.Releaser releaser) 0 (oldest_in seat.old.table_seat.moving) }
     requires flat { seat.old.state.depth ≡ 0 }
-    ensures belongs { seat.new.table_seat.place.table_id ≡ seat.old.table_seat.place.table_id }
-    ensures woken { WakesNobody seat.old seat.new }
-    ensures same { KeepsNumberAndLimits seat.old.table_seat seat.new.table_seat }
-    ensures made { Course T.follows T.fits seat.old.table_seat.number seat.old.state seat.old.table_seat.moving seat.old.table_seat.place.me.0 (release_turn releaser result.0) seat.new.state seat.new.table_seat.moving seat.new.table_seat.place.me.0 }
-    ensures bounded { length seat.new.table_seat.place.me.0.trail ≤ length seat.old.table_seat.place.me.0.trail + weight seat.old.table_seat.limits.seats (length seat.old.table_seat.place.me.0.popped) seat.old.state.point }
-    ensures wakes { Wakes seat.old.table_seat.limits.seats result.1 seat.old.table_seat.place.me.0.trail seat.new.table_seat.place.me.0.trail }
+    ensures finishes { FinishesAs T.follows T.fits seat.old (release_turn releaser result.0) result.1 seat.new }
+    ensures bounded { WithinWeight seat.old seat.new }
 {
     match oldest_of(&seat.table_seat.moving) {
         Some(oldest) => grant(mutex, seat, releaser, oldest),

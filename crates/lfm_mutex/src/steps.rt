@@ -1,19 +1,16 @@
 //! Single turns of a seat: `start` begins a call, and `next` makes the one atomic step at the seat's point. Every call of a
 //! mutex is a run of these. A caller that knows the kind of the step may call the function of that kind.
 ghost use Rattle.std.specs.Prelude.{◌≡◌, true};
-ghost use Rattle.lfm_protocol.specs.declared.points.Point.TheVariants.{ReleaseOwnerStore};
-ghost use Rattle.lfm_protocol.specs.declared.points.Releaser.{Releaser};
 ghost use Rattle.lfm_protocol.specs.Begin.{begin};
 ghost use Rattle.lfm_protocol.specs.Points.{kind};
-ghost use Rattle.lfm_mutex.specs.Belongs.{Beside, OfMutex, limits_of, state_of};
-ghost use Rattle.lfm_mutex.specs.calls.RunGoesOn.{RunGoesOnFrom};
+ghost use Rattle.lfm_mutex.specs.Belongs.{OfMutex, limits_of, state_of};
 ghost use Rattle.lfm_mutex.specs.calls.Runs.{is_release};
-ghost use Rattle.lfm_mutex.specs.calls.SeatSteps.{Begins, StepsOn};
+ghost use Rattle.lfm_mutex.specs.calls.SeatSteps.{Begins, MakesTurn};
 ghost use Rattle.lfm_mutex.specs.calls.Sight.{sight, MayLeave};
-ghost use Rattle.lfm_table.specs.FastPath.{KeepsNumberAndLimits};
 ghost use Rattle.lfm_table.specs.Grants.{granted_at};
-ghost use Rattle.lfm_table.specs.Steps.{MayBeLeft, StepLeadsTo};
-ghost use Rattle.lfm_mutex.specs.calls.Woken.{WakesNobody, WokenAsGranted};
+ghost use Rattle.lfm_mutex.specs.calls.Woken.{WakesNobody};
+ghost use Rattle.lfm_mutex.specs.calls.OpenCalls.{AtTableOf, KeepsSeat, MayMakeNext, MakesNext, KeepsTableSeat};
+ghost use Rattle.lfm_mutex.specs.calls.Acts.{ActsWakingGranted};
 
 use crate::mutex::Mutex;
 use crate::seat::Seat;
@@ -36,9 +33,7 @@ pub use crate::steps::kinds::{
 /// InCall if a call of the seat is already open. It accesses no word and never waits.
 pub fn start<T: Kept>(mutex: &Mutex<T>, seat: &mut Seat<T>, call: Call) -> Turn
     requires belongs { OfMutex seat.old mutex.now }
-    ensures belongs { Beside seat.old seat.new }
-    ensures woken { WokenAsGranted seat.old seat.new }
-    ensures run { RunGoesOnFrom seat.old seat.new }
+    ensures acts { ActsWakingGranted seat.old seat.new }
     ensures begins { Begins (limits_of mutex.now) call (state_of seat.old) (sight seat.old) result (state_of seat.new) (sight seat.new) }
 {
     begin_call(mutex, seat, call)
@@ -52,10 +47,7 @@ pub fn start<T: Kept>(mutex: &Mutex<T>, seat: &mut Seat<T>, call: Call) -> Turn
 pub fn next<T: Kept>(mutex: &Mutex<T>, seat: &mut Seat<T>) -> Turn
     requires belongs { OfMutex seat.old mutex.now }
     requires leaves { is_release (state_of seat.old).point ≡ true → MayLeave T.follows T.fits (sight seat.old) }
-    ensures belongs { Beside seat.old seat.new }
-    ensures woken { WokenAsGranted seat.old seat.new }
-    ensures run { RunGoesOnFrom seat.old seat.new }
-    ensures steps { StepsOn T.follows T.fits (kind (state_of seat.old).point) (state_of seat.old) (sight seat.old) result (state_of seat.new) (sight seat.new) }
+    ensures { MakesTurn T.follows T.fits (kind (state_of seat.old).point) seat.old result seat.new }
 {
     match seat.state.point.kind() {
         None => Turn::Refused(Why::Idle),
@@ -80,8 +72,8 @@ pub fn next<T: Kept>(mutex: &Mutex<T>, seat: &mut Seat<T>) -> Turn
 
 /// `start`, with the contract on which the proofs of the calls build.
 pub(crate) fn begin_call<T: Kept>(mutex: &Mutex<T>, seat: &mut Seat<T>, call: Call) -> Turn
-    requires belongs { seat.old.table_seat.place.table_id ≡ mutex.now.table.table_id }
-    ensures same { (seat.new.table_seat.place ≡ seat.old.table_seat.place) × (seat.new.table_seat.number ≡ seat.old.table_seat.number) × (seat.new.table_seat.limits ≡ seat.old.table_seat.limits) × (seat.new.table_seat.moving ≡ seat.old.table_seat.moving) }
+    requires belongs { AtTableOf seat.old mutex.now }
+    ensures same { KeepsTableSeat seat.old.table_seat seat.new.table_seat }
     ensures woken { WakesNobody seat.old seat.new }
     ensures seat { seat.new.state ≡ (begin seat.old.state seat.old.table_seat.limits call).seat }
     ensures turn { result ≡ (begin seat.old.state seat.old.table_seat.limits call).turn }
@@ -94,12 +86,10 @@ pub(crate) fn begin_call<T: Kept>(mutex: &Mutex<T>, seat: &mut Seat<T>, call: Ca
 /// `next`, with the contract on which the proofs of the calls build. It wakes no thread. It returns the wake-up of the seat to
 /// which it granted the mutex, if any.
 pub(crate) fn make_next<T: Kept>(mutex: &Mutex<T>, seat: &mut Seat<T>) -> (Turn, Option<WakeUp>)
-    requires belongs { seat.old.table_seat.place.table_id ≡ mutex.now.table.table_id }
-    requires leaves { (r : Releaser) → seat.old.state.point ≡ ReleaseOwnerStore r → MayBeLeft T.follows T.fits seat.old.table_seat.moving seat.old.table_seat.place.me.0 }
-    ensures belongs { seat.new.table_seat.place.table_id ≡ seat.old.table_seat.place.table_id }
-    ensures woken { WakesNobody seat.old seat.new }
-    ensures same { KeepsNumberAndLimits seat.old.table_seat seat.new.table_seat }
-    ensures event { StepLeadsTo (kind seat.old.state.point) T.follows T.fits seat.old.state seat.old.table_seat.moving seat.old.table_seat.place.me result.0 seat.new.state seat.new.table_seat.moving seat.new.table_seat.place.me }
+    requires belongs { AtTableOf seat.old mutex.now }
+    requires leaves { MayMakeNext T.follows T.fits seat.old }
+    ensures kept { KeepsSeat seat.old seat.new }
+    ensures event { MakesNext T.follows T.fits seat.old result.0 seat.new }
     ensures wakes { result.1 ≡ granted_at seat.old.state.point }
 {
     match seat.state.point.kind() {

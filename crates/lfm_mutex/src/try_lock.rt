@@ -4,15 +4,16 @@ ghost use Rattle.std.specs.Prelude.{◌≡◌, ◌<◌};
 ghost use Rattle.lfm_protocol.specs.declared.answers.Call.{Call as CallNow};
 ghost use Rattle.lfm_protocol.specs.declared.points.Point.TheVariants.{Rest};
 ghost use Rattle.lfm_protocol.specs.Limits.{max_depth};
-ghost use Rattle.lfm_table.specs.FastPath.{KeepsNumberAndLimits};
 ghost use Rattle.lfm_mutex.specs.Belongs.{Beside, OfMutex, limits_of};
 ghost use Rattle.lfm_mutex.specs.calls.RunGoesOn.{RunGoesOnFrom};
 ghost use Rattle.lfm_mutex.specs.calls.Runs.{errand, trying, Ends};
 ghost use Rattle.lfm_mutex.specs.calls.Sight.{sight, Locks};
-ghost use Rattle.lfm_mutex.specs.calls.FastPath.{Course, ComesTo, try_turn};
+ghost use Rattle.lfm_mutex.specs.calls.FastPath.{ComesTo, try_turn};
 ghost use Rattle.lfm_protocol.specs.declared.answers.Answer.TheVariants as Answered;
 ghost use Rattle.lfm_mutex.specs.calls.Trails.{MakesAtMost, MakesCall};
-ghost use Rattle.lfm_mutex.specs.calls.Woken.{WakesNobody, WokenAsGranted};
+ghost use Rattle.lfm_mutex.specs.calls.Woken.{WokenAsGranted};
+ghost use Rattle.lfm_mutex.specs.calls.OpenCalls.{AtTableOf, StepsLeadTo, KeepsSeat};
+ghost use Rattle.lfm_mutex.specs.calls.Acts.{ActsWakingNobody};
 
 use crate::calls::{asleep, begin_and_finish, finish};
 use crate::mutex::Mutex;
@@ -68,9 +69,7 @@ pub fn try_without_hold<T: Kept>(mutex: &Mutex<T>, seat: &mut Seat<T>) -> Result
     requires rests { seat.old.state.point ≡ Rest }
     requires flat { seat.old.state.depth ≡ 0 }
     requires charged { seat.old.state.takes < seat.old.table_seat.limits.budget }
-    ensures belongs { Beside seat.old seat.new }
-    ensures woken { WakesNobody seat.old seat.new }
-    ensures run { RunGoesOnFrom seat.old seat.new }
+    ensures acts { ActsWakingNobody seat.old seat.new }
     ensures made { ComesTo T.follows T.fits (limits_of mutex.now) CallNow.TryLock (sight seat.old) (sight seat.new) (try_turn result) }
 {
     let _budget = seat.table_seat.limits.budget;
@@ -110,9 +109,7 @@ pub fn try_with_hold<T: Kept>(mutex: &Mutex<T>, seat: &mut Seat<T>) -> Result<Lo
     requires rests { seat.old.state.point ≡ Rest }
     requires held { 0 < seat.old.state.depth }
     requires room { seat.old.state.depth < max_depth }
-    ensures belongs { Beside seat.old seat.new }
-    ensures woken { WakesNobody seat.old seat.new }
-    ensures run { RunGoesOnFrom seat.old seat.new }
+    ensures acts { ActsWakingNobody seat.old seat.new }
     ensures made { ComesTo T.follows T.fits (limits_of mutex.now) CallNow.TryLock (sight seat.old) (sight seat.new) (try_turn result) }
 {
     let table = &mutex.table;
@@ -140,13 +137,11 @@ pub fn try_with_hold<T: Kept>(mutex: &Mutex<T>, seat: &mut Seat<T>) -> Result<Lo
 /// The slow path of an open `try_lock`, from the seat's point to the end of the call.
 #[inline(always)]
 fn finish_try<T: Kept>(mutex: &Mutex<T>, seat: &mut Seat<T>) -> Result<Locked, Refusal>
-    requires belongs { seat.old.table_seat.place.table_id ≡ mutex.now.table.table_id }
+    requires belongs { AtTableOf seat.old mutex.now }
     requires tries { errand seat.old.state.point ≡ trying }
-    ensures belongs { seat.new.table_seat.place.table_id ≡ seat.old.table_seat.place.table_id }
-    ensures woken { WakesNobody seat.old seat.new }
-    ensures same { KeepsNumberAndLimits seat.old.table_seat seat.new.table_seat }
+    ensures kept { KeepsSeat seat.old seat.new }
     ensures ends { Ends trying (try_turn result) }
-    ensures made { Course T.follows T.fits seat.old.table_seat.number seat.old.state seat.old.table_seat.moving seat.old.table_seat.place.me.0 (try_turn result) seat.new.state seat.new.table_seat.moving seat.new.table_seat.place.me.0 }
+    ensures made { StepsLeadTo T.follows T.fits seat.old (try_turn result) seat.new }
 {
     let (turn, wake_up) = finish(mutex, seat);
     WakeUp::expect_none(wake_up);
@@ -161,9 +156,7 @@ fn finish_try<T: Kept>(mutex: &Mutex<T>, seat: &mut Seat<T>) -> Result<Locked, R
 #[inline(always)]
 fn try_slow<T: Kept>(mutex: &Mutex<T>, seat: &mut Seat<T>) -> Result<Locked, Refusal>
     requires belongs { OfMutex seat.old mutex.now }
-    ensures belongs { Beside seat.old seat.new }
-    ensures woken { WakesNobody seat.old seat.new }
-    ensures run { RunGoesOnFrom seat.old seat.new }
+    ensures acts { ActsWakingNobody seat.old seat.new }
     ensures locks { Locks T.follows T.fits (limits_of mutex.now).budget (sight seat.old) (sight seat.new) result }
     ensures steps { MakesCall (limits_of mutex.now) (λ x. Answered.Locked x) CallNow.TryLock (sight seat.old) (sight seat.new) result }
 {

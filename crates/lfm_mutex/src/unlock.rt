@@ -12,6 +12,7 @@ ghost use Rattle.lfm_mutex.specs.calls.FastPath.{ComesTo};
 ghost use Rattle.lfm_mutex.specs.calls.Trails.{MakesAtMost, MakesCall};
 ghost use Rattle.lfm_mutex.specs.calls.WakeUps.{Wakes};
 ghost use Rattle.lfm_mutex.specs.calls.Woken.{WakesNobody, WokenAsGranted};
+ghost use Rattle.lfm_mutex.specs.calls.Acts.{ActsWakingNobody};
 
 use crate::calls::{asleep, begin_and_release};
 use crate::mutex::Mutex;
@@ -44,7 +45,7 @@ impl<T: Kept> Mutex<T> {
         ensures bounded { MakesAtMost ((limits_of self.now).seats + 7) (sight seat.old) (sight seat.new) }
     {
         let (unlocked, wake_up) = self.unlock_without_waking(seat);
-        self.wake_seat(wake_up, &mut seat.woken);
+        self.wake_seat(wake_up, &mut seat.off_trail);
         unlocked
     }
 
@@ -86,9 +87,7 @@ pub fn unlock_last_hold<T: Kept>(mutex: &Mutex<T>, seat: &mut Seat<T>) -> (Unloc
     requires rests { seat.old.state.point ≡ Rest }
     requires one { seat.old.state.depth ≡ 1 }
     requires leaves { MayLeave T.follows T.fits (sight seat.old) }
-    ensures belongs { Beside seat.old seat.new }
-    ensures woken { WakesNobody seat.old seat.new }
-    ensures run { RunGoesOnFrom seat.old seat.new }
+    ensures acts { ActsWakingNobody seat.old seat.new }
     ensures made { ComesTo T.follows T.fits (limits_of mutex.now) CallNow.Unlock (sight seat.old) (sight seat.new) (Ended (Answered.Unlocked result.0)) }
     ensures bounded { MakesAtMost ((limits_of mutex.now).seats + 7) (sight seat.old) (sight seat.new) }
     ensures wakes { Wakes (limits_of mutex.now).seats result.1 (sight seat.old).trail (sight seat.new).trail }
@@ -118,9 +117,7 @@ pub fn unlock_inner_hold<T: Kept>(mutex: &Mutex<T>, seat: &mut Seat<T>) -> Unloc
     requires belongs { OfMutex seat.old mutex.now }
     requires rests { seat.old.state.point ≡ Rest }
     requires deep { 1 < seat.old.state.depth }
-    ensures belongs { Beside seat.old seat.new }
-    ensures woken { WakesNobody seat.old seat.new }
-    ensures run { RunGoesOnFrom seat.old seat.new }
+    ensures acts { ActsWakingNobody seat.old seat.new }
     ensures made { ComesTo T.follows T.fits (limits_of mutex.now) CallNow.Unlock (sight seat.old) (sight seat.new) (Ended (Answered.Unlocked result)) }
     ensures bounded { MakesAtMost ((limits_of mutex.now).seats + 7) (sight seat.old) (sight seat.new) }
 {
@@ -137,9 +134,7 @@ fn unlock_slow<T: Kept>(
 ) -> (Result<Unlocked, Refusal>, Option<WakeUp>)
     requires belongs { OfMutex seat.old mutex.now }
     requires leaves { MayRelease T.follows T.fits (sight seat.old) }
-    ensures belongs { Beside seat.old seat.new }
-    ensures woken { WakesNobody seat.old seat.new }
-    ensures run { RunGoesOnFrom seat.old seat.new }
+    ensures acts { ActsWakingNobody seat.old seat.new }
     ensures unlocks { Unlocks (sight seat.old) (sight seat.new) result.0 }
     ensures steps { MakesCall (limits_of mutex.now) (λ x. Answered.Unlocked x) CallNow.Unlock (sight seat.old) (sight seat.new) result.0 }
     ensures bounded { MakesAtMost ((limits_of mutex.now).seats + 7) (sight seat.old) (sight seat.new) }

@@ -1,2 +1,3 @@
 pub use Rattle.atomic_table.proofs.Lists
+pub mod SleepingThreads
 pub mod tables

@@ -5,6 +5,7 @@ pub mod Accesses
 pub mod Actions
 pub mod FastPath
 pub mod Grants
+pub mod Parking
 pub mod Props
 pub mod Reach
 pub mod Rule

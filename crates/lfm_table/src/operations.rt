@@ -1,6 +1,6 @@
 //! The sixteen atomic operations on packed words, one for each kind of step. `access` states what an operation does to which
-//! word. `operate` performs it, under one contract for all kinds, and returns the number that it found or stored. No function
-//! here changes the seat's state.
+//! word. `operate` of `shared_table` performs it, under one contract for all kinds, and returns the number that it found or
+//! stored. No function here changes the seat's state.
 //!
 //! The contracts refer to every argument, but an operation reads only what it needs. The operations are inlined, so the
 //! compiler drops the rest of the state that a caller builds for one step.
@@ -18,8 +18,9 @@ ghost use Rattle.lfm_table.specs.FastPath.{KeepsNumberAndLimits};
 
 use crate::kept::Kept;
 use crate::layout::{COUNT, HANDOFF, OWNER, PUSH, link_at, wake_at};
-use crate::rule::{Plain, Stepped};
+use crate::rule::Plain;
 use crate::shared_table::SharedTable;
+use crate::shared_table::operate::operate;
 use crate::table_seat::TableSeat;
 use crate::wake_up::WakeUp;
 use lfm_protocol::SeatState;
@@ -269,45 +270,6 @@ impl Operation for WakeExchange {
         let target = state.point.target(number);
         let word = wake_at(seats, target);
         Access::CompareExchange(word, Wake::Waiting.to_word(), Wake::Claimed.to_word())
-    }
-}
-
-/// Performs this operation at the seat's point, and returns the number that it found or stored.
-#[inline(always)]
-pub(crate) fn operate<O: Operation, T: Kept, B: Plain<T>>(
-    table: &SharedTable<T>,
-    seat: &mut TableSeat<T>,
-    state: &SeatState,
-) -> u64
-    requires plain { (B.state ≡ state.now) × (B.hand ≡ value_in seat.old.moving) }
-    requires table { seat.old.place.table_id ≡ table.now.table_id }
-    requires can { CanMake T.follows T.fits state.now (value_in seat.old.moving) seat.old.number seat.old.limits.seats table.now.table_id.words seat.old.place.me }
-    requires is_next { kind_of state.now.point ≡ Some O.kind }
-    ensures table { (seat.new.place.table_id ≡ seat.old.place.table_id) × (seat.new.place.id ≡ seat.old.place.id) }
-    ensures same { KeepsNumberAndLimits seat.old seat.new }
-    ensures moving { seat.new.moving ≡ seat.old.moving }
-    ensures step { Advanced T.follows T.fits state.now (value_in seat.old.moving) seat.old.place.me result seat.new.place.me }
-{
-    match O::access(state, seat.number, seat.limits.seats) {
-        Access::Load(word) => table.load::<Stepped<B>>(&mut seat.place, word),
-        Access::Store(word, new) => {
-            table.store::<Stepped<B>>(&mut seat.place, word, new);
-            new
-        }
-        Access::FetchAdd(word, number) => table.fetch_add::<Stepped<B>>(
-            &mut seat.place,
-            word,
-            number,
-        ),
-        Access::FetchSub(word, number) => table.fetch_sub::<Stepped<B>>(
-            &mut seat.place,
-            word,
-            number,
-        ),
-        Access::FetchAnd(word, mask) => table.fetch_and::<Stepped<B>>(&mut seat.place, word, mask),
-        Access::CompareExchange(word, old, new) => {
-            table.compare_exchange::<Stepped<B>>(&mut seat.place, word, old, new)
-        }
     }
 }
 

@@ -1,16 +1,22 @@
-//! The words of a mutex as a table, and a seat at it. Their fields are private, so only functions of this crate perform
-//! operations on a word. The functions in this file are for this crate's own steps. A crate above makes its steps by
-//! `operations` and `steps`, moves the value by `slot`, and uses the functions of the files `opening`, `looks` and `closing`.
-ghost use Rattle.std.specs.Prelude.{◌≡◌, ◌+◌, ◌-◌, ◌%◌, ◌^◌, ◌<◌, ◌∷◌, ◌==◌, Option, bit_and};
+//! The words of a mutex as a table, a seat at it, and the operations on a word. The fields and the operations are private, so
+//! only this module and its children can make an operation, and a reader finds each of them here:
+//! - `operate` makes the step of a call, and its contract adds the step to the seat's trail;
+//! - `looks` loads a word outside the steps, and adds a load for `owner` to the trail;
+//! - `parking` lets a thread sleep on a wake word, and wakes it;
+//! - `opening` and `closing` split seats off and join them, which loads a word;
+//! - `slot_exchange` touches no word.
+ghost use Rattle.std.specs.Prelude.{◌≡◌, ◌+◌, ◌-◌, ◌%◌, ◌^◌, ◌<◌, ◌==◌, bit_and};
 ghost use mathlib.Core.Option.{none};
 ghost use prog.Atomic.{either};
-ghost use Rattle.atomic_table.specs.Table.{step, Allows, rest};
-ghost use Rattle.lfm_table.specs.declared.rule.Moving.{Moving};
+ghost use Rattle.atomic_table.specs.Table.{step, Allows};
 ghost use Rattle.lfm_table.specs.Rule.{Held};
 
 pub mod closing;
 pub mod looks;
 pub mod opening;
+pub(crate) mod operate;
+pub mod parking;
+mod slot_exchange;
 
 use crate::kept::Kept;
 use crate::moving_box::MovingBox;
@@ -55,7 +61,7 @@ impl<T: Kept> Model for SharedTable<T> {
 impl<T: Kept> SharedTable<T> {
     /// Loads the word.
     #[inline(always)]
-    pub(crate) fn load<M: Play<Option<MovingBox<T>>, View<T>>>(
+    fn load<M: Play<Option<MovingBox<T>>, View<T>>>(
         &self,
         place: &mut AtomicSeat<T>,
         word: usize,
@@ -71,7 +77,7 @@ impl<T: Kept> SharedTable<T> {
 
     /// Stores this number.
     #[inline(always)]
-    pub(crate) fn store<M: Play<Option<MovingBox<T>>, View<T>>>(
+    fn store<M: Play<Option<MovingBox<T>>, View<T>>>(
         &self,
         place: &mut AtomicSeat<T>,
         word: usize,
@@ -88,7 +94,7 @@ impl<T: Kept> SharedTable<T> {
 
     /// Adds this number, and returns the word as it was before. The sum wraps.
     #[inline(always)]
-    pub(crate) fn fetch_add<M: Play<Option<MovingBox<T>>, View<T>>>(
+    fn fetch_add<M: Play<Option<MovingBox<T>>, View<T>>>(
         &self,
         place: &mut AtomicSeat<T>,
         word: usize,
@@ -105,7 +111,7 @@ impl<T: Kept> SharedTable<T> {
 
     /// Subtracts this number, and returns the word as it was before. The difference wraps.
     #[inline(always)]
-    pub(crate) fn fetch_sub<M: Play<Option<MovingBox<T>>, View<T>>>(
+    fn fetch_sub<M: Play<Option<MovingBox<T>>, View<T>>>(
         &self,
         place: &mut AtomicSeat<T>,
         word: usize,
@@ -122,7 +128,7 @@ impl<T: Kept> SharedTable<T> {
 
     /// Clears each bit that is 0 in this number, and returns the word as it was before.
     #[inline(always)]
-    pub(crate) fn fetch_and<M: Play<Option<MovingBox<T>>, View<T>>>(
+    fn fetch_and<M: Play<Option<MovingBox<T>>, View<T>>>(
         &self,
         place: &mut AtomicSeat<T>,
         word: usize,
@@ -139,7 +145,7 @@ impl<T: Kept> SharedTable<T> {
 
     /// Stores `new` if the word is `old`. Returns the word as it was before.
     #[inline(always)]
-    pub(crate) fn compare_exchange<M: Play<Option<MovingBox<T>>, View<T>>>(
+    fn compare_exchange<M: Play<Option<MovingBox<T>>, View<T>>>(
         &self,
         place: &mut AtomicSeat<T>,
         word: usize,
@@ -158,49 +164,32 @@ impl<T: Kept> SharedTable<T> {
     }
 }
 
-/// What is not a step on a word: access to the slot that a seat has, loads from which no proof learns anything, sleep and
-/// wake-up.
+/// What is not a step on a word: loads from which no proof learns anything, sleep and wake-up.
 impl<T: Kept> SharedTable<T> {
-    /// A plain read and write of the slot that the seat took most recently.
-    #[inline(always)]
-    pub(crate) fn exchange(
-        &self,
-        place: &mut AtomicSeat<T>,
-        slot: usize,
-        new: Option<MovingBox<T>>,
-    ) -> Option<MovingBox<T>>
-        requires table { place.old.table_id ≡ self.now.table_id }
-        requires slot { (old : Option (Moving T)) × (place.old.me.1 ≡ (slot, old) ∷ rest place.old.me.1) }
-        ensures table { (place.new.table_id ≡ place.old.table_id) × (place.new.id ≡ place.old.id) }
-        ensures slot { (place.old.me.1 ≡ (slot, result) ∷ rest place.old.me.1) × (place.new.me ≡ (place.old.me.0, (slot, new) ∷ rest place.old.me.1)) }
-    {
-        self.table.shared.exchange(&mut place.seat, slot, new)
-    }
-
     /// A load from which no proof learns anything.
     #[inline(always)]
-    pub(crate) fn peek(&self, word: usize) -> u64
+    fn peek(&self, word: usize) -> u64
         requires { word < self.now.table_id.words }
     {
         self.table.shared.peek(word)
     }
 
     /// Sleeps until a wake-up if the low 32 bits of the word are `expected`. It may also return without a wake-up.
-    pub(crate) fn park<R: Wait>(&self, rt: &R, word: usize, expected: u32)
+    fn park<R: Wait>(&self, rt: &R, word: usize, expected: u32)
         requires { word < self.now.table_id.words }
     {
         self.table.shared.park(rt, word, expected);
     }
 
     /// Like `park`, for at most this time.
-    pub(crate) fn park_timeout<R: Wait>(&self, rt: &R, word: usize, expected: u32, time: Duration)
+    fn park_timeout<R: Wait>(&self, rt: &R, word: usize, expected: u32, time: Duration)
         requires { word < self.now.table_id.words }
     {
         self.table.shared.park_timeout(rt, word, expected, time);
     }
 
     /// Wakes one thread that is parked on the word, if there is one.
-    pub(crate) fn wake_one(&self, word: usize)
+    fn wake_one(&self, word: usize)
         requires { word < self.now.table_id.words }
     {
         self.table.shared.wake_one(word);

@@ -17,10 +17,9 @@ ghost use Rattle.lfm_table.specs.Steps.{gives_at, MayBeLeft};
 ghost use Rattle.lfm_table.specs.FastPath.{KeepsNumberAndLimits, SeatFits, StepMade};
 
 use crate::kept::Kept;
-use crate::operations::{
-    CountSubtract, LinkLoad, Operation, OwnerLoad, WakeLoad, WakeStore, operate,
-};
+use crate::operations::{CountSubtract, LinkLoad, Operation, OwnerLoad, WakeLoad, WakeStore};
 use crate::shared_table::SharedTable;
+use crate::shared_table::operate::operate;
 use crate::slot::{put_out, take_out};
 use crate::table_seat::TableSeat;
 use crate::transition::{add_loaded, drop_oldest};

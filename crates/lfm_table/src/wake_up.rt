@@ -1,5 +1,5 @@
-//! The wake-up that is owed after a grant is stored. It can't be lost: it is used up by `wake`, passed on, or turned into the
-//! number of its seat.
+//! The wake-up that is owed after a grant is stored. No path of the code can drop it: it is used up by `wake`, passed on, or
+//! turned into the number of its seat. Nothing checks that a caller passes it to the `wake` of the mutex that returned it.
 ghost use Rattle.std.specs.Prelude.{◌≡◌, None};
 ghost use Rattle.lfm_model.specs.SeatNumbers.{IsSeatNo};
 ghost use Rattle.lfm_protocol.specs.Points.{target};

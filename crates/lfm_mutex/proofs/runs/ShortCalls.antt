@@ -93,7 +93,7 @@ pub idle_step : (x : SeatState) (s n : ℕ) (o : Option Record) → kind x.point
 idle_step x s n o none = ap (λ (k : Option Kind). stepped_of x s n o k) none
 
 -- a seat without a next step stays idle
-idle_run : (s : ℕ) (x : SeatState) (finds : List (ℕ × Option Record)) → kind x.point ≡ None → (end_of s (record { seat = x; turn = Refused Idle }) finds).turn ≡ Refused Idle
+pub idle_run : (s : ℕ) (x : SeatState) (finds : List (ℕ × Option Record)) → kind x.point ≡ None → (end_of s (record { seat = x; turn = Refused Idle }) finds).turn ≡ Refused Idle
 idle_run s x [] none = refl
 idle_run s x (f ∷ finds) none = ap (λ (z : Stepped). (end_of s z finds).turn) (idle_step x s f.0 f.1 none) ∙ idle_run s x finds none
 

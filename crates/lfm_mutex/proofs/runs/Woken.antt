@@ -16,6 +16,7 @@ use Rattle.lfm_protocol.specs.declared.points.Point.TheVariants.{GrantWakeStore,
 use Rattle.lfm_protocol.specs.declared.seats.SeatState.{SeatState}
 use Rattle.lfm_protocol.specs.Begin as Begin
 use Rattle.lfm_laws.specs.table.Words.{stepped_by}
+use Rattle.lfm_table.specs.declared.off_trail.OffTrail.{OffTrail}
 use Rattle.lfm_table.specs.declared.seat_view.Seen.{Seen}
 use Rattle.lfm_table.specs.Grants.{granted_at}
 use Rattle.lfm_mutex.specs.declared.seat.Seat.{Seat}
@@ -24,17 +25,48 @@ use Rattle.lfm_mutex.specs.calls.Runs.{trail_of}
 use Rattle.lfm_mutex.specs.calls.Sight.{Sight, sight}
 use Rattle.lfm_mutex.specs.calls.Trails.{CallEnds, Makes, MakesCall}
 use Rattle.lfm_mutex.specs.calls.WakeUps.{as_list, grants_of}
-use Rattle.lfm_mutex.specs.calls.Woken.{woken_of, WakesNobody, WokenAsGranted}
+use Rattle.lfm_mutex.specs.calls.Woken.{woken_of, WakesNobody, WakesThese, WokenAsGranted, LooksOnce, LooksAndWakesNobody, LooksAndWakesAsGranted}
 use Rattle.lfm_mutex.proofs.runs.ShortCalls.{Short, is_short, short_step_at, idle_step, try_opens, receive_opens}
 use Rattle.lfm_mutex.proofs.runs.WakeUps.{grants_join}
 
 -- For one call, and for two in a row
 
+abbrev with_woken : {T : Type 0} → Seat T → List ℕ → OffTrail
+with_woken s seats = record s.off_trail { woken = seats }
+
 pub woken_none : {T : Type 0} (s t : Seat T) → WakesNobody s t → grants_of (sight t).trail ≡ grants_of (sight s).trail → WokenAsGranted s t
-woken_none s t nobody none = ([], nobody ∙ sym (append-nil (woken_of s)), none ∙ sym (append-nil (grants_of (sight s).trail)))
+woken_none s t nobody none = ([], nobody ∙ ap (with_woken s) (sym (append-nil (woken_of s))), none ∙ sym (append-nil (grants_of (sight s).trail)))
+
+pub these_none : {T : Type 0} (s t : Seat T) → WakesThese [] s t → WakesNobody s t
+these_none s t woke = woke ∙ ap (with_woken s) (append-nil (woken_of s))
+
+pub these_join : {T : Type 0} (s m t : Seat T) (l k : List ℕ) → WakesThese l s m → WakesThese k m t → WakesThese (l ++ k) s t
+these_join s m t l k h w = w ∙ (ap (λ (o : OffTrail). record o { woken = o.woken ++ k }) h ∙ ap (with_woken s) (append_assoc (woken_of s) l k))
 
 pub woken_join : {T : Type 0} (s m t : Seat T) → WokenAsGranted s m → WokenAsGranted m t → WokenAsGranted s t
 woken_join s m t h k = (
+  h.0 ++ k.0,
+  these_join s m t h.0 k.0 h.1 k.1,
+  k.2 ∙ (ap (λ (l : List ℕ). l ++ k.0) h.2 ∙ append_assoc (grants_of (sight s).trail) h.0 k.0),
+)
+
+-- a call woke nobody, and then a wake-up of the seats that it granted the mutex was made
+pub woken_from : {T : Type 0} (s m t : Seat T) (l : List ℕ) → WakesNobody s m → grants_of (sight m).trail ≡ grants_of (sight s).trail ++ l → WakesThese l m t → sight t ≡ sight m → WokenAsGranted s t
+woken_from {T} s m t l nobody granted woke same = (l, woke ∙ ap (λ (o : OffTrail). record o { woken = o.woken ++ l }) nobody, ap (λ (z : Sight T). grants_of z.trail) same ∙ granted)
+
+-- The same if looks may have been made
+
+pub may_look : {T : Type 0} (s t : Seat T) → WokenAsGranted s t → LooksAndWakesAsGranted s t
+may_look s t woken = (woken.0, ap (λ (o : OffTrail). o.woken) woken.1, woken.2)
+
+pub looks_none : {T : Type 0} (s t : Seat T) → LooksAndWakesNobody s t → grants_of (sight t).trail ≡ grants_of (sight s).trail → LooksAndWakesAsGranted s t
+looks_none s t nobody none = ([], nobody ∙ sym (append-nil (woken_of s)), none ∙ sym (append-nil (grants_of (sight s).trail)))
+
+pub looks_once : {T : Type 0} (s t : Seat T) → LooksOnce s t → sight t ≡ sight s → LooksAndWakesAsGranted s t
+looks_once {T} s t look same = looks_none s t (ap (λ (o : OffTrail). o.woken) look) (ap (λ (z : Sight T). grants_of z.trail) same)
+
+pub looks_join : {T : Type 0} (s m t : Seat T) → LooksAndWakesAsGranted s m → LooksAndWakesAsGranted m t → LooksAndWakesAsGranted s t
+looks_join s m t h k = (
   h.0 ++ k.0,
   k.1 ∙ (ap (λ (l : List ℕ). l ++ k.0) h.1 ∙ append_assoc (woken_of s) h.0 k.0),
   k.2 ∙ (ap (λ (l : List ℕ). l ++ k.0) h.2 ∙ append_assoc (grants_of (sight s).trail) h.0 k.0),

@@ -7,6 +7,7 @@ use Rattle.lfm_protocol.specs.After.{pushed}
 use Rattle.lfm_protocol.specs.Begin.{Stepped}
 use Rattle.lfm_table.specs.declared.rule.Moving.{Moving}
 use Rattle.lfm_table.specs.declared.seat_view.View.{View}
+use Rattle.lfm_table.specs.declared.table_seat.TableSeat.{TableSeat}
 use Rattle.lfm_mutex.specs.declared.push.Pushed.{Pushed}
 use Rattle.lfm_mutex.specs.calls.Due.{due}
 use Rattle.lfm_mutex.specs.calls.FailedPushes.{Spends}
@@ -25,3 +26,7 @@ pub record PlainCourse {T : Type 0} (follows : ℕ → T → T → Type 0) (suit
   pub course : Course follows suits number p0 a0 v0 turn p a v
   pub spends : Spends (due seats (length v0.popped) p0.point) (due seats (length v.popped) p.point) v0.trail v.trail
   pub grants : grants_of v.trail ≡ grants_of v0.trail
+
+-- `PlainCourse`, for a `TableSeat`: the push of seat s, whose plain data were p, has come to this end and made it t
+abbrev pub PushLeadsTo : {T : Type 0} → (ℕ → T → T → Type 0) → (T → ℕ → Type 0) → TableSeat T → SeatState → Stepped → TableSeat T → Type 0
+PushLeadsTo follows suits s p end t = PlainCourse follows suits s.number s.limits.seats p s.moving s.place.me.0 end.turn end.seat t.moving t.place.me.0

@@ -10,10 +10,15 @@ use Rattle.lfm_protocol.specs.declared.kinds.Kind.{Kind}
 use Rattle.lfm_protocol.specs.declared.limits.Limits.{Limits}
 use Rattle.lfm_protocol.specs.declared.seats.SeatState.{SeatState}
 use Rattle.lfm_protocol.specs.Begin.{begin}
+use Rattle.lfm_protocol.specs.Points.{kind as kind_of}
 use Rattle.lfm_laws.specs.table.Words.{stepped_by}
 use Rattle.lfm_table.specs.Rule.{seen}
+use Rattle.lfm_mutex.specs.declared.mutex.Mutex.{Mutex}
+use Rattle.lfm_mutex.specs.declared.seat.Seat.{Seat}
+use Rattle.lfm_mutex.specs.Belongs.{OfMutex, state_of}
+use Rattle.lfm_mutex.specs.calls.Acts.{ActsWakingGranted}
 use Rattle.lfm_mutex.specs.calls.Runs.{how_held, is_release}
-use Rattle.lfm_mutex.specs.calls.Sight.{Sight, is_asleep, is_in_call, Finds}
+use Rattle.lfm_mutex.specs.calls.Sight.{Sight, sight, is_asleep, is_in_call, Finds}
 
 -- only a store of the owner word can end a hold
 abbrev pub stores_owner : Kind → Bool
@@ -43,3 +48,13 @@ pub record KeepsValue {T : Type 0} (follows : ℕ → T → T → Type 0) (fits 
 abbrev pub StepsOn : {T : Type 0} → (ℕ → T → T → Type 0) → (T → ℕ → Type 0) → Option Kind → SeatState → Sight T → Turn → SeatState → Sight T → Type 0
 StepsOn follows fits None x s turn y t = (turn ≡ Refused Idle) × (y ≡ x) × (t ≡ s)
 StepsOn follows fits (Some k) x s turn y t = Steps x s turn y t × KeepsValue follows fits x s turn t
+
+-- the seat is one of this mutex, and the step at its point is of this kind
+pub record NextIs {T : Type 0} (k : Kind) (s : Seat T) (m : Mutex T) : Type 0 where
+  pub belongs : OfMutex s m
+  pub kind : kind_of (state_of s).point ≡ Some k
+
+-- the seat s has made the step at its point, which is of this kind, and is now t; without an open call nothing changes
+pub record MakesTurn {T : Type 0} (follows : ℕ → T → T → Type 0) (fits : T → ℕ → Type 0) (k : Option Kind) (s : Seat T) (turn : Turn) (t : Seat T) : Type 0 where
+  pub acts : ActsWakingGranted s t
+  pub step : StepsOn follows fits k (state_of s) (sight s) turn (state_of t) (sight t)

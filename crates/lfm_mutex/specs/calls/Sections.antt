@@ -6,8 +6,11 @@ use Rattle.lfm_model.specs.declared.refusals.Refusal.{Refusal}
 use Rattle.lfm_protocol.specs.declared.answers.Answer.{Answer}
 use Rattle.lfm_protocol.specs.declared.answers.Call.{Call}
 use Rattle.lfm_protocol.specs.declared.limits.Limits.{Limits}
+use Rattle.lfm_mutex.specs.declared.mutex.Mutex.{Mutex}
+use Rattle.lfm_mutex.specs.declared.seat.Seat.{Seat}
+use Rattle.lfm_mutex.specs.Belongs.{limits_of, tries_of}
 use Rattle.lfm_mutex.specs.calls.Barging.{BargesBy}
-use Rattle.lfm_mutex.specs.calls.Sight.{Sight, Locks, LocksWaiting, MayRelease, Unlocks}
+use Rattle.lfm_mutex.specs.calls.Sight.{Sight, sight, Locks, LocksWaiting, MayRelease, Unlocks}
 use Rattle.lfm_mutex.specs.calls.Trails.{LocksBy, MakesCall}
 
 -- the same seat, with the same depth, which sleeps exactly if it slept before
@@ -17,6 +20,10 @@ StandsAs s t = (t.number ≡ s.number) × (t.depth ≡ s.depth) × (t.asleep ≡
 -- the sight with this value in hand, and otherwise the same
 abbrev pub with_value : {T : Type 0} → Sight T → T → Sight T
 with_value s x = record s { value = Some x }
+
+-- `gives v u w`: the closure, called with the value v, may return u and leave the value w. So the value in hand has changed.
+abbrev pub Changes : {T U : Type 0} → (T → U → T → Type 0) → Sight T → U → Sight T → Type 0
+Changes {T} gives s u t = (v : T) × (w : T) × (s.value ≡ Some v) × gives v u w × (t ≡ with_value s w)
 
 -- how a call of unlock ends, and which steps it makes
 abbrev pub UnlocksSo : {T : Type 0} → Limits → Sight T → Sight T → Result Unlocked Refusal → Type 0
@@ -59,3 +66,11 @@ module _ {T : Type 0} (follows : ℕ → T → T → Type 0) (fits : T → ℕ �
     abbrev pub SectionEnds : Sight T → Result U Refusal → Type 0
     SectionEnds t (Ok u) = Section t u
     SectionEnds t (Err r) = locks t (Err r)
+
+-- `BargesSo` and `TriesSo`, for a seat of a mutex
+
+abbrev pub BargesFrom : {T : Type 0} → (ℕ → T → T → Type 0) → (T → ℕ → Type 0) → Mutex T → Seat T → Sight T → Result Locked Refusal → Type 0
+BargesFrom follows fits m s t r = BargesSo follows fits (limits_of m) (tries_of m) (sight s) t r
+
+abbrev pub TriesFrom : {T : Type 0} → (ℕ → T → T → Type 0) → (T → ℕ → Type 0) → Mutex T → Seat T → Sight T → Result Locked Refusal → Type 0
+TriesFrom follows fits m s t r = TriesSo follows fits (limits_of m) (sight s) t r

@@ -5,18 +5,14 @@
 //! allocates, and only `store_wake` wakes a seat.
 ghost use Rattle.std.specs.Prelude.{◌≡◌, ◌≢◌, true, false, Some};
 ghost use Rattle.lfm_protocol.specs.declared.kinds.Kind.{Kind as KindNow};
-ghost use Rattle.lfm_protocol.specs.declared.points.Point.TheVariants.{ReleaseOwnerStore};
-ghost use Rattle.lfm_protocol.specs.declared.points.Releaser.{Releaser};
 ghost use Rattle.lfm_protocol.specs.Points.{kind as kind_of};
-ghost use Rattle.lfm_mutex.specs.Belongs.{Beside, OfMutex, state_of};
+ghost use Rattle.lfm_mutex.specs.Belongs.{state_of};
 ghost use Rattle.lfm_mutex.specs.calls.RunGoesOn.{RunGoesOnFrom};
 ghost use Rattle.lfm_mutex.specs.calls.Runs.{is_release};
-ghost use Rattle.lfm_mutex.specs.calls.SeatSteps.{StepsOn, stores_owner};
+ghost use Rattle.lfm_mutex.specs.calls.SeatSteps.{stores_owner, NextIs, MakesTurn};
 ghost use Rattle.lfm_mutex.specs.calls.Sight.{sight, MayLeave};
-ghost use Rattle.lfm_table.specs.FastPath.{KeepsNumberAndLimits};
 ghost use Rattle.lfm_table.specs.Grants.{granted_at};
-ghost use Rattle.lfm_table.specs.Steps.{MayBeLeft, Event};
-ghost use Rattle.lfm_mutex.specs.calls.Woken.{WakesNobody, WokenAsGranted};
+ghost use Rattle.lfm_mutex.specs.calls.OpenCalls.{KeepsSeat, MayMakeNext, MakesEvent, AtTableOf};
 
 use crate::mutex::Mutex;
 use crate::seat::Seat;
@@ -36,14 +32,12 @@ pub(crate) fn make_of<T: Kept>(
     seat: &mut Seat<T>,
     kind: Kind,
 ) -> (Turn, Option<WakeUp>)
-    requires belongs { seat.old.table_seat.place.table_id ≡ mutex.now.table.table_id }
+    requires belongs { AtTableOf seat.old mutex.now }
     requires is_next { kind_of seat.old.state.point ≡ Some kind }
-    requires leaves { (r : Releaser) → seat.old.state.point ≡ ReleaseOwnerStore r → MayBeLeft T.follows T.fits seat.old.table_seat.moving seat.old.table_seat.place.me.0 }
-    ensures belongs { seat.new.table_seat.place.table_id ≡ seat.old.table_seat.place.table_id }
-    ensures woken { WakesNobody seat.old seat.new }
+    requires leaves { MayMakeNext T.follows T.fits seat.old }
+    ensures kept { KeepsSeat seat.old seat.new }
     ensures run { RunGoesOnFrom seat.old seat.new }
-    ensures same { KeepsNumberAndLimits seat.old.table_seat seat.new.table_seat }
-    ensures event { Event T.follows T.fits seat.old.state seat.old.table_seat.moving seat.old.table_seat.place.me.0 result.0 seat.new.state seat.new.table_seat.moving seat.new.table_seat.place.me.0 }
+    ensures event { MakesEvent T.follows T.fits seat.old result.0 seat.new }
     ensures wakes { result.1 ≡ granted_at seat.old.state.point }
 {
     let table = &mutex.table;
@@ -68,15 +62,13 @@ pub(crate) fn make_of<T: Kept>(
 /// `make_of` for a kind that stores no wake word, so that there is no wake-up.
 #[inline(always)]
 pub(crate) fn make_waking_none<T: Kept>(mutex: &Mutex<T>, seat: &mut Seat<T>, kind: Kind) -> Turn
-    requires belongs { seat.old.table_seat.place.table_id ≡ mutex.now.table.table_id }
+    requires belongs { AtTableOf seat.old mutex.now }
     requires is_next { kind_of seat.old.state.point ≡ Some kind }
     requires other { kind ≢ KindNow.WakeStore }
-    requires leaves { (r : Releaser) → seat.old.state.point ≡ ReleaseOwnerStore r → MayBeLeft T.follows T.fits seat.old.table_seat.moving seat.old.table_seat.place.me.0 }
-    ensures belongs { seat.new.table_seat.place.table_id ≡ seat.old.table_seat.place.table_id }
-    ensures woken { WakesNobody seat.old seat.new }
+    requires leaves { MayMakeNext T.follows T.fits seat.old }
+    ensures kept { KeepsSeat seat.old seat.new }
     ensures run { RunGoesOnFrom seat.old seat.new }
-    ensures same { KeepsNumberAndLimits seat.old.table_seat seat.new.table_seat }
-    ensures event { Event T.follows T.fits seat.old.state seat.old.table_seat.moving seat.old.table_seat.place.me.0 result seat.new.state seat.new.table_seat.moving seat.new.table_seat.place.me.0 }
+    ensures event { MakesEvent T.follows T.fits seat.old result seat.new }
 {
     let (turn, wake_up) = make_of(mutex, seat, kind);
     WakeUp::expect_none(wake_up);
@@ -86,26 +78,18 @@ pub(crate) fn make_waking_none<T: Kept>(mutex: &Mutex<T>, seat: &mut Seat<T>, ki
 /// Makes a step of a kind that ends no hold and stores no wake word.
 #[inline(always)]
 fn make_within<T: Kept>(mutex: &Mutex<T>, seat: &mut Seat<T>, kind: Kind) -> Turn
-    requires belongs { OfMutex seat.old mutex.now }
-    requires is_next { kind_of (state_of seat.old).point ≡ Some kind }
+    requires next { NextIs kind seat.old mutex.now }
     requires keeps { stores_owner kind ≡ false }
     requires other { kind ≢ KindNow.WakeStore }
-    ensures belongs { Beside seat.old seat.new }
-    ensures woken { WokenAsGranted seat.old seat.new }
-    ensures run { RunGoesOnFrom seat.old seat.new }
-    ensures steps { StepsOn T.follows T.fits (Some kind) (state_of seat.old) (sight seat.old) result (state_of seat.new) (sight seat.new) }
+    ensures { MakesTurn T.follows T.fits (Some kind) seat.old result seat.new }
 {
     make_waking_none(mutex, seat, kind)
 }
 
 /// Compare-and-exchange of the count from 0 to 1, which reads the count: the first step of a `try_lock`.
 pub fn exchange_count<T: Kept>(mutex: &Mutex<T>, seat: &mut Seat<T>) -> Turn
-    requires belongs { OfMutex seat.old mutex.now }
-    requires is_next { kind_of (state_of seat.old).point ≡ Some KindNow.CountExchange }
-    ensures belongs { Beside seat.old seat.new }
-    ensures woken { WokenAsGranted seat.old seat.new }
-    ensures run { RunGoesOnFrom seat.old seat.new }
-    ensures steps { StepsOn T.follows T.fits (Some KindNow.CountExchange) (state_of seat.old) (sight seat.old) result (state_of seat.new) (sight seat.new) }
+    requires next { NextIs KindNow.CountExchange seat.old mutex.now }
+    ensures { MakesTurn T.follows T.fits (Some KindNow.CountExchange) seat.old result seat.new }
 {
     make_within(mutex, seat, Kind::CountExchange)
 }
@@ -113,12 +97,8 @@ pub fn exchange_count<T: Kept>(mutex: &Mutex<T>, seat: &mut Seat<T>) -> Turn
 /// Adds 1 to the count, and reads the count before: for a `lock`, for the target of a `send_lock`, or for a `try_lock` that
 /// accepted a post.
 pub fn add_count<T: Kept>(mutex: &Mutex<T>, seat: &mut Seat<T>) -> Turn
-    requires belongs { OfMutex seat.old mutex.now }
-    requires is_next { kind_of (state_of seat.old).point ≡ Some KindNow.CountAdd }
-    ensures belongs { Beside seat.old seat.new }
-    ensures woken { WokenAsGranted seat.old seat.new }
-    ensures run { RunGoesOnFrom seat.old seat.new }
-    ensures steps { StepsOn T.follows T.fits (Some KindNow.CountAdd) (state_of seat.old) (sight seat.old) result (state_of seat.new) (sight seat.new) }
+    requires next { NextIs KindNow.CountAdd seat.old mutex.now }
+    ensures { MakesTurn T.follows T.fits (Some KindNow.CountAdd) seat.old result seat.new }
 {
     make_within(mutex, seat, Kind::CountAdd)
 }
@@ -126,24 +106,16 @@ pub fn add_count<T: Kept>(mutex: &Mutex<T>, seat: &mut Seat<T>) -> Turn
 /// Subtracts 1 from the count, and reads the count before: for a release, or for a `lock` of a seat that already owns and had
 /// counted itself.
 pub fn subtract_count<T: Kept>(mutex: &Mutex<T>, seat: &mut Seat<T>) -> Turn
-    requires belongs { OfMutex seat.old mutex.now }
-    requires is_next { kind_of (state_of seat.old).point ≡ Some KindNow.CountSubtract }
-    ensures belongs { Beside seat.old seat.new }
-    ensures woken { WokenAsGranted seat.old seat.new }
-    ensures run { RunGoesOnFrom seat.old seat.new }
-    ensures steps { StepsOn T.follows T.fits (Some KindNow.CountSubtract) (state_of seat.old) (sight seat.old) result (state_of seat.new) (sight seat.new) }
+    requires next { NextIs KindNow.CountSubtract seat.old mutex.now }
+    ensures { MakesTurn T.follows T.fits (Some KindNow.CountSubtract) seat.old result seat.new }
 {
     make_within(mutex, seat, Kind::CountSubtract)
 }
 
 /// Loads the owner word: a `lock` or `try_lock` checks whether its own seat owns.
 pub fn load_owner<T: Kept>(mutex: &Mutex<T>, seat: &mut Seat<T>) -> Turn
-    requires belongs { OfMutex seat.old mutex.now }
-    requires is_next { kind_of (state_of seat.old).point ≡ Some KindNow.OwnerLoad }
-    ensures belongs { Beside seat.old seat.new }
-    ensures woken { WokenAsGranted seat.old seat.new }
-    ensures run { RunGoesOnFrom seat.old seat.new }
-    ensures steps { StepsOn T.follows T.fits (Some KindNow.OwnerLoad) (state_of seat.old) (sight seat.old) result (state_of seat.new) (sight seat.new) }
+    requires next { NextIs KindNow.OwnerLoad seat.old mutex.now }
+    ensures { MakesTurn T.follows T.fits (Some KindNow.OwnerLoad) seat.old result seat.new }
 {
     make_within(mutex, seat, Kind::OwnerLoad)
 }
@@ -151,49 +123,33 @@ pub fn load_owner<T: Kept>(mutex: &Mutex<T>, seat: &mut Seat<T>) -> Turn
 /// Stores the owner word: 0 when a release ends a hold, or the seat's own number when it acquires the mutex. At the store that
 /// ends a hold, the value in hand has to follow the one that was found.
 pub fn store_owner<T: Kept>(mutex: &Mutex<T>, seat: &mut Seat<T>) -> Turn
-    requires belongs { OfMutex seat.old mutex.now }
-    requires is_next { kind_of (state_of seat.old).point ≡ Some KindNow.OwnerStore }
+    requires next { NextIs KindNow.OwnerStore seat.old mutex.now }
     requires leaves { is_release (state_of seat.old).point ≡ true → MayLeave T.follows T.fits (sight seat.old) }
-    ensures belongs { Beside seat.old seat.new }
-    ensures woken { WokenAsGranted seat.old seat.new }
-    ensures run { RunGoesOnFrom seat.old seat.new }
-    ensures steps { StepsOn T.follows T.fits (Some KindNow.OwnerStore) (state_of seat.old) (sight seat.old) result (state_of seat.new) (sight seat.new) }
+    ensures { MakesTurn T.follows T.fits (Some KindNow.OwnerStore) seat.old result seat.new }
 {
     make_waking_none(mutex, seat, Kind::OwnerStore)
 }
 
 /// Loads the push word: the newest stamp, and the seat whose record is the newest one pushed.
 pub fn load_push<T: Kept>(mutex: &Mutex<T>, seat: &mut Seat<T>) -> Turn
-    requires belongs { OfMutex seat.old mutex.now }
-    requires is_next { kind_of (state_of seat.old).point ≡ Some KindNow.PushLoad }
-    ensures belongs { Beside seat.old seat.new }
-    ensures woken { WokenAsGranted seat.old seat.new }
-    ensures run { RunGoesOnFrom seat.old seat.new }
-    ensures steps { StepsOn T.follows T.fits (Some KindNow.PushLoad) (state_of seat.old) (sight seat.old) result (state_of seat.new) (sight seat.new) }
+    requires next { NextIs KindNow.PushLoad seat.old mutex.now }
+    ensures { MakesTurn T.follows T.fits (Some KindNow.PushLoad) seat.old result seat.new }
 {
     make_within(mutex, seat, Kind::PushLoad)
 }
 
 /// Compare-and-exchange of the push word, from the word that was seen to one that has the pushed record as its newest.
 pub fn exchange_push<T: Kept>(mutex: &Mutex<T>, seat: &mut Seat<T>) -> Turn
-    requires belongs { OfMutex seat.old mutex.now }
-    requires is_next { kind_of (state_of seat.old).point ≡ Some KindNow.PushExchange }
-    ensures belongs { Beside seat.old seat.new }
-    ensures woken { WokenAsGranted seat.old seat.new }
-    ensures run { RunGoesOnFrom seat.old seat.new }
-    ensures steps { StepsOn T.follows T.fits (Some KindNow.PushExchange) (state_of seat.old) (sight seat.old) result (state_of seat.new) (sight seat.new) }
+    requires next { NextIs KindNow.PushExchange seat.old mutex.now }
+    ensures { MakesTurn T.follows T.fits (Some KindNow.PushExchange) seat.old result seat.new }
 {
     make_within(mutex, seat, Kind::PushExchange)
 }
 
 /// Clears the head of the push word, keeps its stamp, and reads the word before: the carrier takes over the pushed records.
 pub fn clear_head<T: Kept>(mutex: &Mutex<T>, seat: &mut Seat<T>) -> Turn
-    requires belongs { OfMutex seat.old mutex.now }
-    requires is_next { kind_of (state_of seat.old).point ≡ Some KindNow.ClearHead }
-    ensures belongs { Beside seat.old seat.new }
-    ensures woken { WokenAsGranted seat.old seat.new }
-    ensures run { RunGoesOnFrom seat.old seat.new }
-    ensures steps { StepsOn T.follows T.fits (Some KindNow.ClearHead) (state_of seat.old) (sight seat.old) result (state_of seat.new) (sight seat.new) }
+    requires next { NextIs KindNow.ClearHead seat.old mutex.now }
+    ensures { MakesTurn T.follows T.fits (Some KindNow.ClearHead) seat.old result seat.new }
 {
     make_within(mutex, seat, Kind::ClearHead)
 }
@@ -201,98 +157,66 @@ pub fn clear_head<T: Kept>(mutex: &Mutex<T>, seat: &mut Seat<T>) -> Turn
 /// Loads the link word of a record that was taken over: its stamp, and the next older record. The record joins the pop
 /// list.
 pub fn load_link<T: Kept>(mutex: &Mutex<T>, seat: &mut Seat<T>) -> Turn
-    requires belongs { OfMutex seat.old mutex.now }
-    requires is_next { kind_of (state_of seat.old).point ≡ Some KindNow.LinkLoad }
-    ensures belongs { Beside seat.old seat.new }
-    ensures woken { WokenAsGranted seat.old seat.new }
-    ensures run { RunGoesOnFrom seat.old seat.new }
-    ensures steps { StepsOn T.follows T.fits (Some KindNow.LinkLoad) (state_of seat.old) (sight seat.old) result (state_of seat.new) (sight seat.new) }
+    requires next { NextIs KindNow.LinkLoad seat.old mutex.now }
+    ensures { MakesTurn T.follows T.fits (Some KindNow.LinkLoad) seat.old result seat.new }
 {
     make_within(mutex, seat, Kind::LinkLoad)
 }
 
 /// Stores the link word of the record that is to be pushed.
 pub fn store_link<T: Kept>(mutex: &Mutex<T>, seat: &mut Seat<T>) -> Turn
-    requires belongs { OfMutex seat.old mutex.now }
-    requires is_next { kind_of (state_of seat.old).point ≡ Some KindNow.LinkStore }
-    ensures belongs { Beside seat.old seat.new }
-    ensures woken { WokenAsGranted seat.old seat.new }
-    ensures run { RunGoesOnFrom seat.old seat.new }
-    ensures steps { StepsOn T.follows T.fits (Some KindNow.LinkStore) (state_of seat.old) (sight seat.old) result (state_of seat.new) (sight seat.new) }
+    requires next { NextIs KindNow.LinkStore seat.old mutex.now }
+    ensures { MakesTurn T.follows T.fits (Some KindNow.LinkStore) seat.old result seat.new }
 {
     make_within(mutex, seat, Kind::LinkStore)
 }
 
 /// Loads the handoff word: the current post, if any.
 pub fn load_handoff<T: Kept>(mutex: &Mutex<T>, seat: &mut Seat<T>) -> Turn
-    requires belongs { OfMutex seat.old mutex.now }
-    requires is_next { kind_of (state_of seat.old).point ≡ Some KindNow.HandoffLoad }
-    ensures belongs { Beside seat.old seat.new }
-    ensures woken { WokenAsGranted seat.old seat.new }
-    ensures run { RunGoesOnFrom seat.old seat.new }
-    ensures steps { StepsOn T.follows T.fits (Some KindNow.HandoffLoad) (state_of seat.old) (sight seat.old) result (state_of seat.new) (sight seat.new) }
+    requires next { NextIs KindNow.HandoffLoad seat.old mutex.now }
+    ensures { MakesTurn T.follows T.fits (Some KindNow.HandoffLoad) seat.old result seat.new }
 {
     make_within(mutex, seat, Kind::HandoffLoad)
 }
 
 /// Stores a new post of the seat in the handoff word.
 pub fn store_handoff<T: Kept>(mutex: &Mutex<T>, seat: &mut Seat<T>) -> Turn
-    requires belongs { OfMutex seat.old mutex.now }
-    requires is_next { kind_of (state_of seat.old).point ≡ Some KindNow.HandoffStore }
-    ensures belongs { Beside seat.old seat.new }
-    ensures woken { WokenAsGranted seat.old seat.new }
-    ensures run { RunGoesOnFrom seat.old seat.new }
-    ensures steps { StepsOn T.follows T.fits (Some KindNow.HandoffStore) (state_of seat.old) (sight seat.old) result (state_of seat.new) (sight seat.new) }
+    requires next { NextIs KindNow.HandoffStore seat.old mutex.now }
+    ensures { MakesTurn T.follows T.fits (Some KindNow.HandoffStore) seat.old result seat.new }
 {
     make_within(mutex, seat, Kind::HandoffStore)
 }
 
 /// Compare-and-exchange of the handoff word, from an expected post to none: the post is accepted, taken over, or taken back.
 pub fn exchange_handoff<T: Kept>(mutex: &Mutex<T>, seat: &mut Seat<T>) -> Turn
-    requires belongs { OfMutex seat.old mutex.now }
-    requires is_next { kind_of (state_of seat.old).point ≡ Some KindNow.HandoffExchange }
-    ensures belongs { Beside seat.old seat.new }
-    ensures woken { WokenAsGranted seat.old seat.new }
-    ensures run { RunGoesOnFrom seat.old seat.new }
-    ensures steps { StepsOn T.follows T.fits (Some KindNow.HandoffExchange) (state_of seat.old) (sight seat.old) result (state_of seat.new) (sight seat.new) }
+    requires next { NextIs KindNow.HandoffExchange seat.old mutex.now }
+    ensures { MakesTurn T.follows T.fits (Some KindNow.HandoffExchange) seat.old result seat.new }
 {
     make_within(mutex, seat, Kind::HandoffExchange)
 }
 
 /// Loads the seat's own wake word: a receive checks for its grant.
 pub fn load_wake<T: Kept>(mutex: &Mutex<T>, seat: &mut Seat<T>) -> Turn
-    requires belongs { OfMutex seat.old mutex.now }
-    requires is_next { kind_of (state_of seat.old).point ≡ Some KindNow.WakeLoad }
-    ensures belongs { Beside seat.old seat.new }
-    ensures woken { WokenAsGranted seat.old seat.new }
-    ensures run { RunGoesOnFrom seat.old seat.new }
-    ensures steps { StepsOn T.follows T.fits (Some KindNow.WakeLoad) (state_of seat.old) (sight seat.old) result (state_of seat.new) (sight seat.new) }
+    requires next { NextIs KindNow.WakeLoad seat.old mutex.now }
+    ensures { MakesTurn T.follows T.fits (Some KindNow.WakeLoad) seat.old result seat.new }
 {
     make_within(mutex, seat, Kind::WakeLoad)
 }
 
 /// Stores a wake word: a grant, whose seat it wakes, or the seat's own, when it starts to wait or no longer sleeps.
 pub fn store_wake<T: Kept>(mutex: &Mutex<T>, seat: &mut Seat<T>) -> Turn
-    requires belongs { OfMutex seat.old mutex.now }
-    requires is_next { kind_of (state_of seat.old).point ≡ Some KindNow.WakeStore }
-    ensures belongs { Beside seat.old seat.new }
-    ensures woken { WokenAsGranted seat.old seat.new }
-    ensures run { RunGoesOnFrom seat.old seat.new }
-    ensures steps { StepsOn T.follows T.fits (Some KindNow.WakeStore) (state_of seat.old) (sight seat.old) result (state_of seat.new) (sight seat.new) }
+    requires next { NextIs KindNow.WakeStore seat.old mutex.now }
+    ensures { MakesTurn T.follows T.fits (Some KindNow.WakeStore) seat.old result seat.new }
 {
     let (turn, wake_up) = make_of(mutex, seat, Kind::WakeStore);
-    mutex.wake_seat(wake_up, &mut seat.woken);
+    mutex.wake_seat(wake_up, &mut seat.off_trail);
     turn
 }
 
 /// Compare-and-exchange of the wake word of a seat that waits, so that only this sender sends it.
 pub fn exchange_wake<T: Kept>(mutex: &Mutex<T>, seat: &mut Seat<T>) -> Turn
-    requires belongs { OfMutex seat.old mutex.now }
-    requires is_next { kind_of (state_of seat.old).point ≡ Some KindNow.WakeExchange }
-    ensures belongs { Beside seat.old seat.new }
-    ensures woken { WokenAsGranted seat.old seat.new }
-    ensures run { RunGoesOnFrom seat.old seat.new }
-    ensures steps { StepsOn T.follows T.fits (Some KindNow.WakeExchange) (state_of seat.old) (sight seat.old) result (state_of seat.new) (sight seat.new) }
+    requires next { NextIs KindNow.WakeExchange seat.old mutex.now }
+    ensures { MakesTurn T.follows T.fits (Some KindNow.WakeExchange) seat.old result seat.new }
 {
     make_within(mutex, seat, Kind::WakeExchange)
 }

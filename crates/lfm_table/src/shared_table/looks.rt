@@ -1,37 +1,51 @@
 //! Loads of a word outside the steps of a call. A *look* is a load from which no proof learns anything, and it is in no trail.
-//! The load of `read_owner` is in its seat's trail.
-ghost use Rattle.std.specs.Prelude.{◌≡◌, ◌<◌};
+//! Each adds itself to the looks that its `OffTrail` counts. The load of `read_owner` is in its seat's trail.
+ghost use Rattle.std.specs.Prelude.{◌≡◌, ◌+◌, ◌<◌};
 ghost use Rattle.atomic_table.specs.Table.{Allows};
 ghost use Rattle.lfm_table.specs.Rule.{Held, ReadsOwner};
 
 use crate::kept::Kept;
 use crate::layout::{COUNT, OWNER};
+use crate::off_trail::OffTrail;
 use crate::rule::OwnerRead;
 use crate::shared_table::{AtomicSeat, SharedTable};
 
 impl<T: Kept> SharedTable<T> {
+    /// Looks at this word.
+    #[inline(always)]
+    fn look(&self, word: usize, off_trail: &mut OffTrail) -> u64
+        requires { word < self.now.table_id.words }
+        ensures { off_trail.new ≡ record off_trail.old { looks = off_trail.old.looks + 1 } }
+    {
+        *off_trail = OffTrail::with_look(off_trail);
+        self.peek(word)
+    }
+
     /// Looks at the count.
     #[inline(always)]
-    pub fn look_at_count(&self) -> u64
+    pub fn look_at_count(&self, off_trail: &mut OffTrail) -> u64
         requires { 0 < self.now.table_id.words }
+        ensures { off_trail.new ≡ record off_trail.old { looks = off_trail.old.looks + 1 } }
     {
-        self.peek(COUNT)
+        self.look(COUNT, off_trail)
     }
 
     /// Looks at the owner word.
     #[inline(always)]
-    pub fn look_at_owner(&self) -> u64
+    pub fn look_at_owner(&self, off_trail: &mut OffTrail) -> u64
         requires { 1 < self.now.table_id.words }
+        ensures { off_trail.new ≡ record off_trail.old { looks = off_trail.old.looks + 1 } }
     {
-        self.peek(OWNER)
+        self.look(OWNER, off_trail)
     }
 
     /// Looks at this wake word.
     #[inline(always)]
-    pub fn look_at_wake(&self, word: usize) -> u64
+    pub fn look_at_wake(&self, word: usize, off_trail: &mut OffTrail) -> u64
         requires { word < self.now.table_id.words }
+        ensures { off_trail.new ≡ record off_trail.old { looks = off_trail.old.looks + 1 } }
     {
-        self.peek(word)
+        self.look(word, off_trail)
     }
 
     /// Loads the owner word.

@@ -4,7 +4,7 @@ ghost use Rattle.lfm_mutex.specs.Belongs.{Beside, OfMutex, limits_of};
 ghost use Rattle.lfm_mutex.specs.calls.RunGoesOn.{RunGoesOnFrom};
 ghost use Rattle.lfm_mutex.specs.calls.Sight.{sight};
 ghost use Rattle.lfm_mutex.specs.calls.WakeUps.{Wakes, as_list};
-ghost use Rattle.lfm_mutex.specs.calls.Woken.{WakesNobody, woken_of};
+ghost use Rattle.lfm_mutex.specs.calls.Woken.{WakesNobody, WakesThese};
 ghost use Rattle.lfm_condvar.specs.Belongs.{CondWokenAsGranted, OfCondvar, cond_limits, cond_sight, cond_tries};
 ghost use Rattle.lfm_condvar.specs.Holds.{Rewrites};
 ghost use Rattle.lfm_condvar.specs.Keeping.{WaitersFollow};
@@ -32,7 +32,7 @@ fn hold_back<T: Kept>(
     ensures run { RunGoesOnFrom seat.old seat.new }
     ensures same { sight seat.new ≡ sight seat.old }
     ensures later { result ≡ later_of held next }
-    ensures woken { woken_of seat.new ≡ woken_of seat.old ++ as_list (earlier_of held next) }
+    ensures woken { WakesThese (as_list (earlier_of held next)) seat.old seat.new }
 {
     match next {
         None => held,
@@ -59,7 +59,7 @@ fn send_all<T: Kept>(
     ensures sends { SendsAll (limits_of mutex.now).seats (sight seat.old) (sight seat.new) waiters.old waiters.new result.0 }
     ensures steps { SendsBy (limits_of mutex.now) (sight seat.old) (sight seat.new) result.0 }
     ensures follows { (s : ℕ) → WaitersFollow s waiters.old waiters.new }
-    ensures wakes { HoldsLastBack (limits_of mutex.now).seats result.1 (sight seat.old).trail (sight seat.new).trail (woken_of seat.old) (woken_of seat.new) }
+    ensures wakes { HoldsLastBack (limits_of mutex.now).seats result.1 seat.old seat.new }
 {
     let mut sent = 0u64;
     let mut held = None;
@@ -115,7 +115,7 @@ fn send_all_in_hand<T: Kept>(
     ensures cond_woken { WakesNobody cond.old cond.new }
     ensures sends { (v : _) × (w : _) × Rewrites (sight cond.old) (sight cond.new) v w × SendsAll (limits_of mutex.now).seats (sight seat.old) (sight seat.new) v w result.0 }
     ensures steps { SendsBy (limits_of mutex.now) (sight seat.old) (sight seat.new) result.0 }
-    ensures wakes { HoldsLastBack (limits_of mutex.now).seats result.1 (sight seat.old).trail (sight seat.new).trail (woken_of seat.old) (woken_of seat.new) }
+    ensures wakes { HoldsLastBack (limits_of mutex.now).seats result.1 seat.old seat.new }
 {
     let Some(waiters) = cond.value_mut() else {
         unreachable!()
@@ -170,7 +170,7 @@ impl Condvar {
         ensures cond_woken { CondWokenAsGranted cond.old cond.new }
         ensures sends { WakeAllEnds (limits_of mutex.now).seats (cond_limits self.now) (cond_tries self.now) (cond_sight cond.old) (cond_sight cond.new) (sight seat.old) (sight seat.new) result.0 }
         ensures steps { SendsBy (limits_of mutex.now) (sight seat.old) (sight seat.new) result.0 }
-        ensures wakes { HoldsLastBack (limits_of mutex.now).seats result.1 (sight seat.old).trail (sight seat.new).trail (woken_of seat.old) (woken_of seat.new) }
+        ensures wakes { HoldsLastBack (limits_of mutex.now).seats result.1 seat.old seat.new }
     {
         match lock_list(&self.inner, rt, &mut cond.seat) {
             Ok(()) => {}

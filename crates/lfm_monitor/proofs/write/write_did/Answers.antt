@@ -24,7 +24,7 @@ returns-clause-writes g c = let v = c.in-Some.journaled.now in let h = rw c.in-S
   x.journal ∙ ap (λ n. v.journal.items ++ entry n (Did c.args.op) ∷ []) c.number-number.ensures,
   (ap (λ s. s.value) x.same.0, x.same.1, x.same.2),
   (ap (λ p. p.table_id) h.1, h.3),
-  ap (λ w. w.seats) h.5,
+  h.5,
   run_stays_at (ap (λ p. p.me.0) h.1),
 )
 

@@ -1,4 +1,4 @@
-use Rattle.std.proofs.Common.{ℕ, ◌+◌, ◌≤◌, Option, length, sym, ap, subst, ◌∙◌, arith}
+use Rattle.std.proofs.Common.{rules, ℕ, ◌+◌, ◌≤◌, Option, length, sym, ap, subst, ◌∙◌, arith}
 use Rattle.lfm_table.specs.declared.seat_view.View.{View}
 use Rattle.lfm_table.specs.declared.rule.Moving.{Moving}
 use Rattle.lfm_mutex.specs.calls.Runs.{Ran, opens, release_steps}
@@ -36,7 +36,7 @@ pub returns-in-Open-clause-turned : goal.returns-in-Open-clause-turned
 returns-in-Open-clause-turned g c = let s = c.args.seat.now in let b = c.begin_call.new.seat in let f = c.finish_from_owner_store.new.seat in
     let began = begun g.T.Kept.follows g.T.Kept.fits s.table_seat.number s.table_seat.limits s.table_seat.place.me.0 (value_in s.table_seat.moving) s.state b.state c.args.call c.in-Open.ensures.turn c.in-Open.ensures.seat in
     subst (λ (l : Limits). Turned g.T.Kept.follows g.T.Kept.fits l c.args.call (sight_of s.table_seat.number s.state s.table_seat.place.me.0 (value_in s.table_seat.moving)) (sight_of f.table_seat.number f.state f.table_seat.place.me.0 (value_in f.table_seat.moving)) c.finish_from_owner_store.result.0) c.requires.belongs.1
-    (turned_by_release g.T.Kept.follows g.T.Kept.fits s.table_seat.number f.table_seat.number s.table_seat.limits s.state b.state f.state s.table_seat.place.me.0 f.table_seat.place.me.0 s.table_seat.moving f.table_seat.moving (c.finish_from_owner_store.ensures.same.0 ∙ c.begin_call.ensures.same.1) c.args.call c.finish_from_owner_store.result.0
+    (turned_by_release g.T.Kept.follows g.T.Kept.fits s.table_seat.number f.table_seat.number s.table_seat.limits s.state b.state f.state s.table_seat.place.me.0 f.table_seat.place.me.0 s.table_seat.moving f.table_seat.moving (c.finish_from_owner_store.ensures.kept.same.0 ∙ c.begin_call.ensures.same.1) c.args.call c.finish_from_owner_store.result.0
     c.requires.gives began (called_ends s.table_seat.limits c.args.call s.state b.state c.finish_from_owner_store.result.0 c.in-Open.ensures.turn c.in-Open.ensures.seat c.finish_from_owner_store.ensures.ends) c.finish_from_owner_store.ensures.concludes
     (c.finish_from_owner_store.ensures.last ∙ (λ i. (value_in (c.begin_call.ensures.same.3 i), (ap (λ p. p.me.0.found) c.begin_call.ensures.same.0) i, (ap (λ p. p.me.0.limits) c.begin_call.ensures.same.0) i, (ap (λ p. p.me.0.holds_ended + 1) c.begin_call.ensures.same.0) i)))
     (subst (λ (t : ℕ × View g.row.T.Denot). Ran t.0 (opens b.state) t.1 c.finish_from_owner_store.result.0 f.state f.table_seat.place.me.0) (λ i. (c.begin_call.ensures.same.1 i, ap (λ p. p.me.0) c.begin_call.ensures.same.0 i)) c.finish_from_owner_store.ensures.ran))
@@ -50,7 +50,7 @@ returns-in_default-clause-turned g c = let s = c.args.seat.now in let b = c.begi
 pub returns-in-Open-clause-made : goal.returns-in-Open-clause-made
 returns-in-Open-clause-made g c = let s = c.args.seat.now in let b = c.begin_call.new.seat in let f = c.finish_from_owner_store.new.seat in
     subst (λ (l : Limits). Made l c.args.call (sight_of s.table_seat.number s.state s.table_seat.place.me.0 (value_in s.table_seat.moving)) (sight_of f.table_seat.number f.state f.table_seat.place.me.0 (value_in f.table_seat.moving)) c.finish_from_owner_store.result.0) c.requires.belongs.1
-    (makes s.table_seat.limits c.args.call s.table_seat.number f.table_seat.number s.state f.state s.table_seat.place.me.0 f.table_seat.place.me.0 (value_in s.table_seat.moving) (value_in f.table_seat.moving) c.finish_from_owner_store.result.0 (c.finish_from_owner_store.ensures.same.0 ∙ c.begin_call.ensures.same.1)
+    (makes s.table_seat.limits c.args.call s.table_seat.number f.table_seat.number s.state f.state s.table_seat.place.me.0 f.table_seat.place.me.0 (value_in s.table_seat.moving) (value_in f.table_seat.moving) c.finish_from_owner_store.result.0 (c.finish_from_owner_store.ensures.kept.same.0 ∙ c.begin_call.ensures.same.1)
     ((called_steps s.table_seat.number s.table_seat.limits c.args.call s.state b.state f.state s.table_seat.place.me.0 f.table_seat.place.me.0 c.finish_from_owner_store.result.0 (sym c.in-Open.ensures.turn) c.in-Open.ensures.seat c.finish_from_owner_store.ensures.ends
     (subst (λ (t : ℕ × View g.row.T.Denot). Ran t.0 (opens b.state) t.1 c.finish_from_owner_store.result.0 f.state f.table_seat.place.me.0) (λ i. (c.begin_call.ensures.same.1 i, ap (λ p. p.me.0) c.begin_call.ensures.same.0 i)) c.finish_from_owner_store.ensures.ran)).0))
 
@@ -79,8 +79,9 @@ pub returns-in_default-clause-wakes : goal.returns-in_default-clause-wakes
 returns-in_default-clause-wakes g c = let s = c.args.seat.now in let b = c.begin_call.new.seat in
     wakes_none c.args.mutex.now.limits.seats s.table_seat.place.me.0.trail b.table_seat.place.me.0.trail (ap (λ p. grants_of p.me.0.trail) c.begin_call.ensures.same.0)
 
-pub returns-in-Open-clause-run : goal.returns-in-Open-clause-run
-returns-in-Open-clause-run g c = run_next (run_stays_at (ap (λ p. p.me.0) c.begin_call.ensures.same.0)) c.finish_from_owner_store.ensures.ran.run
+pub returns-in-Open-clause-acts : goal.returns-in-Open-clause-acts
+returns-in-Open-clause-acts g c =
+    record { belongs = search rules; woken = search rules; run = run_next (run_stays_at (ap (λ p. p.me.0) c.begin_call.ensures.same.0)) c.finish_from_owner_store.ensures.ran.run }
 
-pub returns-in_default-clause-run : goal.returns-in_default-clause-run
-returns-in_default-clause-run g c = run_stays_at (ap (λ p. p.me.0) c.begin_call.ensures.same.0)
+pub returns-in_default-clause-acts : goal.returns-in_default-clause-acts
+returns-in_default-clause-acts g c = record { belongs = search rules; run = run_stays_at (ap (λ p. p.me.0) c.begin_call.ensures.same.0); woken = search rules }

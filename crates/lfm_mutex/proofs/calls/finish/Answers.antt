@@ -18,6 +18,7 @@ use Rattle.lfm_table.specs.Grants.{granted_at}
 use Rattle.lfm_table.specs.Steps.{StepLeadsTo}
 use Rattle.lfm_mutex.specs.calls.WakeUps.{Wakes, first_of, may_grant}
 use Rattle.lfm_mutex.proofs.runs.WakeUps.{wakes_one, wakes_join, once_more, none_idle}
+use Rattle.lfm_mutex.proofs.runs.GoesOn.{nobody_join}
 use Rattle.lfm_mutex.proofs.calls.finish.Goals as goal
 
 pub either-owed-requires : goal.either-owed-requires
@@ -27,7 +28,7 @@ pub loop-ended-smaller : goal.loop-ended-smaller
 loop-ended-smaller g c = let l = c.loop-ended.seat in let i = c.loop-ended.invariant in let s = c.make_next-turn.new.seat in
     let some : kind l.state.point ≢ None = open_point l.state.point (λ z. c.requires.open (sym i.call ∙ z)) in
     let e = event_of g.T.Kept.follows g.T.Kept.fits (kind l.state.point) l.state s.state l.table_seat.place.me s.table_seat.place.me l.table_seat.moving s.table_seat.moving Open some (subst (λ (z : Turn). StepLeadsTo (kind l.state.point) g.T.Kept.follows g.T.Kept.fits l.state l.table_seat.moving l.table_seat.place.me z s.state s.table_seat.moving s.table_seat.place.me) c.in-Open.is c.make_next-turn.ensures.event) in
-    subst (λ (n : ℕ). weight n (length s.table_seat.place.me.0.popped) s.state.point < weight l.table_seat.limits.seats (length l.table_seat.place.me.0.popped) l.state.point) (ap (λ l. l.seats) (sym c.make_next-turn.ensures.same.1))
+    subst (λ (n : ℕ). weight n (length s.table_seat.place.me.0.popped) s.state.point < weight l.table_seat.limits.seats (length l.table_seat.place.me.0.popped) l.state.point) (ap (λ l. l.seats) (sym c.make_next-turn.ensures.kept.same.1))
     (steps_left g.T.Kept.follows g.T.Kept.fits l.table_seat.limits.seats l.table_seat.number l.state s.state l.table_seat.place.me.0 s.table_seat.place.me.0 l.table_seat.moving s.table_seat.moving Open some (ap (λ l. l.seats) l.seated.limits_are) l.ready e)
 
 pub loop-ended-preserved : goal.loop-ended-preserved
@@ -49,16 +50,16 @@ loop-ended-preserved g c = let l = c.loop-ended.seat in let i = c.loop-ended.inv
     record {
       wakes = wakes;
       none = none;
-      woken = c.make_next-turn.ensures.woken ∙ i.woken;
+      woken = nobody_join first l s i.woken c.make_next-turn.ensures.kept.woken;
       once = λ t some. let r = once_more l.state l.table_seat.place.me.0.number e.found (oldest e.did.popped) c.loop-ended.owed c.make_next-turn.result.1 i.once owes (sym e.turn_is) t (sym c.either-owed.ensures ∙ some) in (r.0, ap (λ x. x.point) e.seat_is ∙ r.1);
-      bounded = subst (λ (n : ℕ). length s.table_seat.place.me.0.trail + weight n (length s.table_seat.place.me.0.popped) s.state.point ≤ length first.table_seat.place.me.0.trail + weight first.table_seat.limits.seats (length first.table_seat.place.me.0.popped) first.state.point) (ap (λ l. l.seats) (sym c.make_next-turn.ensures.same.1))
+      bounded = subst (λ (n : ℕ). length s.table_seat.place.me.0.trail + weight n (length s.table_seat.place.me.0.popped) s.state.point ≤ length first.table_seat.place.me.0.trail + weight first.table_seat.limits.seats (length first.table_seat.place.me.0.popped) first.state.point) (ap (λ l. l.seats) (sym c.make_next-turn.ensures.kept.same.1))
           (omega (arith, less, kept));
-      spends = subst (λ (n : ℕ). Spends due0 (due n (length s.table_seat.place.me.0.popped) s.state.point) first.table_seat.place.me.0.trail s.table_seat.place.me.0.trail) (ap (λ l. l.seats) (sym c.make_next-turn.ensures.same.1)) spends;
+      spends = subst (λ (n : ℕ). Spends due0 (due n (length s.table_seat.place.me.0.popped) s.state.point) first.table_seat.place.me.0.trail s.table_seat.place.me.0.trail) (ap (λ l. l.seats) (sym c.make_next-turn.ensures.kept.same.1)) spends;
       concludes = concludes_join first.state l.state s.state Open i.concludes told;
       stays = stays_join first.state.depth l.state.depth first.table_seat.place.me.0 l.table_seat.place.me.0 s.table_seat.place.me.0 (value_in first.table_seat.moving) (value_in l.table_seat.moving) (value_in s.table_seat.moving) i.concludes.0 i.stays
           (stays_now g.T.Kept.follows g.T.Kept.fits first.table_seat.number l.state s.state l.table_seat.place.me.0 s.table_seat.place.me.0 l.table_seat.moving s.table_seat.moving Open named e i.keeps told);
-      belongs = c.make_next-turn.ensures.belongs ∙ i.belongs;
-      same = (c.make_next-turn.ensures.same.0 ∙ i.same.0, c.make_next-turn.ensures.same.1 ∙ i.same.1, c.make_next-turn.ensures.belongs ∙ i.same.2);
+      belongs = c.make_next-turn.ensures.kept.table ∙ i.belongs;
+      same = (c.make_next-turn.ensures.kept.same.0 ∙ i.same.0, c.make_next-turn.ensures.kept.same.1 ∙ i.same.1, c.make_next-turn.ensures.kept.table ∙ i.same.2);
       call = turn_more g.T.Kept.follows g.T.Kept.fits first.table_seat.number first.state first.table_seat.place.me.0 l.state s.state l.table_seat.place.me.0 s.table_seat.place.me.0 l.table_seat.moving s.table_seat.moving Open i.ran named e some ∙ i.call;
       keeps = release_more g.T.Kept.follows g.T.Kept.fits first.table_seat.number first.state first.table_seat.place.me.0 l.state s.state l.table_seat.place.me.0 s.table_seat.place.me.0 l.table_seat.moving s.table_seat.moving Open i.ran named e i.keeps;
       last = last_more g.T.Kept.follows g.T.Kept.fits first.table_seat.number first.state first.table_seat.place.me.0 l.state s.state l.table_seat.place.me.0 s.table_seat.place.me.0 l.table_seat.moving s.table_seat.moving Open i.ran named e i.keeps ∙ i.last;
@@ -82,20 +83,22 @@ returns-in_default g c = let l = c.loop-ended.seat in let i = c.loop-ended.invar
     (wakes_one g.T.Kept.follows g.T.Kept.fits l.state s.state l.table_seat.place.me.0 s.table_seat.place.me.0 l.table_seat.moving s.table_seat.moving c.make_next-turn.result.0 e first.table_seat.limits.seats l.table_seat.number c.make_next-turn.result.1 owes (subst (λ (n : ℕ). IsReady n l.table_seat.number l.state) sized l.ready))) in
     let none : may_grant (errand first.state.point) ≡ false → c.either-owed.result ≡ None = λ idle. c.either-owed.ensures ∙ (λ j. first_of (i.none idle j) ((owes ∙ none_idle l.state.point (ap may_grant i.call ∙ idle)) j)) in
     record {
-      wakes = wakes;
-      none = none;
-      woken = c.make_next-turn.ensures.woken ∙ i.woken;
-      bounded = omega (arith, less, kept);
-      spends = spends_within due0 due0 due2 0 first.table_seat.place.me.0.trail s.table_seat.place.me.0.trail (omega arith) (omega arith) spends;
-      concludes = concludes_join first.state l.state s.state c.make_next-turn.result.0 i.concludes told;
-      stays = stays_join first.state.depth l.state.depth first.table_seat.place.me.0 l.table_seat.place.me.0 s.table_seat.place.me.0 (value_in first.table_seat.moving) (value_in l.table_seat.moving) (value_in s.table_seat.moving) i.concludes.0 i.stays
-          (stays_now g.T.Kept.follows g.T.Kept.fits first.table_seat.number l.state s.state l.table_seat.place.me.0 s.table_seat.place.me.0 l.table_seat.moving s.table_seat.moving c.make_next-turn.result.0 named e i.keeps told);
-      belongs = c.make_next-turn.ensures.belongs ∙ i.same.2;
-      same = (c.make_next-turn.ensures.same.0 ∙ i.same.0, c.make_next-turn.ensures.same.1 ∙ i.same.1);
-      held = λ how is. subst (λ (n : ℕ). Holds g.T.Kept.follows g.T.Kept.fits n (last_hold first.table_seat.place.me.0) how s.state s.table_seat.moving s.table_seat.place.me.0) i.same.0
-          (holds_now g.T.Kept.follows g.T.Kept.fits l.table_seat.number l.table_seat.limits l.state s.state l.table_seat.place.me s.table_seat.place.me.0 l.table_seat.moving s.table_seat.moving c.make_next-turn.result.0 (last_hold first.table_seat.place.me.0) l.seated i.last e how is);
+      finishes = record {
+        kept = record { table = c.make_next-turn.ensures.kept.table ∙ i.same.2; same = (c.make_next-turn.ensures.kept.same.0 ∙ i.same.0, c.make_next-turn.ensures.kept.same.1 ∙ i.same.1); woken = nobody_join first l s i.woken c.make_next-turn.ensures.kept.woken };
+        made = record {
+          ran = ran_more g.T.Kept.follows g.T.Kept.fits first.table_seat.number first.state first.table_seat.place.me.0 l.state s.state l.table_seat.place.me.0 s.table_seat.place.me.0 l.table_seat.moving s.table_seat.moving c.make_next-turn.result.0 i.ran named e;
+          concludes = concludes_join first.state l.state s.state c.make_next-turn.result.0 i.concludes told;
+          stays = stays_join first.state.depth l.state.depth first.table_seat.place.me.0 l.table_seat.place.me.0 s.table_seat.place.me.0 (value_in first.table_seat.moving) (value_in l.table_seat.moving) (value_in s.table_seat.moving) i.concludes.0 i.stays
+              (stays_now g.T.Kept.follows g.T.Kept.fits first.table_seat.number l.state s.state l.table_seat.place.me.0 s.table_seat.place.me.0 l.table_seat.moving s.table_seat.moving c.make_next-turn.result.0 named e i.keeps told);
+          last = last_more g.T.Kept.follows g.T.Kept.fits first.table_seat.number first.state first.table_seat.place.me.0 l.state s.state l.table_seat.place.me.0 s.table_seat.place.me.0 l.table_seat.moving s.table_seat.moving c.make_next-turn.result.0 i.ran named e i.keeps ∙ i.last;
+          held = λ how is. subst (λ (n : ℕ). Holds g.T.Kept.follows g.T.Kept.fits n (last_hold first.table_seat.place.me.0) how s.state s.table_seat.moving s.table_seat.place.me.0) i.same.0
+              (holds_now g.T.Kept.follows g.T.Kept.fits l.table_seat.number l.table_seat.limits l.state s.state l.table_seat.place.me s.table_seat.place.me.0 l.table_seat.moving s.table_seat.moving c.make_next-turn.result.0 (last_hold first.table_seat.place.me.0) l.seated i.last e how is);
+        };
+        wakes = wakes;
+      };
       ends = ends_of _ _ c.make_next-turn.result.0 s.state.point (λ z. c.in_default.not-Open z) i.call
           (turn_more g.T.Kept.follows g.T.Kept.fits first.table_seat.number first.state first.table_seat.place.me.0 l.state s.state l.table_seat.place.me.0 s.table_seat.place.me.0 l.table_seat.moving s.table_seat.moving c.make_next-turn.result.0 i.ran named e some);
-      last = last_more g.T.Kept.follows g.T.Kept.fits first.table_seat.number first.state first.table_seat.place.me.0 l.state s.state l.table_seat.place.me.0 s.table_seat.place.me.0 l.table_seat.moving s.table_seat.moving c.make_next-turn.result.0 i.ran named e i.keeps ∙ i.last;
-      ran = ran_more g.T.Kept.follows g.T.Kept.fits first.table_seat.number first.state first.table_seat.place.me.0 l.state s.state l.table_seat.place.me.0 s.table_seat.place.me.0 l.table_seat.moving s.table_seat.moving c.make_next-turn.result.0 i.ran named e;
+      bounded = omega (arith, less, kept);
+      spends = spends_within due0 due0 due2 0 first.table_seat.place.me.0.trail s.table_seat.place.me.0.trail (omega arith) (omega arith) spends;
+      none = none;
     }

@@ -1,4 +1,4 @@
-use Rattle.std.proofs.Common.{ℕ, ◌∙◌, ◌+◌, length, refl, sym, ap, subst, arith}
+use Rattle.std.proofs.Common.{rules, ℕ, ◌∙◌, ◌+◌, length, refl, sym, ap, subst, arith}
 use Rattle.lfm_model.specs.declared.answers.Asked.{Asked}
 use Rattle.lfm_model.specs.declared.answers.How.{How}
 use Rattle.lfm_protocol.specs.declared.answers.Answer.{Answer}
@@ -38,8 +38,8 @@ returns-then-found-ne0-clause-made g c =
     let q = made_of 0 t ps LockOwnerLoad in let r = c.queue.new.seat in
     let first = course_next g.T.Kept.follows g.T.Kept.fits s.table_seat.number (made_of 0 t ps LockCountAdd) s.table_seat.moving s.table_seat.place.me.0 s.table_seat.place.table_id.words s.table_seat.place.id s.table_seat.limits (made_of 0 t ps LockCountAdd) f.result s.table_seat.place.me s.table_seat.moving f.new.seat.place.me f.new.seat.moving f.new.seat.place.table_id.words f.new.seat.place.id (opens q)
     (course_none g.T.Kept.follows g.T.Kept.fits s.table_seat.number (made_of 0 t ps LockCountAdd) s.table_seat.moving s.table_seat.place.me.0) fit (told_before f.ensures.same f.ensures.step) (added_some 0 t ps s.table_seat.number f.result (oldest_in f.new.seat.moving) c.if-found-ne0.true) (λ e. cc) refl in
-    let last = course_join g.T.Kept.follows g.T.Kept.fits s.table_seat.number (made_of 0 t ps LockCountAdd) s.table_seat.moving s.table_seat.place.me.0 q r.state f.new.seat.moving r.table_seat.moving f.new.seat.place.me.0 r.table_seat.place.me.0 (Ended (Answer.Asked c.queue.result.0)) first (subst (λ (x : SeatState). Course g.T.Kept.follows g.T.Kept.fits s.table_seat.number x f.new.seat.moving f.new.seat.place.me.0 (Ended (Answer.Asked c.queue.result.0)) r.state r.table_seat.moving r.table_seat.place.me.0) (c.stop_at.ensures ∙ (λ i. record { depth = c.requires.flat i; takes = t; posts = ps; point = LockOwnerLoad })) (course_same f.ensures.same.0 c.queue.ensures.made)) in
-    comes g.T.Kept.follows g.T.Kept.fits s.table_seat.number (made_of 0 t ps LockCountAdd) s.table_seat.moving s.table_seat.place.me.0 r.table_seat.number s.table_seat.limits c.args.mutex.now.limits Call.Lock s.state r.state (Ended (Answer.Asked c.queue.result.0)) r.table_seat.moving r.table_seat.place.me.0 c.requires.belongs.1 (c.queue.ensures.same.0 ∙ f.ensures.same.0) refl begins refl last
+    let last = course_join g.T.Kept.follows g.T.Kept.fits s.table_seat.number (made_of 0 t ps LockCountAdd) s.table_seat.moving s.table_seat.place.me.0 q r.state f.new.seat.moving r.table_seat.moving f.new.seat.place.me.0 r.table_seat.place.me.0 (Ended (Answer.Asked c.queue.result.0)) first (subst (λ (x : SeatState). Course g.T.Kept.follows g.T.Kept.fits s.table_seat.number x f.new.seat.moving f.new.seat.place.me.0 (Ended (Answer.Asked c.queue.result.0)) r.state r.table_seat.moving r.table_seat.place.me.0) (c.stop_at.ensures ∙ (λ i. record { depth = c.requires.flat i; takes = t; posts = ps; point = LockOwnerLoad })) (course_same f.ensures.same.0 c.queue.ensures.finishes.made)) in
+    comes g.T.Kept.follows g.T.Kept.fits s.table_seat.number (made_of 0 t ps LockCountAdd) s.table_seat.moving s.table_seat.place.me.0 r.table_seat.number s.table_seat.limits c.args.mutex.now.limits Call.Lock s.state r.state (Ended (Answer.Asked c.queue.result.0)) r.table_seat.moving r.table_seat.place.me.0 c.requires.belongs.1 (c.queue.ensures.finishes.kept.same.0 ∙ f.ensures.same.0) refl begins refl last
 
 pub returns-clause-made : goal.returns-clause-made
 returns-clause-made g c =
@@ -91,15 +91,15 @@ pub returns-then-found-ne0-clause-wakes : goal.returns-then-found-ne0-clause-wak
 returns-then-found-ne0-clause-wakes g c =
     let s = c.args.seat.now in let f = c.gain-found in let on = c.queue in
     subst (λ (n : ℕ). Wakes n on.result.1 s.table_seat.place.me.0.trail on.new.seat.table_seat.place.me.0.trail) (ap (λ l. l.seats) c.requires.belongs.1)
-    (wakes_after s.table_seat.limits.seats on.result.1 s.table_seat.place.me.0.trail f.new.seat.place.me.0.trail on.new.seat.table_seat.place.me.0.trail (grants_none g.T.Kept.follows g.T.Kept.fits _ _ _ _ _ _ _ f.ensures.step.event refl) (wakes_same on.result.1 f.new.seat.place.me.0.trail on.new.seat.table_seat.place.me.0.trail f.ensures.same.1 on.ensures.wakes))
+    (wakes_after s.table_seat.limits.seats on.result.1 s.table_seat.place.me.0.trail f.new.seat.place.me.0.trail on.new.seat.table_seat.place.me.0.trail (grants_none g.T.Kept.follows g.T.Kept.fits _ _ _ _ _ _ _ f.ensures.step.event refl) (wakes_same on.result.1 f.new.seat.place.me.0.trail on.new.seat.table_seat.place.me.0.trail f.ensures.same.1 on.ensures.finishes.wakes))
 
 pub returns-clause-wakes : goal.returns-clause-wakes
 returns-clause-wakes g c =
     let s = c.args.seat.now in let f = c.gain-found in let h = c.keep_held in
     wakes_none c.args.mutex.now.limits.seats s.table_seat.place.me.0.trail h.new.seat.place.me.0.trail (grants_none g.T.Kept.follows g.T.Kept.fits _ _ _ _ _ _ _ h.ensures.step.event refl ∙ grants_none g.T.Kept.follows g.T.Kept.fits _ _ _ _ _ _ _ f.ensures.step.event refl)
 
-pub returns-then-found-ne0-clause-run : goal.returns-then-found-ne0-clause-run
-returns-then-found-ne0-clause-run g c = run_next (run_made c.gain-found.ensures.step) c.queue.ensures.made.ran.run
+pub returns-then-found-ne0-clause-acts : goal.returns-then-found-ne0-clause-acts
+returns-then-found-ne0-clause-acts g c = record { belongs = search rules; run = run_next (run_made c.gain-found.ensures.step) c.queue.ensures.finishes.made.ran.run; woken = search rules }
 
-pub returns-clause-run : goal.returns-clause-run
-returns-clause-run g c = run_next (run_made c.gain-found.ensures.step) (run_made c.keep_held.ensures.step)
+pub returns-clause-acts : goal.returns-clause-acts
+returns-clause-acts g c = record { belongs = search rules; run = run_next (run_made c.gain-found.ensures.step) (run_made c.keep_held.ensures.step); woken = search rules }

@@ -1,4 +1,4 @@
-use Rattle.std.proofs.Common.{◌≡◌, ◌≢◌, ℕ, ◌∙◌, Option, sym, subst, refl, arith, length}
+use Rattle.std.proofs.Common.{rules, ◌≡◌, ◌≢◌, ℕ, ◌∙◌, Option, sym, subst, refl, arith, length}
 use Rattle.lfm_model.specs.declared.answers.Asked.{Asked}
 use Rattle.lfm_protocol.specs.declared.answers.Answer.{Answer}
 use Rattle.lfm_protocol.specs.declared.answers.Turn.{Turn}
@@ -21,7 +21,7 @@ use Rattle.lfm_mutex.specs.calls.Pushes.{PlainCourse}
 use Rattle.lfm_mutex.specs.calls.Runs.{opens}
 use Rattle.lfm_mutex.specs.calls.FastPath.{Course}
 use Rattle.lfm_mutex.specs.calls.Stops.{push_stop_point}
-use Rattle.lfm_mutex.proofs.runs.GoesOn.{rest_course, rest_spends, rest_wakes}
+use Rattle.lfm_mutex.proofs.runs.GoesOn.{rest_finishes, rest_spends}
 use Rattle.lfm_mutex.proofs.runs.PlainCourses.{plain_none, plain_next, plain_join}
 use Rattle.lfm_mutex.proofs.runs.Spending.{spends_within}
 use Rattle.lfm_mutex.proofs.runs.FastPathPoints.{not_owned}
@@ -46,11 +46,16 @@ pub push-requires-clause-fit : goal.push-requires-clause-fit
 push-requires-clause-fit g c κs within = let x = c.args.seat.now.state in let h = c.load_other_owner in
     subst (λ (z : Stepped). SeatFits h.new.seat z.seat) (not_owned 0 x.takes x.posts h.new.seat.number h.result (oldest_in h.new.seat.moving) (λ e. h.ensures.other (e ∙ h.ensures.same.0))) h.ensures.step.fit
 
-pub returns-in-Queued-clause-made : goal.returns-in-Queued-clause-made
-returns-in-Queued-clause-made g c =
-    let s = c.args.seat.now in let h = c.load_other_owner in let p = c.push in let x = s.state in
-    let so = plain_join (loads_owner x c.requires.stands c.requires.flat (record { seated = s.seated; became = s.became; ready = s.ready; rooted = s.rooted }) (told_before h.ensures.same h.ensures.step) h.ensures.other) (goes_on h.ensures.same c.in-Queued.ensures.made) in
-    subst (λ (z : ℕ). Course g.T.Kept.follows g.T.Kept.fits s.table_seat.number x s.table_seat.moving s.table_seat.place.me.0 (Ended (Answer.Asked Asked.Asleep)) (record x { depth = z; point = Asleep Sleeper.Locker }) p.new.seat.moving p.new.seat.place.me.0) (sym c.requires.flat) so.course
+pub returns-in-Queued-clause-finishes : goal.returns-in-Queued-clause-finishes
+returns-in-Queued-clause-finishes g c = record {
+  kept = search rules;
+  made = let s = c.args.seat.now in let h = c.load_other_owner in let p = c.push in let x = s.state in
+      let so = plain_join (loads_owner x c.requires.stands c.requires.flat (record { seated = s.seated; became = s.became; ready = s.ready; rooted = s.rooted }) (told_before h.ensures.same h.ensures.step) h.ensures.other) (goes_on h.ensures.same c.in-Queued.ensures.made) in
+      subst (λ (z : ℕ). Course g.T.Kept.follows g.T.Kept.fits s.table_seat.number x s.table_seat.moving s.table_seat.place.me.0 (Ended (Answer.Asked Asked.Asleep)) (record x { depth = z; point = Asleep Sleeper.Locker }) p.new.seat.moving p.new.seat.place.me.0) (sym c.requires.flat) so.course;
+  wakes = let s = c.args.seat.now in let h = c.load_other_owner in let p = c.push in
+      let so = plain_join (loads_owner s.state c.requires.stands c.requires.flat (record { seated = s.seated; became = s.became; ready = s.ready; rooted = s.rooted }) (told_before h.ensures.same h.ensures.step) h.ensures.other) (goes_on h.ensures.same c.in-Queued.ensures.made) in
+      wakes_none s.table_seat.limits.seats s.table_seat.place.me.0.trail p.new.seat.place.me.0.trail so.grants;
+}
 
 pub returns-in-Queued-clause-spends : goal.returns-in-Queued-clause-spends
 returns-in-Queued-clause-spends g c =
@@ -59,30 +64,15 @@ returns-in-Queued-clause-spends g c =
     let all = due n (length s.table_seat.place.me.0.popped) s.state.point in
     spends_within all all (due n (length p.new.seat.place.me.0.popped) (Asleep Sleeper.Locker)) 0 s.table_seat.place.me.0.trail p.new.seat.place.me.0.trail (omega arith) (omega arith) so.spends
 
-pub returns-in-Queued-clause-wakes : goal.returns-in-Queued-clause-wakes
-returns-in-Queued-clause-wakes g c =
-    let s = c.args.seat.now in let h = c.load_other_owner in let p = c.push in
-    let so = plain_join (loads_owner s.state c.requires.stands c.requires.flat (record { seated = s.seated; became = s.became; ready = s.ready; rooted = s.rooted }) (told_before h.ensures.same h.ensures.step) h.ensures.other) (goes_on h.ensures.same c.in-Queued.ensures.made) in
-    wakes_none s.table_seat.limits.seats s.table_seat.place.me.0.trail p.new.seat.place.me.0.trail so.grants
-
 -- the seat is at the point where the slow path takes over
 stops : (x : SeatState) (q : Point) → x.depth ≡ 0 → record x { point = q } ≡ made_of 0 x.takes x.posts q
 stops x q flat = λ i. record { depth = flat i; takes = x.takes; posts = x.posts; point = q }
 
-pub returns-in-Stopped-clause-made : goal.returns-in-Stopped-clause-made
-returns-in-Stopped-clause-made g c =
+pub returns-in-Stopped : goal.returns-in-Stopped
+returns-in-Stopped g c =
     let s = c.args.seat.now in let h = c.load_other_owner in let p = c.push in let on = c.finish_ask in let x = s.state in
     let so = plain_join (loads_owner x c.requires.stands c.requires.flat (record { seated = s.seated; became = s.became; ready = s.ready; rooted = s.rooted }) (told_before h.ensures.same h.ensures.step) h.ensures.other) (goes_on h.ensures.same c.in-Stopped.ensures.made) in
-    rest_course so (c.stop_at_push.ensures ∙ stops x (push_stop_point Pusher.Locker c.in-Stopped.stop) c.requires.flat) (same_then h.ensures.same p.ensures.same) on.ensures.made
-
-pub returns-in-Stopped-clause-spends : goal.returns-in-Stopped-clause-spends
-returns-in-Stopped-clause-spends g c =
-    let s = c.args.seat.now in let h = c.load_other_owner in let p = c.push in let on = c.finish_ask in let x = s.state in
-    let so = plain_join (loads_owner x c.requires.stands c.requires.flat (record { seated = s.seated; became = s.became; ready = s.ready; rooted = s.rooted }) (told_before h.ensures.same h.ensures.step) h.ensures.other) (goes_on h.ensures.same c.in-Stopped.ensures.made) in
-    rest_spends so (c.stop_at_push.ensures ∙ stops x (push_stop_point Pusher.Locker c.in-Stopped.stop) c.requires.flat) (same_then h.ensures.same p.ensures.same) on.ensures.spends
-
-pub returns-in-Stopped-clause-wakes : goal.returns-in-Stopped-clause-wakes
-returns-in-Stopped-clause-wakes g c =
-    let s = c.args.seat.now in let h = c.load_other_owner in let p = c.push in let on = c.finish_ask in let x = s.state in
-    let so = plain_join (loads_owner x c.requires.stands c.requires.flat (record { seated = s.seated; became = s.became; ready = s.ready; rooted = s.rooted }) (told_before h.ensures.same h.ensures.step) h.ensures.other) (goes_on h.ensures.same c.in-Stopped.ensures.made) in
-    rest_wakes so (c.stop_at_push.ensures ∙ stops x (push_stop_point Pusher.Locker c.in-Stopped.stop) c.requires.flat) (same_then h.ensures.same p.ensures.same) on.result.1 on.ensures.wakes
+    record {
+      finishes = rest_finishes so (c.stop_at_push.ensures ∙ stops x (push_stop_point Pusher.Locker c.in-Stopped.stop) c.requires.flat) on.ensures.finishes (search rules);
+      spends = rest_spends so (c.stop_at_push.ensures ∙ stops x (push_stop_point Pusher.Locker c.in-Stopped.stop) c.requires.flat) (same_then h.ensures.same p.ensures.same) on.ensures.spends;
+    }

@@ -1,4 +1,4 @@
-use Rattle.std.proofs.Common.{ℕ, refl, sym, ap, subst, ◌∙◌, arith, Some, None}
+use Rattle.std.proofs.Common.{rules, ℕ, refl, sym, ap, subst, ◌∙◌, arith, Some, None}
 use Rattle.std.proofs.lemmas.Bool.{leb-true, leb-false}
 use Rattle.lfm_model.specs.declared.answers.How.{How}
 use Rattle.lfm_protocol.specs.declared.answers.Answer.{Answer}
@@ -53,8 +53,9 @@ returns-clause-made g c =
     let third = course_next g.T.Kept.follows g.T.Kept.fits s.table_seat.number p0 s.table_seat.moving s.table_seat.place.me.0 h.new.seat.place.table_id.words h.new.seat.place.id s.table_seat.limits p2 k.result h.new.seat.place.me h.new.seat.moving k.new.seat.place.me k.new.seat.moving k.new.seat.place.table_id.words k.new.seat.place.id (stepped_by p2 s.table_seat.number k.result (oldest_in k.new.seat.moving)) second fit2 (told_before (same_then (same_then f.ensures.same h.ensures.same) k.ensures.same) k.ensures.step) refl (λ e. cc) refl in
     comes g.T.Kept.follows g.T.Kept.fits s.table_seat.number p0 s.table_seat.moving s.table_seat.place.me.0 k.new.seat.number s.table_seat.limits c.args.mutex.now.limits Call.Receive s.state (made_of 1 t ps Rest) (Ended (Answer.Got (Some how))) k.new.seat.moving k.new.seat.place.me.0 c.requires.belongs.1 (same_then (same_then f.ensures.same h.ensures.same) k.ensures.same).0 refl begins refl third
 
-pub returns-then-not-is_grant_word-clause-run : goal.returns-then-not-is_grant_word-clause-run
-returns-then-not-is_grant_word-clause-run g c = run_made c.gain_by_grant-found.ensures.step
+pub returns-then-not-is_grant_word-clause-acts : goal.returns-then-not-is_grant_word-clause-acts
+returns-then-not-is_grant_word-clause-acts g c = record { belongs = search rules; run = run_made c.gain_by_grant-found.ensures.step; woken = search rules }
 
-pub returns-clause-run : goal.returns-clause-run
-returns-clause-run g c = run_next (run_made c.gain_by_grant-found.ensures.step) (run_next (run_made c.keep.ensures.step) (run_made c.keep_held.ensures.step))
+pub returns-clause-acts : goal.returns-clause-acts
+returns-clause-acts g c =
+    record { belongs = search rules; woken = search rules; run = run_next (run_made c.gain_by_grant-found.ensures.step) (run_next (run_made c.keep.ensures.step) (run_made c.keep_held.ensures.step)) }

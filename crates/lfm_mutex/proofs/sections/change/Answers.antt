@@ -3,8 +3,9 @@ use Rattle.lfm_mutex.proofs.runs.RunGoesOn.{run_stays_at}
 use Rattle.lfm_mutex.proofs.sections.change.Goals as goal
 
 -- what is written through the borrow changes only the value
-pub returns-clause-belongs : goal.returns-clause-belongs
-returns-clause-belongs g c = let h = rw c.in-Some.is at (c.value_mut.follows.holds c.f.new.arg2) in (ap (λ p. p.table_id) h.1, h.3)
+pub returns-clause-acts : goal.returns-clause-acts
+returns-clause-acts g c = let h = rw c.in-Some.is at (c.value_mut.follows.holds c.f.new.arg2) in
+    record { belongs = (ap (λ p. p.table_id) h.1, h.3); run = run_stays_at (ap (λ p. p.me.0) h.1); woken = h.5 }
 
 pub returns-clause-changes : goal.returns-clause-changes
 returns-clause-changes g c = let h = rw c.in-Some.is at (c.value_mut.follows.holds c.f.new.arg2) in (
@@ -14,9 +15,3 @@ returns-clause-changes g c = let h = rw c.in-Some.is at (c.value_mut.follows.hol
   search rules,
   h.0,
 )
-
-pub returns-clause-woken : goal.returns-clause-woken
-returns-clause-woken g c = let h = rw c.in-Some.is at (c.value_mut.follows.holds c.f.new.arg2) in ap (λ w. w.seats) h.5
-
-pub returns-clause-run : goal.returns-clause-run
-returns-clause-run g c = let h = rw c.in-Some.is at (c.value_mut.follows.holds c.f.new.arg2) in run_stays_at (ap (λ p. p.me.0) h.1)

@@ -1,4 +1,4 @@
-use Rattle.std.proofs.Common.{◌+◌, ℕ, refl, sym, ap, subst, ◌∙◌, arith}
+use Rattle.std.proofs.Common.{rules, ◌+◌, ℕ, refl, sym, ap, subst, ◌∙◌, arith}
 use Rattle.lfm_model.specs.declared.refusals.Refusal.{Refusal}
 use Rattle.lfm_protocol.specs.declared.answers.Call.{Call}
 use Rattle.lfm_protocol.specs.declared.answers.Turn.TheVariants.{Refused}
@@ -61,8 +61,8 @@ returns-then-seat-eq0-clause-made g c =
     let q = made_of d t ps (SendCountAdd u) in let on = c.send_without_hold in let r = on.new.seat in
     let so = course_next g.T.Kept.follows g.T.Kept.fits s.table_seat.number p0 a s.table_seat.place.me.0 s.table_seat.place.table_id.words s.table_seat.place.id s.table_seat.limits p0 f.result s.table_seat.place.me a f.new.seat.place.me b f.new.seat.place.table_id.words f.new.seat.place.id (opens q)
     (course_none g.T.Kept.follows g.T.Kept.fits s.table_seat.number p0 a s.table_seat.place.me.0) fit (told_before f.ensures.same f.ensures.step) (claims_it d t ps s.table_seat.number f.result u (oldest_in b) (c.if-found-waiting.false ∙ c.to_word-waiting.ensures)) (λ e. cc) refl in
-    comes g.T.Kept.follows g.T.Kept.fits s.table_seat.number p0 a s.table_seat.place.me.0 r.table_seat.number s.table_seat.limits c.args.mutex.now.limits (Call.SendLock u) s.state r.state (send_turn on.result.0) r.table_seat.moving r.table_seat.place.me.0 c.requires.belongs.1 (on.ensures.same.0 ∙ f.ensures.same.0) refl begins on.ensures.ends
-    (course_join g.T.Kept.follows g.T.Kept.fits s.table_seat.number p0 a s.table_seat.place.me.0 q r.state b r.table_seat.moving f.new.seat.place.me.0 r.table_seat.place.me.0 (send_turn on.result.0) so (course_same f.ensures.same.0 on.ensures.made))
+    comes g.T.Kept.follows g.T.Kept.fits s.table_seat.number p0 a s.table_seat.place.me.0 r.table_seat.number s.table_seat.limits c.args.mutex.now.limits (Call.SendLock u) s.state r.state (send_turn on.result.0) r.table_seat.moving r.table_seat.place.me.0 c.requires.belongs.1 (on.ensures.finishes.kept.same.0 ∙ f.ensures.same.0) refl begins on.ensures.ends
+    (course_join g.T.Kept.follows g.T.Kept.fits s.table_seat.number p0 a s.table_seat.place.me.0 q r.state b r.table_seat.moving f.new.seat.place.me.0 r.table_seat.place.me.0 (send_turn on.result.0) so (course_same f.ensures.same.0 on.ensures.finishes.made))
 
 pub returns-then-seat-eq0-clause-bounded : goal.returns-then-seat-eq0-clause-bounded
 returns-then-seat-eq0-clause-bounded g c =
@@ -79,7 +79,7 @@ pub returns-then-seat-eq0-clause-wakes : goal.returns-then-seat-eq0-clause-wakes
 returns-then-seat-eq0-clause-wakes g c =
     let s = c.args.seat.now in let f = c.keep-found in let on = c.send_without_hold in
     subst (λ (n : ℕ). Wakes n on.result.1 s.table_seat.place.me.0.trail on.new.seat.table_seat.place.me.0.trail) (ap (λ l. l.seats) c.requires.belongs.1)
-    (wakes_after s.table_seat.limits.seats on.result.1 s.table_seat.place.me.0.trail f.new.seat.place.me.0.trail on.new.seat.table_seat.place.me.0.trail (grants_none g.T.Kept.follows g.T.Kept.fits _ _ _ _ _ _ _ (told_before f.ensures.same f.ensures.step).event refl) (wakes_same on.result.1 f.new.seat.place.me.0.trail on.new.seat.table_seat.place.me.0.trail f.ensures.same.1 on.ensures.wakes))
+    (wakes_after s.table_seat.limits.seats on.result.1 s.table_seat.place.me.0.trail f.new.seat.place.me.0.trail on.new.seat.table_seat.place.me.0.trail (grants_none g.T.Kept.follows g.T.Kept.fits _ _ _ _ _ _ _ (told_before f.ensures.same f.ensures.step).event refl) (wakes_same on.result.1 f.new.seat.place.me.0.trail on.new.seat.table_seat.place.me.0.trail f.ensures.same.1 on.ensures.finishes.wakes))
 
 pub returns-clause-made : goal.returns-clause-made
 returns-clause-made g c =
@@ -90,8 +90,8 @@ returns-clause-made g c =
     let q = made_of d t ps (SendCountAdd u) in let on = c.send_with_hold in let r = on.new.seat in
     let so = course_next g.T.Kept.follows g.T.Kept.fits s.table_seat.number p0 a s.table_seat.place.me.0 s.table_seat.place.table_id.words s.table_seat.place.id s.table_seat.limits p0 f.result s.table_seat.place.me a f.new.seat.place.me b f.new.seat.place.table_id.words f.new.seat.place.id (opens q)
     (course_none g.T.Kept.follows g.T.Kept.fits s.table_seat.number p0 a s.table_seat.place.me.0) fit (told_before f.ensures.same f.ensures.step) (claims_it d t ps s.table_seat.number f.result u (oldest_in b) (c.if-found-waiting.false ∙ c.to_word-waiting.ensures)) (λ e. cc) refl in
-    comes g.T.Kept.follows g.T.Kept.fits s.table_seat.number p0 a s.table_seat.place.me.0 r.table_seat.number s.table_seat.limits c.args.mutex.now.limits (Call.SendLock u) s.state r.state (send_turn on.result.0) r.table_seat.moving r.table_seat.place.me.0 c.requires.belongs.1 (on.ensures.same.0 ∙ f.ensures.same.0) refl begins on.ensures.ends
-    (course_join g.T.Kept.follows g.T.Kept.fits s.table_seat.number p0 a s.table_seat.place.me.0 q r.state b r.table_seat.moving f.new.seat.place.me.0 r.table_seat.place.me.0 (send_turn on.result.0) so (course_same f.ensures.same.0 on.ensures.made))
+    comes g.T.Kept.follows g.T.Kept.fits s.table_seat.number p0 a s.table_seat.place.me.0 r.table_seat.number s.table_seat.limits c.args.mutex.now.limits (Call.SendLock u) s.state r.state (send_turn on.result.0) r.table_seat.moving r.table_seat.place.me.0 c.requires.belongs.1 (on.ensures.finishes.kept.same.0 ∙ f.ensures.same.0) refl begins on.ensures.ends
+    (course_join g.T.Kept.follows g.T.Kept.fits s.table_seat.number p0 a s.table_seat.place.me.0 q r.state b r.table_seat.moving f.new.seat.place.me.0 r.table_seat.place.me.0 (send_turn on.result.0) so (course_same f.ensures.same.0 on.ensures.finishes.made))
 
 pub returns-clause-bounded : goal.returns-clause-bounded
 returns-clause-bounded g c =
@@ -108,13 +108,14 @@ pub returns-clause-wakes : goal.returns-clause-wakes
 returns-clause-wakes g c =
     let s = c.args.seat.now in let f = c.keep-found in let on = c.send_with_hold in
     subst (λ (n : ℕ). Wakes n on.result.1 s.table_seat.place.me.0.trail on.new.seat.table_seat.place.me.0.trail) (ap (λ l. l.seats) c.requires.belongs.1)
-    (wakes_after s.table_seat.limits.seats on.result.1 s.table_seat.place.me.0.trail f.new.seat.place.me.0.trail on.new.seat.table_seat.place.me.0.trail (grants_none g.T.Kept.follows g.T.Kept.fits _ _ _ _ _ _ _ (told_before f.ensures.same f.ensures.step).event refl) (wakes_same on.result.1 f.new.seat.place.me.0.trail on.new.seat.table_seat.place.me.0.trail f.ensures.same.1 on.ensures.wakes))
+    (wakes_after s.table_seat.limits.seats on.result.1 s.table_seat.place.me.0.trail f.new.seat.place.me.0.trail on.new.seat.table_seat.place.me.0.trail (grants_none g.T.Kept.follows g.T.Kept.fits _ _ _ _ _ _ _ (told_before f.ensures.same f.ensures.step).event refl) (wakes_same on.result.1 f.new.seat.place.me.0.trail on.new.seat.table_seat.place.me.0.trail f.ensures.same.1 on.ensures.finishes.wakes))
 
-pub returns-then-found-waiting-clause-run : goal.returns-then-found-waiting-clause-run
-returns-then-found-waiting-clause-run g c = run_made c.keep-found.ensures.step
+pub returns-then-found-waiting-clause-acts : goal.returns-then-found-waiting-clause-acts
+returns-then-found-waiting-clause-acts g c = record { belongs = search rules; run = run_made c.keep-found.ensures.step; woken = search rules }
 
-pub returns-then-seat-eq0-clause-run : goal.returns-then-seat-eq0-clause-run
-returns-then-seat-eq0-clause-run g c = run_next (run_made c.keep-found.ensures.step) c.send_without_hold.ensures.made.ran.run
+pub returns-then-seat-eq0-clause-acts : goal.returns-then-seat-eq0-clause-acts
+returns-then-seat-eq0-clause-acts g c =
+    record { belongs = search rules; woken = search rules; run = run_next (run_made c.keep-found.ensures.step) c.send_without_hold.ensures.finishes.made.ran.run }
 
-pub returns-clause-run : goal.returns-clause-run
-returns-clause-run g c = run_next (run_made c.keep-found.ensures.step) c.send_with_hold.ensures.made.ran.run
+pub returns-clause-acts : goal.returns-clause-acts
+returns-clause-acts g c = record { belongs = search rules; run = run_next (run_made c.keep-found.ensures.step) c.send_with_hold.ensures.finishes.made.ran.run; woken = search rules }

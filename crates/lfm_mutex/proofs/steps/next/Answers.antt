@@ -1,9 +1,7 @@
-use Rattle.std.proofs.Common.{rules}
+use Rattle.std.proofs.Common.{rules, refl}
 use Rattle.lfm_table.proofs.tables.Actions.{run_same}
+use Rattle.lfm_mutex.proofs.runs.Woken.{woken_none}
 use Rattle.lfm_mutex.proofs.steps.next.Goals as goal
 
-pub returns-in-Some-CountAdd-clause-steps : goal.returns-in-Some-CountAdd-clause-steps
-returns-in-Some-CountAdd-clause-steps g c = search rules
-
-pub returns-in-None-clause-run : goal.returns-in-None-clause-run
-returns-in-None-clause-run g c = run_same
+pub returns-in-None : goal.returns-in-None
+returns-in-None g c = record { acts = record { belongs = search rules; run = run_same; woken = woken_none c.args.seat.now c.args.seat.now refl refl }; step = search rules }

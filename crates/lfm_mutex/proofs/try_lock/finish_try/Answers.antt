@@ -13,4 +13,4 @@ pub returns-in-Ended-Locked-clause-made : goal.returns-in-Ended-Locked-clause-ma
 returns-in-Ended-Locked-clause-made g c = let s = c.args.seat.now in let r = c.finish-turn.new.seat in let f = c.finish-turn.ensures in
     let e : c.finish-turn.result.0 ≡ Ended (Answer.Locked c.in-Ended-Locked.locked) = search rules in
     subst (λ (x : Turn). Course g.T.Kept.follows g.T.Kept.fits s.table_seat.number s.state s.table_seat.moving s.table_seat.place.me.0 x r.state r.table_seat.moving r.table_seat.place.me.0) e
-    (record { ran = f.ran; concludes = f.concludes; stays = f.stays; last = f.last; held = f.held })
+    f.finishes.made

@@ -1,4 +1,4 @@
-use Rattle.std.proofs.Common.{◌+◌, ◌∙◌, refl, sym, subst}
+use Rattle.std.proofs.Common.{rules, ◌+◌, ◌∙◌, refl, sym, subst}
 use Rattle.lfm_model.specs.declared.answers.Locked.{Locked}
 use Rattle.lfm_model.specs.declared.answers.How.{How}
 use Rattle.lfm_protocol.specs.declared.answers.Answer.{Answer}
@@ -32,7 +32,7 @@ returns-then-found-eq0-clause-made g c =
     let first = course_next g.T.Kept.follows g.T.Kept.fits s.table_seat.number p0 s.table_seat.moving s.table_seat.place.me.0 s.table_seat.place.table_id.words s.table_seat.place.id s.table_seat.limits p0 f.result s.table_seat.place.me s.table_seat.moving f.new.seat.place.me f.new.seat.moving f.new.seat.place.table_id.words f.new.seat.place.id (opens q) (course_none g.T.Kept.follows g.T.Kept.fits s.table_seat.number p0 s.table_seat.moving s.table_seat.place.me.0) fit (told_before f.ensures.same f.ensures.step) (exchanged_none d t ps s.table_seat.number f.result (oldest_in f.new.seat.moving) c.if-found-eq0.true) (λ e. cc) refl in
     let last = course_join g.T.Kept.follows g.T.Kept.fits s.table_seat.number p0 s.table_seat.moving s.table_seat.place.me.0 q r.state f.new.seat.moving r.table_seat.moving f.new.seat.place.me.0 r.table_seat.place.me.0 (try_turn c.finish_try.result) first
     (subst (λ (x : SeatState). Course g.T.Kept.follows g.T.Kept.fits s.table_seat.number x f.new.seat.moving f.new.seat.place.me.0 (try_turn c.finish_try.result) r.state r.table_seat.moving r.table_seat.place.me.0) c.stop_at.ensures (course_same f.ensures.same.0 c.finish_try.ensures.made)) in
-    comes g.T.Kept.follows g.T.Kept.fits s.table_seat.number p0 s.table_seat.moving s.table_seat.place.me.0 r.table_seat.number s.table_seat.limits c.args.mutex.now.limits Call.TryLock s.state r.state (try_turn c.finish_try.result) r.table_seat.moving r.table_seat.place.me.0 c.requires.belongs.1 (c.finish_try.ensures.same.0 ∙ f.ensures.same.0) refl begins c.finish_try.ensures.ends last
+    comes g.T.Kept.follows g.T.Kept.fits s.table_seat.number p0 s.table_seat.moving s.table_seat.place.me.0 r.table_seat.number s.table_seat.limits c.args.mutex.now.limits Call.TryLock s.state r.state (try_turn c.finish_try.result) r.table_seat.moving r.table_seat.place.me.0 c.requires.belongs.1 (c.finish_try.ensures.kept.same.0 ∙ f.ensures.same.0) refl begins c.finish_try.ensures.ends last
 
 pub returns-clause-made : goal.returns-clause-made
 returns-clause-made g c =
@@ -52,8 +52,9 @@ returns-clause-made g c =
     (λ i. record { depth = d + 1; takes = t; posts = ps; point = sym c.requires.rests i })
     (comes g.T.Kept.follows g.T.Kept.fits s.table_seat.number p0 s.table_seat.moving s.table_seat.place.me.0 h.new.seat.number s.table_seat.limits c.args.mutex.now.limits Call.TryLock s.state (made_of (d + 1) t ps Rest) (Ended (Answer.Locked (Locked.Again (d + 1)))) h.new.seat.moving h.new.seat.place.me.0 c.requires.belongs.1 (same_then f.ensures.same h.ensures.same).0 refl begins refl last)
 
-pub returns-then-found-eq0-clause-run : goal.returns-then-found-eq0-clause-run
-returns-then-found-eq0-clause-run g c = run_next (run_made c.keep_held-found.ensures.step) c.finish_try.ensures.made.ran.run
+pub returns-then-found-eq0-clause-acts : goal.returns-then-found-eq0-clause-acts
+returns-then-found-eq0-clause-acts g c = record { belongs = search rules; run = run_next (run_made c.keep_held-found.ensures.step) c.finish_try.ensures.made.ran.run; woken = search rules }
 
-pub returns-clause-run : goal.returns-clause-run
-returns-clause-run g c = run_next (run_made c.keep_held-found.ensures.step) (run_made c.keep_held-owner.ensures.step)
+pub returns-clause-acts : goal.returns-clause-acts
+returns-clause-acts g c =
+    record { belongs = search rules; woken = search rules; run = run_next (run_made c.keep_held-found.ensures.step) (run_made c.keep_held-owner.ensures.step) }

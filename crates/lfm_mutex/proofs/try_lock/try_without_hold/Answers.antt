@@ -1,4 +1,4 @@
-use Rattle.std.proofs.Common.{◌-◌, ◌≡◌, ◌+◌, refl, sym, ap, subst, ◌∙◌, arith}
+use Rattle.std.proofs.Common.{rules, ◌-◌, ◌≡◌, ◌+◌, refl, sym, ap, subst, ◌∙◌, arith}
 use Rattle.lfm_model.specs.declared.answers.Locked.{Locked}
 use Rattle.lfm_model.specs.declared.refusals.Refusal.{Refusal}
 use Rattle.lfm_model.specs.declared.answers.How.{How}
@@ -63,7 +63,7 @@ returns-then-is_posted_in-clause-made g c =
     let at : c.stop_at_post.new.state ≡ q = c.stop_at_post.ensures ∙ (λ i. record { depth = c.requires.flat i; takes = t; posts = ps; point = TryHandoffExchange (handoff_of k.result) }) in
     let last = course_join g.T.Kept.follows g.T.Kept.fits s.table_seat.number p0 s.table_seat.moving s.table_seat.place.me.0 q r.state k.new.seat.moving r.table_seat.moving k.new.seat.place.me.0 r.table_seat.place.me.0 (try_turn c.finish_try.result) third
     (subst (λ (x : SeatState). Course g.T.Kept.follows g.T.Kept.fits s.table_seat.number x k.new.seat.moving k.new.seat.place.me.0 (try_turn c.finish_try.result) r.state r.table_seat.moving r.table_seat.place.me.0) at (course_same (same_then (same_then f.ensures.same h.ensures.same) k.ensures.same).0 c.finish_try.ensures.made)) in
-    comes g.T.Kept.follows g.T.Kept.fits s.table_seat.number p0 s.table_seat.moving s.table_seat.place.me.0 r.table_seat.number s.table_seat.limits c.args.mutex.now.limits Call.TryLock s.state r.state (try_turn c.finish_try.result) r.table_seat.moving r.table_seat.place.me.0 c.requires.belongs.1 (c.finish_try.ensures.same.0 ∙ (same_then (same_then f.ensures.same h.ensures.same) k.ensures.same).0) refl begins c.finish_try.ensures.ends last
+    comes g.T.Kept.follows g.T.Kept.fits s.table_seat.number p0 s.table_seat.moving s.table_seat.place.me.0 r.table_seat.number s.table_seat.limits c.args.mutex.now.limits Call.TryLock s.state r.state (try_turn c.finish_try.result) r.table_seat.moving r.table_seat.place.me.0 c.requires.belongs.1 (c.finish_try.ensures.kept.same.0 ∙ (same_then (same_then f.ensures.same h.ensures.same) k.ensures.same).0) refl begins c.finish_try.ensures.ends last
 
 pub returns-clause-made : goal.returns-clause-made
 returns-clause-made g c =
@@ -97,11 +97,13 @@ invariant_of-seat-then-is_posted_in g c =
     let fit = subst (λ (x : SeatState). SeatFits k.new.seat x) (ap (λ (z : Stepped). z.seat) (posted 0 t ps k.new.seat.number k.result (oldest_in k.new.seat.moving) (sym c.is_posted_in.ensures ∙ c.if-is_posted_in.true)) ∙ sym at) k.ensures.step.fit in
     record { seated = fit.seated; became = fit.became; ready = fit.ready; rooted = fit.rooted }
 
-pub returns-then-found-eq0-clause-run : goal.returns-then-found-eq0-clause-run
-returns-then-found-eq0-clause-run g c = run_next (run_made c.gain-found.ensures.step) (run_made c.keep_held.ensures.step)
+pub returns-then-found-eq0-clause-acts : goal.returns-then-found-eq0-clause-acts
+returns-then-found-eq0-clause-acts g c = record { belongs = search rules; run = run_next (run_made c.gain-found.ensures.step) (run_made c.keep_held.ensures.step); woken = search rules }
 
-pub returns-then-is_posted_in-clause-run : goal.returns-then-is_posted_in-clause-run
-returns-then-is_posted_in-clause-run g c = run_next (run_made c.gain-found.ensures.step) (run_next (run_made c.load_other_owner.ensures.step) (run_next (run_made c.keep-handoff.ensures.step) c.finish_try.ensures.made.ran.run))
+pub returns-then-is_posted_in-clause-acts : goal.returns-then-is_posted_in-clause-acts
+returns-then-is_posted_in-clause-acts g c =
+    record { belongs = search rules; woken = search rules; run = run_next (run_made c.gain-found.ensures.step) (run_next (run_made c.load_other_owner.ensures.step) (run_next (run_made c.keep-handoff.ensures.step) c.finish_try.ensures.made.ran.run)) }
 
-pub returns-clause-run : goal.returns-clause-run
-returns-clause-run g c = run_next (run_made c.gain-found.ensures.step) (run_next (run_made c.load_other_owner.ensures.step) (run_made c.keep-handoff.ensures.step))
+pub returns-clause-acts : goal.returns-clause-acts
+returns-clause-acts g c =
+    record { belongs = search rules; woken = search rules; run = run_next (run_made c.gain-found.ensures.step) (run_next (run_made c.load_other_owner.ensures.step) (run_made c.keep-handoff.ensures.step)) }

@@ -1,4 +1,4 @@
-use Rattle.std.proofs.Common.{ap, sym, ◌-◌}
+use Rattle.std.proofs.Common.{rules, ap, sym, ◌-◌}
 use Rattle.lfm_protocol.specs.declared.answers.Call.{Call}
 use Rattle.lfm_model.specs.declared.answers.Unlocked.{Unlocked}
 use Rattle.lfm_protocol.specs.declared.answers.Answer.{Answer}
@@ -20,5 +20,5 @@ returns-clause-made g c = let s = c.args.seat.now in
     unlocks_once g.T.Kept.follows g.T.Kept.fits s.table_seat.number s.table_seat.limits c.args.mutex.now.limits s.state (record s.state { depth = s.state.depth - 1 }) s.table_seat.place.me.0 s.table_seat.moving (Ended (Answer.Unlocked (Unlocked.Still (s.state.depth - 1)))) c.requires.belongs.1
     (λ e. cc) (begins_still s.state s.table_seat.limits c.requires.rests c.requires.deep)
 
-pub returns-clause-run : goal.returns-clause-run
-returns-clause-run g c = run_same
+pub returns-clause-acts : goal.returns-clause-acts
+returns-clause-acts g c = record { belongs = search rules; run = run_same; woken = search rules }

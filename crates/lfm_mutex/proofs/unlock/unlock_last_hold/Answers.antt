@@ -1,4 +1,4 @@
-use Rattle.std.proofs.Common.{◌≡◌, ℕ, ◌+◌, ◌≤◌, length, refl, sym, ap, subst, ◌∙◌, arith}
+use Rattle.std.proofs.Common.{rules, ◌≡◌, ℕ, ◌+◌, ◌≤◌, length, refl, sym, ap, subst, ◌∙◌, arith}
 use Rattle.lfm_model.specs.declared.answers.Unlocked.{Unlocked}
 use Rattle.lfm_protocol.specs.declared.answers.Answer.{Answer}
 use Rattle.lfm_protocol.specs.declared.answers.Call.{Call}
@@ -51,9 +51,9 @@ returns-then-found-ne1-clause-made g c =
     let same : c.stop_at_serving.new.state ≡ q = c.stop_at_serving.ensures in
     let so = course_next g.T.Kept.follows g.T.Kept.fits s.table_seat.number p1 h.new.seat.moving h.new.seat.place.me.0 h.new.seat.place.table_id.words h.new.seat.place.id s.table_seat.limits p1 f.result h.new.seat.place.me h.new.seat.moving b.me f.new.seat.moving b.table_id.words b.id (opens q)
     (course_none g.T.Kept.follows g.T.Kept.fits s.table_seat.number p1 h.new.seat.moving h.new.seat.place.me.0) fit1 (told_before (same_then h.ensures.same f.ensures.same) f.ensures.step) (not_freed Unlocker 0 t ps s.table_seat.number f.result (oldest_in f.new.seat.moving) c.if-found-ne1.true) (λ e. cc) refl in
-    gives_up g.T.Kept.follows g.T.Kept.fits s.table_seat.number s.table_seat.place.table_id.words s.table_seat.place.id h.new.seat.place.table_id.words h.new.seat.place.id r.table_seat.number h.result s.table_seat.limits p0 p1 s.table_seat.place.me h.new.seat.place.me s.table_seat.moving h.new.seat.moving fit Unlocker refl (told_before h.ensures.same h.ensures.step) refl Call.Unlock c.args.mutex.now.limits s.state r.state turn r.table_seat.moving r.table_seat.place.me.0 refl c.requires.belongs.1 (c.serve.ensures.same.0 ∙ (same_then h.ensures.same f.ensures.same).0) begins refl
+    gives_up g.T.Kept.follows g.T.Kept.fits s.table_seat.number s.table_seat.place.table_id.words s.table_seat.place.id h.new.seat.place.table_id.words h.new.seat.place.id r.table_seat.number h.result s.table_seat.limits p0 p1 s.table_seat.place.me h.new.seat.place.me s.table_seat.moving h.new.seat.moving fit Unlocker refl (told_before h.ensures.same h.ensures.step) refl Call.Unlock c.args.mutex.now.limits s.state r.state turn r.table_seat.moving r.table_seat.place.me.0 refl c.requires.belongs.1 (c.serve.ensures.finishes.kept.same.0 ∙ (same_then h.ensures.same f.ensures.same).0) begins refl
     (course_join g.T.Kept.follows g.T.Kept.fits s.table_seat.number p1 h.new.seat.moving h.new.seat.place.me.0 q r.state f.new.seat.moving r.table_seat.moving b.me.0 r.table_seat.place.me.0 turn so
-    (subst (λ (x : SeatState). Course g.T.Kept.follows g.T.Kept.fits s.table_seat.number x f.new.seat.moving b.me.0 turn r.state r.table_seat.moving r.table_seat.place.me.0) same (course_same (same_then h.ensures.same f.ensures.same).0 c.serve.ensures.made)))
+    (subst (λ (x : SeatState). Course g.T.Kept.follows g.T.Kept.fits s.table_seat.number x f.new.seat.moving b.me.0 turn r.state r.table_seat.moving r.table_seat.place.me.0) same (course_same (same_then h.ensures.same f.ensures.same).0 c.serve.ensures.finishes.made)))
 
 pub returns-clause-made : goal.returns-clause-made
 returns-clause-made g c =
@@ -112,15 +112,16 @@ pub returns-then-found-ne1-clause-wakes : goal.returns-then-found-ne1-clause-wak
 returns-then-found-ne1-clause-wakes g c =
     let s = c.args.seat.now in let h = c.keep_held in let f = c.retake-found in let on = c.serve in
     subst (λ (n : ℕ). Wakes n on.result.1 s.table_seat.place.me.0.trail on.new.seat.table_seat.place.me.0.trail) (ap (λ l. l.seats) c.requires.belongs.1)
-    (wakes_after s.table_seat.limits.seats on.result.1 s.table_seat.place.me.0.trail f.new.seat.place.me.0.trail on.new.seat.table_seat.place.me.0.trail (grants_none g.T.Kept.follows g.T.Kept.fits _ _ _ _ _ _ _ f.ensures.step.event refl ∙ grants_none g.T.Kept.follows g.T.Kept.fits _ _ _ _ _ _ _ h.ensures.step.event refl) (wakes_same on.result.1 f.new.seat.place.me.0.trail on.new.seat.table_seat.place.me.0.trail (same_then h.ensures.same f.ensures.same).1 on.ensures.wakes))
+    (wakes_after s.table_seat.limits.seats on.result.1 s.table_seat.place.me.0.trail f.new.seat.place.me.0.trail on.new.seat.table_seat.place.me.0.trail (grants_none g.T.Kept.follows g.T.Kept.fits _ _ _ _ _ _ _ f.ensures.step.event refl ∙ grants_none g.T.Kept.follows g.T.Kept.fits _ _ _ _ _ _ _ h.ensures.step.event refl) (wakes_same on.result.1 f.new.seat.place.me.0.trail on.new.seat.table_seat.place.me.0.trail (same_then h.ensures.same f.ensures.same).1 on.ensures.finishes.wakes))
 
 pub returns-clause-wakes : goal.returns-clause-wakes
 returns-clause-wakes g c =
     let s = c.args.seat.now in let h = c.keep_held in let f = c.retake-found in
     wakes_none c.args.mutex.now.limits.seats s.table_seat.place.me.0.trail f.new.seat.place.me.0.trail (grants_none g.T.Kept.follows g.T.Kept.fits _ _ _ _ _ _ _ f.ensures.step.event refl ∙ grants_none g.T.Kept.follows g.T.Kept.fits _ _ _ _ _ _ _ h.ensures.step.event refl)
 
-pub returns-then-found-ne1-clause-run : goal.returns-then-found-ne1-clause-run
-returns-then-found-ne1-clause-run g c = run_next (run_made c.keep_held.ensures.step) (run_next (run_made c.retake-found.ensures.step) c.serve.ensures.made.ran.run)
+pub returns-then-found-ne1-clause-acts : goal.returns-then-found-ne1-clause-acts
+returns-then-found-ne1-clause-acts g c =
+    record { belongs = search rules; woken = search rules; run = run_next (run_made c.keep_held.ensures.step) (run_next (run_made c.retake-found.ensures.step) c.serve.ensures.finishes.made.ran.run) }
 
-pub returns-clause-run : goal.returns-clause-run
-returns-clause-run g c = run_next (run_made c.keep_held.ensures.step) (run_made c.retake-found.ensures.step)
+pub returns-clause-acts : goal.returns-clause-acts
+returns-clause-acts g c = record { belongs = search rules; run = run_next (run_made c.keep_held.ensures.step) (run_made c.retake-found.ensures.step); woken = search rules }

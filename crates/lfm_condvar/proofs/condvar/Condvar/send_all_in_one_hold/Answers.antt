@@ -1,6 +1,7 @@
 use Rattle.lfm_mutex.specs.Belongs.{limits_of}
 use Rattle.lfm_mutex.specs.calls.Sight.{sight}
 use Rattle.lfm_condvar.specs.Belongs.{cond_limits, cond_sight, cond_tries}
+use Rattle.lfm_condvar.proofs.HeldBack.{held_none}
 use Rattle.lfm_condvar.proofs.OneHold.{held_by, one_hold, woken_in_hold}
 use Rattle.lfm_condvar.proofs.Sent.{all_end}
 use Rattle.lfm_mutex.proofs.runs.RunGoesOn.{run_same}
@@ -22,3 +23,6 @@ invariant_of-cond-2 g c = let a = c.args in let h = c.in-Ok.ensures.held in let 
 pub returns-clause-cond_woken : goal.returns-clause-cond_woken
 returns-clause-cond_woken g c = let h = c.send_all_in_hand-sent in
     woken_in_hold c.args.cond.now.seat c.lock_list.new.cond h.new.cond c.leave_list.new.cond h.ensures.sends.0 h.ensures.sends.1 c.lock_list.ensures.woken h.ensures.cond_woken h.ensures.sends.2 c.leave_list.ensures.woken
+
+pub returns-in-Err-clause-wakes : goal.returns-in-Err-clause-wakes
+returns-in-Err-clause-wakes g c = held_none (limits_of c.args.mutex.now).seats c.args.seat.now

@@ -1,13 +1,15 @@
+use Rattle.std.proofs.Common.{subst}
 use Rattle.lfm_mutex.specs.Belongs.{limits_of}
 use Rattle.lfm_mutex.specs.calls.Sight.{sight}
 use Rattle.lfm_condvar.specs.Belongs.{cond_limits, cond_sight, cond_tries}
+use Rattle.lfm_condvar.specs.Waits.{ComesBack}
 use Rattle.lfm_condvar.proofs.Enlisted.{ends_refused}
-use Rattle.lfm_mutex.proofs.runs.Woken.{woken_join}
+use Rattle.lfm_mutex.proofs.runs.Woken.{looks_join, looks_once, may_look}
 use Rattle.lfm_mutex.proofs.runs.RunGoesOn.{run_next}
 use Rattle.lfm_condvar.proofs.condvar.Condvar.wait.Goals as goal
 
 pub returns-clause-run : goal.returns-clause-run
-returns-clause-run g c = run_next c.begin_wait_counted.ensures.run c.receive_lock_within.ensures.run
+returns-clause-run g c = run_next c.begin_wait_counted.ensures.run (run_next c.count_from.ensures.run c.receive_lock_within.ensures.run)
 
 pub returns-in_err-enlisted-clause-waits : goal.returns-in_err-enlisted-clause-waits
 returns-in_err-enlisted-clause-waits g c =
@@ -15,7 +17,12 @@ returns-in_err-enlisted-clause-waits g c =
     c.in_err-enlisted.ensures.begins
 
 pub returns-clause-waits : goal.returns-clause-waits
-returns-clause-waits g c = let r = c.in-Ok.ensures in (sight c.begin_wait_counted.new.seat, c.in_ok-enlisted.ensures.begins, (r.receives, r.steps))
+returns-clause-waits g c = let r = c.in-Ok.ensures in (
+  sight c.begin_wait_counted.new.seat,
+  c.in_ok-enlisted.ensures.begins,
+  subst (λ z. ComesBack g.T.Kept.follows g.T.Kept.fits (limits_of c.args.mutex.now) c.in-Ok.how z (sight c.receive_lock_within.new.seat)) c.count_from.ensures.same (r.receives, r.steps),
+)
 
 pub returns-clause-woken : goal.returns-clause-woken
-returns-clause-woken g c = woken_join c.args.seat.now c.begin_wait_counted.new.seat c.receive_lock_within.new.seat c.begin_wait_counted.ensures.woken c.receive_lock_within.ensures.woken
+returns-clause-woken g c = let s = c.args.seat.now in let b = c.begin_wait_counted.new.seat in let n = c.count_from.new.seat in let t = c.receive_lock_within.new.seat in
+    looks_join s b t (may_look s b c.begin_wait_counted.ensures.woken) (looks_join b n t (looks_once b n c.count_from.ensures.woken c.count_from.ensures.same) c.receive_lock_within.ensures.woken)

@@ -6,7 +6,7 @@ use Rattle.lfm_mutex.specs.calls.Sight.{Sight, sight}
 use Rattle.lfm_condvar.specs.Belongs.{cond_limits, cond_sight, cond_tries}
 use Rattle.lfm_condvar.specs.Repeated.{NeedNotWait, WaitWhileEnds, WouldWait}
 use Rattle.lfm_condvar.proofs.Repeating.{as_deep, handed_on, if_true, may_again, stays}
-use Rattle.lfm_mutex.proofs.runs.Woken.{woken_join, woken_none}
+use Rattle.lfm_mutex.proofs.runs.Woken.{looks_join, looks_none}
 use Rattle.lfm_mutex.proofs.runs.RunGoesOn.{run_next, run_same}
 use Rattle.lfm_condvar.proofs.condvar.Condvar.wait_while.Goals as goal
 
@@ -14,7 +14,7 @@ pub returns-in_err-_waited-clause-run : goal.returns-in_err-_waited-clause-run
 returns-in_err-_waited-clause-run g c = run_next c.waits.invariant.run c.in_err-_waited.ensures.run
 
 pub waits-init : goal.waits-init
-waits-init g c = record { belongs = c.requires.belongs; beside = (refl, refl); run = run_same; woken = woken_none c.args.seat.now c.args.seat.now refl refl; cond_woken = woken_none c.args.cond.now.seat c.args.cond.now.seat refl refl; leaves = c.requires.leaves; depth = refl; waits = (zero, (refl, refl)) }
+waits-init g c = record { belongs = c.requires.belongs; beside = (refl, refl); run = run_same; woken = looks_none c.args.seat.now c.args.seat.now refl refl; cond_woken = looks_none c.args.cond.now.seat c.args.cond.now.seat refl refl; leaves = c.requires.leaves; depth = refl; waits = (zero, (refl, refl)) }
 
 -- one more wait was needed
 pub waits-preserved : goal.waits-preserved
@@ -22,8 +22,8 @@ waits-preserved g c = let i = c.waits.invariant in let e = c.in_ok-_waited.ensur
     let c' = cond_sight c.waits.cond in let d = cond_sight c.wait.new.cond in let s = sight c.waits.seat in let t = sight c.wait.new.seat in
     let says = (λ (v : _) (b : _). FnReturnsAt g.F.Fn c.args.condition v b) in let must : c.must_wait.result ≡ true = cc in record {
       belongs = (e.belongs.0, (e.belongs.1.0 ∙ i.belongs.1.0, e.belongs.1.1 ∙ i.belongs.1.1));
-      woken = woken_join c.args.seat.now c.waits.seat c.wait.new.seat i.woken e.woken;
-      cond_woken = woken_join c.args.cond.now.seat c.waits.cond.seat c.wait.new.cond.seat i.cond_woken e.cond_woken;
+      woken = looks_join c.args.seat.now c.waits.seat c.wait.new.seat i.woken e.woken;
+      cond_woken = looks_join c.args.cond.now.seat c.waits.cond.seat c.wait.new.cond.seat i.cond_woken e.cond_woken;
       beside = (e.belongs.1.0 ∙ i.beside.0, e.belongs.1.1 ∙ i.beside.1);
       run = run_next i.run e.run;
       leaves = may_again g.T.Kept.follows g.T.Kept.fits user own tries c.in_ok-_waited._waited c' d s t c.requires.keeps e.waits;
@@ -42,7 +42,7 @@ returns-in_err-_waited-clause-waits g c = let i = c.waits.invariant in let e = c
     (i.waits.0, (cond_sight c.waits.cond), s, i.waits.1, if_true c.must_wait.result (WouldWait says s) (NeedNotWait says s) must c.must_wait.ensures, e.waits)
 
 pub returns-in_err-_waited-clause-woken : goal.returns-in_err-_waited-clause-woken
-returns-in_err-_waited-clause-woken g c = woken_join c.args.seat.now c.waits.seat c.wait.new.seat c.waits.invariant.woken c.in_err-_waited.ensures.woken
+returns-in_err-_waited-clause-woken g c = looks_join c.args.seat.now c.waits.seat c.wait.new.seat c.waits.invariant.woken c.in_err-_waited.ensures.woken
 
 pub returns-in_err-_waited-clause-cond_woken : goal.returns-in_err-_waited-clause-cond_woken
-returns-in_err-_waited-clause-cond_woken g c = woken_join c.args.cond.now.seat c.waits.cond.seat c.wait.new.cond.seat c.waits.invariant.cond_woken c.in_err-_waited.ensures.cond_woken
+returns-in_err-_waited-clause-cond_woken g c = looks_join c.args.cond.now.seat c.waits.cond.seat c.wait.new.cond.seat c.waits.invariant.cond_woken c.in_err-_waited.ensures.cond_woken

@@ -1,11 +1,10 @@
-use Rattle.std.proofs.Common.{[], append-nil, ◌∙◌, ap, subst, sym}
+use Rattle.std.proofs.Common.{refl, subst, sym}
 use Rattle.lfm_mutex.specs.Belongs.{limits_of}
 use Rattle.lfm_mutex.specs.calls.Sight.{sight}
-use Rattle.lfm_mutex.specs.calls.WakeUps.{grants_of}
 use Rattle.lfm_condvar.specs.Belongs.{cond_limits, cond_sight, cond_tries}
 use Rattle.lfm_condvar.specs.Wakes.{SendsBy, WakeAllEnds}
-use Rattle.lfm_mutex.specs.calls.Woken.{woken_of}
 use Rattle.lfm_condvar.proofs.HeldBack.{held_woken}
+use Rattle.lfm_mutex.proofs.runs.Woken.{woken_none}
 use Rattle.lfm_mutex.proofs.runs.RunGoesOn.{run_next, run_same}
 use Rattle.lfm_condvar.proofs.condvar.Condvar.wake_all.Goals as goal
 
@@ -22,9 +21,8 @@ pub returns-clause-steps : goal.returns-clause-steps
 returns-clause-steps g c = let o = c.send_all_in_one_hold-sent in let a = c.args in subst (λ z. SendsBy (limits_of a.mutex.now) (sight a.seat.now) z o.result.0) (sym c.wake_from.ensures.same) o.ensures.steps
 
 pub returns-clause-woken : goal.returns-clause-woken
-returns-clause-woken g c = let o = c.send_all_in_one_hold-sent in let w = c.wake_from in let s = c.args.seat.now in
-    let h = held_woken (limits_of c.args.mutex.now).seats o.result.1 (sight s).trail (sight o.new.seat).trail (woken_of s) (woken_of o.new.seat) (woken_of w.new.seat) o.ensures.wakes w.ensures.woken in
-    (h.0, h.1, ap (λ z. grants_of z.trail) w.ensures.same ∙ h.2)
+returns-clause-woken g c = let o = c.send_all_in_one_hold-sent in let w = c.wake_from in
+    held_woken (limits_of c.args.mutex.now).seats o.result.1 c.args.seat.now o.new.seat w.new.seat o.ensures.wakes w.ensures.woken w.ensures.same
 
 pub returns-then-asleep-clause-woken : goal.returns-then-asleep-clause-woken
-returns-then-asleep-clause-woken g c = let s = c.args.seat.now in ([], sym (append-nil _), sym (append-nil _))
+returns-then-asleep-clause-woken g c = let s = c.args.seat.now in woken_none s s refl refl

@@ -4,6 +4,8 @@ use Rattle.std.proofs.lemmas.List.Sums.{sum_by-set}
 use Rattle.std.proofs.lemmas.List.Elements.{All-set}
 use Rattle.lfm_protocol.specs.Limits.{max_seats}
 use Rattle.lfm_condvar.specs.Lists.{waiter, GoOnFrom, times, Among}
+use Rattle.std.proofs.lemmas.Grind.{common_steps}
+use Rattle.lfm_condvar.proofs.Followed.{follows_appended}
 use Rattle.lfm_condvar.proofs.ListFacts.{go_on_more, among_more, has_room, once_more, sum_within, get_or_any}
 use Rattle.lfm_condvar.proofs.waiters.Waiters.append.Goals as goal
 
@@ -31,3 +33,6 @@ pub invariant_of-self-clause-within : goal.invariant_of-self-clause-within
 invariant_of-self-clause-within c = let s = c.args.self.now in let n = s.counted in let o = s.counts.ok in let p = c.get-place.ensures.value in let b = c.requires.by in let v = c.index_mut.ensures.value in
     All-set (λ (x : ℕ). x ≤ s.budget) s.counts.items c.get-place.result (c.index_mut.result.now + 1) (let same : get_or s.counts.items c.get-place.result c.index_mut.result.now ≡ get_or s.counts.items c.get-place.result 0 = get_or_any s.counts.items c.get-place.result c.index_mut.result.now 0 (omega arith) in
     let at : get_or s.counts.items c.get-place.result 0 ≡ get_or s.counts.items c.args.by 0 = ap (λ k. get_or s.counts.items k 0) p in omega arith) s.within
+
+pub returns-clause-follows : goal.returns-clause-follows
+returns-clause-follows c = follows_appended _ c.args.seat _ _ (grind (arith, common_steps))

@@ -1,8 +1,9 @@
-use Rattle.std.proofs.Common.{ℕ, List, ◌++◌, ◌∙◌, ap, subst, sym}
+use Rattle.std.proofs.Common.{subst, sym}
 use Rattle.lfm_mutex.specs.Belongs.{limits_of}
 use Rattle.lfm_mutex.specs.calls.Sight.{sight}
-use Rattle.lfm_mutex.specs.calls.WakeUps.{as_list, grants_of}
+use Rattle.lfm_mutex.specs.calls.WakeUps.{as_list}
 use Rattle.lfm_condvar.specs.Wakes.{SendsBy, SendsOldest}
+use Rattle.lfm_mutex.proofs.runs.Woken.{woken_from}
 use Rattle.lfm_mutex.proofs.runs.RunGoesOn.{run_next}
 use Rattle.lfm_condvar.proofs.waiters.send.send_oldest.Goals as goal
 
@@ -16,8 +17,5 @@ pub returns-clause-steps : goal.returns-clause-steps
 returns-clause-steps g c = let o = c.send_oldest_without_waking-sent in let a = c.args in subst (λ z. SendsBy (limits_of a.mutex.now) (sight a.seat.now) z o.result.0) (sym c.wake_from.ensures.same) o.ensures.steps
 
 pub returns-clause-woken : goal.returns-clause-woken
-returns-clause-woken g c = let o = c.send_oldest_without_waking-sent in (
-  as_list o.result.1,
-  c.wake_from.ensures.woken ∙ ap (λ (l : List ℕ). l ++ as_list o.result.1) o.ensures.woken,
-  ap (λ z. grants_of z.trail) c.wake_from.ensures.same ∙ o.ensures.wakes.granted,
-)
+returns-clause-woken g c = let o = c.send_oldest_without_waking-sent in
+    woken_from c.args.seat.now o.new.seat c.wake_from.new.seat (as_list o.result.1) o.ensures.woken o.ensures.wakes.granted c.wake_from.ensures.woken c.wake_from.ensures.same

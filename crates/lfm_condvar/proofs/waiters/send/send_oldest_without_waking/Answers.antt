@@ -1,6 +1,7 @@
 use Rattle.std.proofs.Common.{rules, ◌≡◌, ℕ, [], ◌∷◌, Option, Ok, Err, refl}
 use Rattle.lfm_mutex.specs.Belongs.{limits_of}
 use Rattle.lfm_mutex.specs.calls.Sight.{sight}
+use Rattle.lfm_condvar.proofs.Followed.{follows_none}
 use Rattle.lfm_condvar.proofs.Sent.{refused_by}
 use Rattle.lfm_mutex.proofs.runs.RunGoesOn.{run_same}
 use Rattle.lfm_condvar.proofs.waiters.send.send_oldest_without_waking.Goals as goal
@@ -29,3 +30,9 @@ returns-in-Ok-clause-follows g c = search rules
 
 pub returns-in-Err-clause-sends : goal.returns-in-Err-clause-sends
 returns-in-Err-clause-sends g c = search rules
+
+pub returns-then-asleep-clause-follows : goal.returns-then-asleep-clause-follows
+returns-then-asleep-clause-follows g c s = follows_none s _
+
+pub returns-in-Err-clause-follows : goal.returns-in-Err-clause-follows
+returns-in-Err-clause-follows g c s = follows_none s _

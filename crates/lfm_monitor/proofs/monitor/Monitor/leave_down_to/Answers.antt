@@ -1,7 +1,10 @@
-use Rattle.std.proofs.Common.{suc, arith}
+use Rattle.std.proofs.Common.{suc, arith, refl}
 use Rattle.lfm_monitor.specs.Belongs.{pass_sight, seen_of}
-use Rattle.lfm_monitor.proofs.Holding.{gives_up_one, leaves_one}
+use Rattle.lfm_monitor.proofs.Holding.{gives_up_none, gives_up_one, leaves_one}
 use Rattle.lfm_monitor.proofs.monitor.Monitor.leave_down_to.Goals as goal
+
+pub holds-init : goal.holds-init
+holds-init g c = record { belongs = c.requires.belongs; gives_up = gives_up_none c.args.pass.now; steps = (0, refl); enough = omega arith }
 
 -- one more hold was given up
 pub holds-preserved : goal.holds-preserved

@@ -1,6 +1,7 @@
-use Rattle.std.proofs.Common.{◌+◌, Some, None, arith, rules, refl, ◌∙◌}
+use Rattle.std.proofs.Common.{◌+◌, Some, None, arith, rules, refl, ap, ◌∙◌}
 use Rattle.lfm_mutex.specs.calls.Sight.{sight}
 use Rattle.lfm_mutex.proofs.BargingEnds.{gains_after, no_tries, still_may_try, tries_fewer, tries_join}
+use Rattle.lfm_table.specs.declared.off_trail.OffTrail.{OffTrail}
 use Rattle.lfm_table.proofs.tables.Actions.{run_next, run_same}
 use Rattle.lfm_mutex.proofs.mutex.Mutex.nap.Goals as goal
 
@@ -14,7 +15,7 @@ pub naps-preserved : goal.naps-preserved
 naps-preserved g c = record {
   belongs = search rules;
   beside = search rules;
-  woken = c.try_if_free.ensures.woken ∙ c.naps.invariant.woken;
+  woken = ap (λ (o : OffTrail). o.woken) c.try_if_free.ensures.woken ∙ (c.later_count-count.ensures ∙ (ap (λ (o : OffTrail). o.woken) c.look_at_count-found.ensures ∙ c.naps.invariant.woken));
   run = run_next c.naps.invariant.run c.try_if_free.ensures.run;
   wake = search rules;
   tries = tries_join c.args.self.now.limits c.naps.made 1 (sight c.args.seat.now) (sight c.naps.seat) (sight c.try_if_free.new.seat) None c.naps.invariant.tries c.in-None.ensures.tries;

@@ -1,4 +1,4 @@
-use Rattle.std.proofs.Common.{refl, sym, ap, ◌∙◌, arith, [], ◌∷◌, append-nil}
+use Rattle.std.proofs.Common.{refl, sym, ap, ◌∙◌, arith, ℕ, List, [], ◌∷◌, append-nil}
 use Rattle.lfm_protocol.specs.declared.points.Point.TheVariants.{TryOwnerLoad}
 use Rattle.lfm_table.specs.Rule.{seen, value_in}
 use Rattle.lfm_mutex.proofs.runs.WakeUps.{grants_join}
@@ -20,7 +20,7 @@ returns-clause-tells g c = let s = c.args.seat.now in let n = c.read_owner-found
 
 pub returns-clause-woken : goal.returns-clause-woken
 returns-clause-woken g c = let s = c.args.seat.now in let told = c.read_owner-found.ensures.read in
-    ([], sym (append-nil s.woken.seats), ap (λ m. grants_of m.0.trail) told.0 ∙ grants_join s.table_seat.place.me.0.trail (seen TryOwnerLoad c.read_owner-found.result ∷ []))
+    ([], ap (λ (l : List ℕ). record s.off_trail { woken = l }) (sym (append-nil s.off_trail.woken)), ap (λ m. grants_of m.0.trail) told.0 ∙ grants_join s.table_seat.place.me.0.trail (seen TryOwnerLoad c.read_owner-found.result ∷ []))
 
 pub returns-clause-run : goal.returns-clause-run
 returns-clause-run g c = let s = c.args.seat.now in let told = c.read_owner-found.ensures.read in

@@ -45,7 +45,7 @@ unreachable-requires g c = search rules
 
 pub returns-clause-woken : goal.returns-clause-woken
 returns-clause-woken g c = let f = c.try_lock.new.seat in let k = c.change-answer in
-    woken_join c.args.seat.now f c.unlock.new.seat c.try_lock.ensures.woken (woken_join f k.new.seat c.unlock.new.seat (woken_none f k.new.seat k.ensures.woken (ap (λ s. grants_of s.trail) k.ensures.changes.4)) c.unlock.ensures.woken)
+    woken_join c.args.seat.now f c.unlock.new.seat c.try_lock.ensures.woken (woken_join f k.new.seat c.unlock.new.seat (woken_none f k.new.seat k.ensures.acts.woken (ap (λ s. grants_of s.trail) k.ensures.changes.4)) c.unlock.ensures.woken)
 
 pub returns-clause-run : goal.returns-clause-run
-returns-clause-run g c = run_next c.try_lock.ensures.run (run_next c.change-answer.ensures.run c.unlock.ensures.run)
+returns-clause-run g c = run_next c.try_lock.ensures.run (run_next c.change-answer.ensures.acts.run c.unlock.ensures.run)

@@ -1,6 +1,7 @@
-use Rattle.std.proofs.Common.{ℕ, List, ◌++◌, ◌∙◌, ap}
+use Rattle.std.proofs.Common.{◌++◌, ◌∙◌, ap}
+use Rattle.lfm_table.specs.declared.off_trail.OffTrail.{OffTrail}
 use Rattle.lfm_mutex.specs.calls.WakeUps.{as_list}
 use Rattle.lfm_mutex.proofs.mutex.Mutex.unlock.Goals as goal
 
 pub returns-clause-woken : goal.returns-clause-woken
-returns-clause-woken g c = let f = c.unlock_without_waking-unlocked in (as_list f.result.1, c.wake_seat.ensures ∙ ap (λ (l : List ℕ). l ++ as_list f.result.1) f.ensures.woken, f.ensures.wakes.granted)
+returns-clause-woken g c = let f = c.unlock_without_waking-unlocked in (as_list f.result.1, c.wake_seat.ensures ∙ ap (λ (o : OffTrail). record o { woken = o.woken ++ as_list f.result.1 }) f.ensures.woken, f.ensures.wakes.granted)

@@ -1,4 +1,4 @@
-use Rattle.std.proofs.Common.{sym, ◌∙◌, Some}
+use Rattle.std.proofs.Common.{rules, sym, ◌∙◌, Some}
 use Rattle.std.proofs.lemmas.Bool.{false≢true}
 use Rattle.lfm_mutex.proofs.runs.OneStep.{steps_on, leaves_at, keeps_at}
 use Rattle.lfm_table.proofs.tables.Granted.{none_beside}
@@ -8,12 +8,14 @@ use Rattle.lfm_mutex.proofs.steps.kinds.make_within.Goals as goal
 
 pub make_waking_none-requires-clause-leaves : goal.make_waking_none-requires-clause-leaves
 make_waking_none-requires-clause-leaves g c κs within = let s = c.args.seat.now in
-    leaves_at g.T.Kept.follows g.T.Kept.fits s.table_seat.number s.table_seat.limits s.state s.table_seat.place.me s.table_seat.moving s.seated (λ ends. absurd (false≢true (sym (keeps_at c.args.kind s.state.point c.requires.is_next c.requires.keeps) ∙ ends)))
+    leaves_at g.T.Kept.follows g.T.Kept.fits s.table_seat.number s.table_seat.limits s.state s.table_seat.place.me s.table_seat.moving s.seated (λ ends. absurd (false≢true (sym (keeps_at c.args.kind s.state.point c.requires.next.kind c.requires.keeps) ∙ ends)))
 
-pub returns-clause-steps : goal.returns-clause-steps
-returns-clause-steps g c = let s = c.args.seat.now in let b = c.make_waking_none.new.seat in
-    steps_on g.T.Kept.follows g.T.Kept.fits (Some c.args.kind) s.table_seat.number b.table_seat.number s.table_seat.limits s.state b.state s.table_seat.place.me b.table_seat.place.me s.table_seat.moving b.table_seat.moving c.make_waking_none.result s.seated c.make_waking_none.ensures.same.0 c.requires.is_next c.make_waking_none.ensures.event
-
-pub returns-clause-woken : goal.returns-clause-woken
-returns-clause-woken g c = let s = c.args.seat.now in let f = c.make_waking_none in
-    woken_none s f.new.seat f.ensures.woken (grants_none g.T.Kept.follows g.T.Kept.fits _ _ _ _ _ _ _ f.ensures.event (none_beside s.state.point c.args.kind c.requires.is_next c.requires.other))
+pub returns : goal.returns
+returns g c = let s = c.args.seat.now in let f = c.make_waking_none in let b = f.new.seat in record {
+  acts = record {
+    belongs = search rules;
+    run = f.ensures.run;
+    woken = woken_none s b f.ensures.kept.woken (grants_none g.T.Kept.follows g.T.Kept.fits _ _ _ _ _ _ _ f.ensures.event (none_beside s.state.point c.args.kind c.requires.next.kind c.requires.other));
+  };
+  step = steps_on g.T.Kept.follows g.T.Kept.fits (Some c.args.kind) s.table_seat.number b.table_seat.number s.table_seat.limits s.state b.state s.table_seat.place.me b.table_seat.place.me s.table_seat.moving b.table_seat.moving f.result s.seated f.ensures.kept.same.0 c.requires.next.kind f.ensures.event;
+}

@@ -1,4 +1,4 @@
-use Rattle.std.proofs.Common.{◌≡◌, ◌≤◌, ◌+◌, ℕ, Result, sym, subst, slice_index, ap}
+use Rattle.std.proofs.Common.{◌≡◌, ◌≤◌, ◌+◌, ℕ, Result, sym, subst, slice_index}
 use Rattle.std.specs.Prelude.{IfOk}
 use Rattle.lfm_model.specs.declared.refusals.Refusal.{Refusal}
 use Rattle.lfm_mutex.specs.Belongs.{limits_of}
@@ -28,4 +28,4 @@ returns-clause-enlists g c = let h = rw c.in-Some.is at (c.value_mut.follows.hol
     )
 
 pub returns-clause-cond_woken : goal.returns-clause-cond_woken
-returns-clause-cond_woken g c = let h = rw c.in-Some.is at (c.value_mut.follows.holds c.enlist_without_waking-ticket.new.waiters) in ap (λ w. w.seats) h.5
+returns-clause-cond_woken g c = let h = rw c.in-Some.is at (c.value_mut.follows.holds c.enlist_without_waking-ticket.new.waiters) in h.5

@@ -3,7 +3,6 @@ use Rattle.std.specs.VecDeque.{deque_len}
 use Rattle.lfm_mutex.specs.Belongs.{Beside, OfMutex, limits_of}
 use Rattle.lfm_mutex.specs.calls.RunGoesOn.{RunGoesOnFrom}
 use Rattle.lfm_mutex.specs.calls.Sight.{Sight, sight}
-use Rattle.lfm_mutex.specs.calls.Woken.{woken_of}
 use Rattle.lfm_condvar.specs.declared.waiters.Waiter.{Waiter}
 use Rattle.lfm_condvar.specs.HeldBack.{HoldsLastBack}
 use Rattle.lfm_condvar.specs.Keeping.{WaitersFollow, Taken}
@@ -17,7 +16,7 @@ invariant-sends g l = record {
   wide : l.waiters.seats ≤ (limits_of l.mutex).seats;
   gone : (gone : List Waiter) × Taken gone l.fn.waiters l.waiters × SentEach gone (sight l.fn.seat) (sight l.seat) × (l.sent ≡ length gone);
   steps : (sent : List (ℕ × Sight _)) × SendsInTurn (limits_of l.mutex) (sight l.fn.seat) sent (sight l.seat);
-  wakes : HoldsLastBack (limits_of l.mutex).seats l.held (sight l.fn.seat).trail (sight l.seat).trail (woken_of l.fn.seat) (woken_of l.seat);
+  wakes : HoldsLastBack (limits_of l.mutex).seats l.held l.fn.seat l.seat;
   follows : (s : ℕ) → WaitersFollow s l.fn.waiters l.waiters;
 }
 

@@ -1,4 +1,3 @@
-use Rattle.std.proofs.Common.{ap}
 use Rattle.lfm_mutex.specs.calls.Sight.{sight}
 use Rattle.lfm_condvar.proofs.Sent.{same_count}
 use Rattle.lfm_condvar.proofs.cond_seat.hold.send.send_all_in_hand.Goals as goal
@@ -11,4 +10,4 @@ returns-clause-sends g c = let h = rw c.in-Some.is at (c.value_mut.follows.holds
     (v, w, (c.in-Some.ensures.value.1, h.0, e.follows k, same_count v w k e.follows), e.sends)
 
 pub returns-clause-cond_woken : goal.returns-clause-cond_woken
-returns-clause-cond_woken g c = let h = rw c.in-Some.is at (c.value_mut.follows.holds c.send_all.new.waiters) in ap (λ w. w.seats) h.5
+returns-clause-cond_woken g c = let h = rw c.in-Some.is at (c.value_mut.follows.holds c.send_all.new.waiters) in h.5

@@ -1,6 +1,6 @@
--- `new` makes a value of no bytes that stands for the empty list.
+-- `new` makes a value of no bytes, for nobody woken and no look.
 use mathlib.Core.Path.{refl}
-use Rattle.lfm_table.specs.declared.woken.Woken.{Woken}
+use Rattle.lfm_table.specs.declared.off_trail.OffTrail.{OffTrail}
 use mathlib.Core.List.{[], ◌∷◌}
 use seplogic.Ra.Ura.{Ura}
 use mir.Val.{vstruct, vcons, vunit, vnil}
@@ -22,14 +22,14 @@ use denote.Triple.Entry.{on_entry, alive}
 use denote.Triple.Spec.{Meets, triple_of}
 use denote.Triple.Table.{entered}
 use denote.Triple.Walked.{says, Stays, walk_of, Walks, ends_at, walked, walk_Meets}
-use Rattle.lfm_table.specs.contracts.woken.Woken.new.Key.{name as key}
-use Rattle.lfm_table.specs.contracts.woken.Woken.new as f
-use Rattle.lfm_table.proofs.woken.Woken.new.Statement as stated
-use Rattle.lfm_table.proofs.woken.Woken.new.Code as code
-use Rattle.lfm_table.specs.contracts.woken.Woken as made
+use Rattle.lfm_table.specs.contracts.off_trail.OffTrail.new.Key.{name as key}
+use Rattle.lfm_table.specs.contracts.off_trail.OffTrail.new as f
+use Rattle.lfm_table.proofs.off_trail.OffTrail.new.Statement as stated
+use Rattle.lfm_table.proofs.off_trail.OffTrail.new.Code as code
+use Rattle.lfm_table.specs.contracts.off_trail.OffTrail as made
 
-abbrev none : Woken
-none = record { seal = tt; seats = [] }
+abbrev none : OffTrail
+none = record { seal = tt; woken = []; looks = 0 }
 
 abbrev stayed : Stays (f.ended).signature.params (f.ended).kept
 stayed = tt
@@ -46,7 +46,7 @@ module _ {M : Type 1} {𝓤 : Ura M} (𝓛 : Logic 𝓤) (mem : Memory → SProp
       alloc_all ! (λ l. pass_all ! refl tt $ sets ! (agg ! (and_then ! (unit_lit !) (no_more !))) refl (tt, (tt, tt)) $
       returns ! (look_at ! 0 refl) $ free_all ! refl $
       suffices ! _ (ends_at 𝓛 f.ended stayed (f.clauses 𝓛 mem run) bound (vstruct (vcons vunit vnil)) (none) tt tt) $
-      says ! refl $ pure_i ! (made.the_row.own_val (none) (vstruct (vcons vunit vnil) ∷ [])) ((λ vss. (tt, (tt, tt))), tt) (((vunit ∷ [], tt), (refl, (refl, tt))), tt) $
+      says ! (refl, refl) $ pure_i ! (made.the_row.own_val (none) (vstruct (vcons vunit vnil) ∷ [])) ((λ vss. (tt, (tt, tt))), tt) (((vunit ∷ [], tt), (refl, (refl, tt))), tt) $
       move ! (1 ∷ 2 ∷ 0 ∷ []) $ done !)
 
   walks : Walks 𝓛 f.ended stayed (WpFn 𝓤 H C Λ code.function) (f.clauses 𝓛 mem run)

@@ -1,7 +1,7 @@
 use Rattle.lfm_table.specs.declared.operations.Access.{Access}
 use Rattle.lfm_table.specs.Rule.{value_in}
 use Rattle.lfm_table.proofs.tables.ByKind.{by_kind}
-use Rattle.lfm_table.proofs.operations.operate.Goals as goal
+use Rattle.lfm_table.proofs.shared_table.operate.operate.Goals as goal
 
 pub load-requires-clause-allowed : goal.load-requires-clause-allowed
 load-requires-clause-allowed g c κs within = let e = c.in-Load.ensures in

@@ -1,0 +1,18 @@
+-- What each call of a mutex keeps: the seat is still one of the mutex, the run of the table goes on, and no seat is woken but
+-- those that the steps granted the mutex. A call that leaves the wake-up to its caller wakes none.
+use Rattle.lfm_mutex.specs.declared.seat.Seat.{Seat}
+use Rattle.lfm_mutex.specs.Belongs.{Beside}
+use Rattle.lfm_mutex.specs.calls.RunGoesOn.{RunGoesOnFrom}
+use Rattle.lfm_mutex.specs.calls.Woken.{WakesNobody, WokenAsGranted}
+
+-- the seat s has acted as one of its mutex, is now t, and has woken no seat
+pub record ActsWakingNobody {T : Type 0} (s t : Seat T) : Type 0 where
+  pub belongs : Beside s t
+  pub run : RunGoesOnFrom s t
+  pub woken : WakesNobody s t
+
+-- the seat s has acted as one of its mutex, is now t, and has woken the seats that it granted the mutex
+pub record ActsWakingGranted {T : Type 0} (s t : Seat T) : Type 0 where
+  pub belongs : Beside s t
+  pub run : RunGoesOnFrom s t
+  pub woken : WokenAsGranted s t

@@ -49,8 +49,8 @@ void __wrap_free(void *block) {
   __real_free(block);
 }
 
-/* of a mutex: 7 of the library's mutex, as scripts/refuse_memory counts, and one each for what its seats share, a list of them,
- * and what ligdrosa.c keeps */
+/* of a mutex: 7 of the library's mutex, as scripts/gate/refuse_memory counts, and one each for what its seats share, a list
+ * of them, and what ligdrosa.c keeps */
 enum { REQUESTS = 10 };
 static lfm_mutex mutex, *called;
 static lfm_seat seat;

@@ -1,5 +1,5 @@
 //! Links libligdrosa.a, and links it again if it has changed. It is taken from the folder that LIGDROSA_OUT names, or else from
-//! out/ of the repository, where scripts/build_c makes it, or else from where pkg-config finds the library.
+//! out/ of the repository, where scripts/c/build_c makes it, or else from where pkg-config finds the library.
 use std::{
     env,
     path::{Path, PathBuf},
@@ -30,7 +30,7 @@ fn main() {
     let Some(folder) = found.or_else(installed) else {
         let built = built.display();
         eprintln!("{built} has no libligdrosa.a, and pkg-config finds none.");
-        eprintln!("scripts/build_c makes it in out/, and scripts/install_c installs it.");
+        eprintln!("scripts/c/build_c makes it in out/, and scripts/c/install_c installs it.");
         eprintln!("LIGDROSA_OUT may name its folder, or PKG_CONFIG_PATH that of ligdrosa.pc.");
         exit(1);
     };

@@ -6,7 +6,7 @@
  * granted the mutex and that is to be woken, or 0, and a refused close the first seat that prevents it. A seat's number,
  * depth, takes left and count are plain numbers, and 0 of a blank handle. */
 
-/* scripts/write_c_sides writes the exports from here */
+/* scripts/c/write_c_sides writes the exports from here */
 size_t lfm_c_mutex_size(void);
 size_t lfm_c_mutex_align(void);
 size_t lfm_c_seat_size(void);

@@ -1,6 +1,6 @@
-/* The mutexes of SQLite over ligdrosa.h. scripts/foreign_programs links this into programs of SQLite. A program takes these
- * mutexes if the environment has SQLITE_BY_LIGDROSA, and else SQLite's own. That variable is the name of a file: a program that
- * has opened one of them adds a line to it as it ends. */
+/* The mutexes of SQLite over ligdrosa.h. scripts/further/foreign_programs links this into programs of SQLite. A program
+ * takes these mutexes if the environment has SQLITE_BY_LIGDROSA, and else SQLite's own. That variable is the name of a file:
+ * a program that has opened one of them adds a line to it as it ends. */
 #include <stdio.h>
 #include <stdlib.h>
 

@@ -1,6 +1,6 @@
 //! Times this crate's mutex and condition variable beside the standard library's, in turn: bench [ROUNDS [MILLISECONDS]]. A
-//! line is ROW|LOCK|MEDIAN|LEAST|GREATEST of the rounds. c_tests/bench.cpp has the same rows of C and C++, and scripts/bench_c
-//! makes a table of both.
+//! line is ROW|LOCK|MEDIAN|LEAST|GREATEST of the rounds. c_tests/bench.cpp has the same rows of C and C++, and
+//! scripts/bench/bench_c makes a table of both.
 use ligdrosa::{mutex, Condvar, Guard, Mutex, MutexGuard, Seat};
 use std::{
     env,
@@ -135,8 +135,8 @@ impl Kind for Std {
     }
 }
 
-/// That of the crate parking_lot, whose unlock hands the mutex on if it is `FAIR`. scripts/bench_c adds it if it finds the
-/// crate.
+/// That of the crate parking_lot, whose unlock hands the mutex on if it is `FAIR`. scripts/bench/bench_c adds it if it finds
+/// the crate.
 #[cfg(parking_lot)]
 struct ParkingLot<const FAIR: bool>;
 

@@ -13,7 +13,7 @@ HEAD = """# The memory orders of the C file
 
 Each atomic operation of `c/parts` that is not relaxed, with what happens if the half of its order that acquires is left out,
 or the half that releases: either runs by chance find a data race in a scenario, or it says why the order stays.
-`scripts/explore --orders` does this anew and compares, and with `--write` it writes the rows and keeps the reasons. The
+`scripts/c/explore --orders` does this anew and compares, and with `--write` it writes the rows and keeps the reasons. The
 explorer can't tell a sequentially consistent order from one that acquires and releases.
 
 | Part | Function | Operation | Order | Without acquire | Without release |

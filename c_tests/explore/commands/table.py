@@ -4,8 +4,8 @@ import programs
 PAGE = programs.EXPLORE / "SCENARIOS.md"
 HEAD = """# The scenarios
 
-Each was explored to its end: every state once, on one processor. `scripts/explore --write` writes this page, and
-`scripts/explore --short` fails if a scenario that is not long has other states, transitions or ends. The counts depend on
+Each was explored to its end: every state once, on one processor. `scripts/c/explore --write` writes this page, and
+`scripts/c/explore --short` fails if a scenario that is not long has other states, transitions or ends. The counts depend on
 the compiler, so they are compared if it is the same. They do not depend on the machine, but the seconds of processor time do.
 
 """

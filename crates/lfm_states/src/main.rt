@@ -2,7 +2,7 @@
 //! the laws of `lfm_laws` bound.
 //!
 //! It shows what no proof states: which of the bounds are reached, and how close the greatest counts are to the others.
-//! `scripts/search_states` runs it.
+//! `scripts/further/search_states` runs it.
 #![tactic(auto)]
 
 mod arguments;

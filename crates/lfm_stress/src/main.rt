@@ -1,7 +1,7 @@
 //! The program `lfm_stress`: threads make many calls on one mutex, its condition variables or a monitor. At the end no
 //! addition, no wake-up and no item may be lost.
 //!
-//! It tests what is not proved: that real threads reach the end of long runs. `scripts/stress` runs it, by hand.
+//! It tests what is not proved: that real threads reach the end of long runs. `scripts/further/stress` runs it, by hand.
 #![tactic(auto)]
 
 mod arguments;

@@ -1,6 +1,6 @@
 //! What calls with a seat did that is in no trail: the seats that they woke, in order, and the number of their looks. Contracts
 //! read both, and no code does. A handwritten proof in any crate could change them. Only `new`, `with_wake_up` and `with_look`,
-//! which no tactic can prove, have a handwritten proof that names them. `scripts/edits --check` looks for others.
+//! which no tactic can prove, have a handwritten proof that names them. `scripts/gate/edits --check` looks for others.
 ghost use Rattle.std.specs.Prelude.{◌≡◌, ◌+◌, ℕ, List, [], ◌∷◌, ◌++◌};
 ghost use Rattle.std.specs.Borrow.{ftrue};
 

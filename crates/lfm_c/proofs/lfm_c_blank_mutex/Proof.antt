@@ -1,5 +1,5 @@
 -- There is room at the address in C's pointer. `handles::blank_mutex` makes the blank handle, which is then written there.
--- scripts/write_c_sides writes this file.
+-- scripts/c/write_c_sides writes this file.
 use Rattle.std.specs.Prelude.{None}
 use Rattle.std.proofs.Common.{◌≡◌, [], ◌∷◌, ◌++◌, refl}
 use Rattle.std.proofs.raw_atomic.Walks.{proved}

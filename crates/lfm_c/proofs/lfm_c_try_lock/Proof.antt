@@ -1,6 +1,6 @@
 -- Each handle is at the address in C's pointer. It is lent to `calls::try_lock` for a new lifetime,
 -- and returned as the call left it.
--- scripts/write_c_sides writes this file.
+-- scripts/c/write_c_sides writes this file.
 use Rattle.std.proofs.Common.{ℕ, [], ◌∷◌, ◌++◌, refl, w64}
 use Rattle.std.proofs.raw_atomic.Walks.{proved}
 use base.Fraction.{full_share}

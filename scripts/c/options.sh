@@ -1,0 +1,36 @@
+# shellcheck shell=bash
+# The options by which programs of c_tests/ are compiled and run. The scripts that do this source this file.
+
+# shellcheck disable=SC2034 # those scripts use these
+addresses_checked=(-g '-fsanitize=address,undefined' -fno-sanitize-recover=all)
+# shellcheck disable=SC2034
+races_checked=(-g -fsanitize=thread)
+warnings=(-Wall -Wextra -Werror)
+
+# options_of FILE   the options that this file of c_tests/ is compiled with
+options_of() {
+  local wraps
+  case $1 in
+    *.c) printf '%s ' -std=c11 -O2 "${warnings[@]}" ;;
+    *) printf '%s ' -std=c++17 -O2 "${warnings[@]}" ;;
+  esac
+  case $1 in
+    no_memory.c)
+      # -fno-builtin: the compiler must not leave out an allocation whose block is freed in the same function
+      wraps=-Wl,--wrap=malloc,--wrap=calloc,--wrap=realloc,--wrap=free,--wrap=posix_memalign
+      printf '%s ' -fno-builtin "$wraps"
+      ;;
+    last_ends.cpp | many_mutexes.cpp) printf '%s' -Wl,--wrap=lfm_c_open,--wrap=lfm_c_close ;;
+    forked_child.cpp) printf '%s' -Wl,--wrap=lfm_c_take_seat ;;
+    endings.cpp) printf '%s' -Wl,--wrap=syscall ;;
+    statics.cpp) printf '%s' -std=c++20 ;; # which has constinit
+    without_exceptions.cpp) printf '%s' '-fno-exceptions -fno-rtti' ;;
+  esac
+}
+
+# arguments_of FILE   the arguments that its program is run with
+arguments_of() {
+  case $1 in
+    soak.c) printf '3 4' ;; # seconds and threads
+  esac
+}

@@ -7,7 +7,7 @@
  *   -s    the system may wake a sleeper for no reason
  *   -f    memory may be refused to a thread
  *   -t    the pushes of the model have stamps
- *   -m N  at most N states; -T N: at most N seconds; -S N: the seed of -r
+ *   -m N  at most N states; -T N: at most N seconds of processor time; -S N: the seed of -r
  *   -l    no search for states from which no end is reached
  *
  * It ends with status 0 if it has found no fault, 1 if it has, and 3 if it was cut off. */
@@ -15,6 +15,7 @@
 #include <signal.h>
 #include <stdio.h>
 #include <sys/mman.h>
+#include <sys/time.h>
 #include <unistd.h>
 #include "state.h"
 
@@ -23,7 +24,11 @@ bool may_refuse_memory, may_wake_spuriously, makes_all_rounds, looks_for_ends = 
 u64 most_states = 60000000, seed = 1;
 volatile int is_time_over;
 
-static void on_alarm(int signal) { (void)signal; is_time_over = 1; }
+static void on_time_over(int signal) { (void)signal; is_time_over = 1; }
+static void limit_processor_time(int seconds) {
+  signal(SIGPROF, on_time_over);
+  setitimer(ITIMER_PROF, &(struct itimerval){{0, 0}, {seconds, 0}}, NULL);
+}
 
 static const struct scenario *const files[] = {
     lock_scenarios, timed_scenarios,         seat_scenarios,          taken_again_scenarios, close_scenarios,      spent_scenarios,
@@ -51,7 +56,7 @@ int main(int count, char **words) {
       case 'p': processors = atoi(optarg); break;
       case 's': may_wake_spuriously = true; break;
       case 't': explorer_has_stamps = true; break;
-      case 'T': signal(SIGALRM, on_alarm), alarm((unsigned)atoi(optarg)); break;
+      case 'T': limit_processor_time(atoi(optarg)); break;
       case 'f': may_refuse_memory = true; break;
       case 'm': most_states = strtoull(optarg, NULL, 10); break;
       case 'S': seed = strtoull(optarg, NULL, 10) * 2654435761u + 88172645463325252u; break;

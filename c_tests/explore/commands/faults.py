@@ -1,5 +1,5 @@
-"""Plants faults in copies of the C file, one by one. The explorer has to find each, with one round of the loops that wait and
-with all."""
+"""Plants faults in copies of the C file, one by one. The explorer has to find each, with one round of the loops that wait
+and with all."""
 import shutil
 
 import programs

@@ -21,8 +21,9 @@ explorer can't tell a sequentially consistent order from one that acquires and r
 """
 NO_HALF, NO_REASON, RACE = "", "no reason is given", "a race: "
 SECONDS, RUNS = 20, 4000
-SCENARIOS = ("here_wait2 close2 storm2 timed_lock timed_give wake_all3_outside wait_for2 condvar_close2 here_static2 here_timed "
-             "here_timed_give close_give2 spent2 timed_give_both timed_both ping_pong").split()
+SCENARIOS = ("here_wait2 close2 storm2 timed_lock timed_give wake_all3_outside wait_for2 condvar_close2 here_static2 "
+             "here_timed here_timed_give close_give2 spent2 timed_give_both takes_left_static2 "
+             "closed_beside_another2").split()
 OPERATION = re.compile(r"__atomic_(\w+?)(?:_n)?\(")
 ORDER = re.compile(r"__ATOMIC_(ACQ_REL|ACQUIRE|RELEASE|SEQ_CST)")
 FUNCTION = re.compile(r"^[A-Za-z_][^\n]*?\b(\w+)\([^()]*\) \{", re.MULTILINE)
@@ -49,7 +50,7 @@ def list_orders():
         for found in ORDER.finditer(text):
             function = [it[1] for it in FUNCTION.finditer(text, 0, found.start())][-1]
             start = [it for it in OPERATION.finditer(text, 0, found.start())][-1]
-            operation = ("failed " if is_failed(text, start.start(), found.start()) else "") + start[1].replace("_", " ")
+            operation = ("failed " if is_failed(text, start.start(), found.start()) else "") + start[1]
             count = seen[function, operation] = seen.get((function, operation), 0) + 1
             yield path.name, function, operation + (f" {count}" if count > 1 else ""), found
 

@@ -6,7 +6,7 @@ HEAD = """# The scenarios
 
 Each was explored to its end: every state once, on one processor. `scripts/c/explore --write` writes this page, and
 `scripts/c/explore --short` fails if a scenario that is not long has other states, transitions or ends. The counts depend on
-the compiler, so they are compared if it is the same. They do not depend on the machine, but the seconds of processor time do.
+the compiler, so they are compared if it is the same. The seconds of processor time depend on the machine.
 
 """
 BY = "Counted with the compiler "
@@ -59,15 +59,16 @@ def read():
     return by, counts
 
 
-def compare(found):
-    """A line for each scenario that the page has with other counts, or has not."""
-    by, counts = read()
+def compare(found, is_all):
+    """A line for each scenario that the page has with other counts, or has not; and if all were run, for each row of the
+    page that no scenario has."""
+    by, there = read()
     if by != programs.compiler():
         print(f"left out: comparing the counts of {PAGE.name}, which are of the compiler {by}")
         return
-    for (of, options, name), ones in found.items():
-        here = [ones[key] for key in ("states", "transitions", "ends")]
-        there = counts.get((heading(of, options), name))
-        if here != there:
-            says = f"{', '.join(there)}" if there else "nothing"
-            yield f"over {of} {options}: {name} has {', '.join(here)} states, transitions and ends; {PAGE.name} says {says}"
+    here = {(heading(of, options), name): [counts[key] for key in ("states", "transitions", "ends")]
+            for (of, options, name), counts in found.items()}
+    says = lambda counts, row: f"{', '.join(counts[row])} states, transitions and ends" if row in counts else "no row"
+    for row in {**here, **there} if is_all else here:
+        if here.get(row) != there.get(row):
+            yield f"{row[0][3:]}: {row[1]} has {says(here, row)}; {PAGE.name} says {says(there, row)}"

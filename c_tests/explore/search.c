@@ -34,8 +34,9 @@ static int say_fault(const char *when, const char *what, u32 state, const struct
 /* Why no state may be like this one, from which these transitions lead on, or null. */
 static const char *name_stuck(const struct frame *f, int by_time) {
   if (f->count > by_time || all_finished()) return NULL;
+  const char *only_time = scenario->timeouts_may_be_needed ? NULL : "only a time that is over lets a thread go on";
   for (int i = 0; i < f->count; i++)
-    if (f->to[i].variant == TIMEOUT) return scenario->timeouts_may_be_needed ? NULL : "only a time that is over lets a thread go on";
+    if (f->to[i].variant == TIMEOUT) return only_time;
   return "no thread can go on";
 }
 
@@ -105,6 +106,7 @@ int explore_all(void) {
   }
   printf("%-24s %s%lu states, %lu transitions, %lu ends of sum %016lx, depth %lu, %.1f s\n", scenario->name,
          outcome == CUT_OFF ? "CUT OFF " : "", (unsigned long)states, (unsigned long)transitions_made,
-         (unsigned long)ends_found(), (unsigned long)sum_of_ends(), (unsigned long)deepest, (double)clock() / CLOCKS_PER_SEC);
+         (unsigned long)ends_found(), (unsigned long)sum_of_ends(), (unsigned long)deepest,
+         (double)clock() / CLOCKS_PER_SEC);
   return outcome;
 }

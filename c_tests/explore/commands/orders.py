@@ -12,9 +12,13 @@ PAGE = programs.EXPLORE / "ORDERS.md"
 HEAD = """# The memory orders of the C file
 
 Each atomic operation of `c/parts` that is not relaxed, with what happens if the half of its order that acquires is left out,
-or the half that releases: either runs by chance find a data race in a scenario, or it says why the order stays.
-`scripts/c/explore --orders` does this anew and compares, and with `--write` it writes the rows and keeps the reasons. The
-explorer can't tell a sequentially consistent order from one that acquires and releases.
+or the half that releases: either runs by chance find a data race in a scenario, or the cell says why none is found.
+Halves that no run needs stay. On x86-64 each of these orders costs the same as a relaxed one, but for a sequentially
+consistent store, and the kit asks that a handle goes from one thread to another by a sequentially consistent operation. The
+explorer can't tell such an operation from one that acquires and releases.
+
+`scripts/c/explore --orders` leaves out each half anew and compares, and with `--write` it writes the rows and keeps the
+reasons.
 
 | Part | Function | Operation | Order | Without acquire | Without release |
 |---|---|---|---|---|---|
@@ -78,8 +82,9 @@ def find_race(folder, objects, part, found, order):
 def read():
     """The cells of the page for each half: by part, function, operation and half."""
     lines = PAGE.read_text(encoding="utf-8").splitlines() if PAGE.exists() else []
-    rows = [[cell.strip(" `") for cell in line.strip("|").split("|")] for line in lines if line.startswith("| `")]
-    return {(*row[:3], half): row[at] for row in rows for half, at in (("acquire", 4), ("release", 5)) if row[at] != NO_HALF}
+    rows = [[cell.strip() for cell in line.strip("|").split("|")] for line in lines if line.startswith("| `")]
+    return {(part.strip("`"), function.strip("`"), operation, half): cell for part, function, operation, _, *both in rows
+            for half, cell in zip(("acquire", "release"), both) if cell != NO_HALF}
 
 
 def judge(key, scenario, page):

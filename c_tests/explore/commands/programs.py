@@ -10,21 +10,27 @@ EXPLORE = pathlib.Path(__file__).resolve().parent.parent
 TOP = EXPLORE.parent.parent
 FLAGS = ["-std=gnu11", "-g", "-fno-stack-protector", "-fcf-protection=none", "-fno-pie", "-fno-omit-frame-pointer", "-Wall"]
 # what is compiled so that each access calls the explorer, and what is not
-WATCHED = ["model", *(f"scenarios/{path.stem}" for path in sorted((EXPLORE / "scenarios").glob("*.c")))]
+SCENARIOS = [f"scenarios/{path.stem}" for path in sorted((EXPLORE / "scenarios").glob("*.c"))]
+WATCHED = ["c_file", "model", *SCENARIOS]
 OWN = [path.stem for path in sorted(EXPLORE.glob("*.c")) if path.stem not in ("c_file", "model", "real")]
 RUN_BY_CHANCE = "-r"
 
 
 def compile_file(name, folder, more=()):
-    watched = ["-O1", "-fsanitize=thread"] if name in ["c_file", *WATCHED] else ["-O2"]
+    watched = ["-O1", "-fsanitize=thread"] if name in WATCHED else ["-O2"]
     target = folder / (name.replace("/", "_") + ".o")
     folders = [f"-I{EXPLORE}", f"-I{TOP}/include"]
     subprocess.run(["gcc", *FLAGS, *watched, *more, *folders, "-c", f"{EXPLORE}/{name}.c", "-o", target], check=True)
     return target
 
 
-def compile_all_but_the_c_file(folder, over_proved_calls=False):
-    return [compile_file(name, folder) for name in WATCHED[over_proved_calls:] + OWN]
+def compile_all(names, folder):
+    return list(side_by_side(lambda name: compile_file(name, folder), names))
+
+
+def compile_all_but_the_c_file(folder):
+    """What the explorer over the model has besides the C file."""
+    return compile_all(["model", *SCENARIOS, *OWN], folder)
 
 
 def build(folder, objects, c_file=TOP / "c/ligdrosa.c", more=()):
@@ -34,8 +40,9 @@ def build(folder, objects, c_file=TOP / "c/ligdrosa.c", more=()):
     return folder / "explore"
 
 
-def build_over_proved_calls(folder):
-    """The explorer over the proved calls themselves, or None if they are not built."""
+def build_over_proved_calls(folder, objects):
+    """The explorer over the proved calls themselves, which take the place of the first object, or None if they are not
+    built."""
     proved = TOP / "crates/lfm_c/out/liblfm_c.a"
     if not proved.is_file() or not shutil.which("rt") or not shutil.which("objcopy"):
         return None
@@ -46,8 +53,7 @@ def build_over_proved_calls(folder):
     renames = [word for name in names for word in ("--redefine-sym", name)]
     subprocess.run(["objcopy", *renames, kit / "c/liblibc_c.a", allocation], check=True)
     wraps = [f"-Wl,--wrap=lfm_c_{call}" for call in ("ask", "receive", "try_lock", "unlock", "count")]
-    objects = compile_all_but_the_c_file(folder, over_proved_calls=True)
-    return build(folder, [*objects, compile_file("real", folder), proved, allocation, *wraps])
+    return build(folder, [*objects[1:], compile_file("real", folder), proved, allocation, *wraps])
 
 
 def run(program, options, scenario, seconds):

@@ -24,7 +24,7 @@ WAYS = [
     (MODEL, "-w -r 3000", "here_wait2 close2 storm2 timed_lock timed_give wake_all3_outside wait_for2 condvar_close2 "
                           "here_static2 takes_left_static2 here_timed here_timed_give close_give2 spent2"),
 ]
-# for how many seconds a scenario may run
+# for how many seconds of processor time a scenario may run
 SECONDS, SECONDS_IF_LONG = 110, 900
 
 

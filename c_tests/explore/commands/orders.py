@@ -13,7 +13,7 @@ HEAD = """# The memory orders of the C file
 
 Each atomic operation of `c/parts` that is not relaxed, with what happens if the half of its order that acquires is left out,
 or the half that releases: either runs by chance find a data race in a scenario, or the cell says why none is found.
-Halves that no run needs stay. On x86-64 each of these orders costs the same as a relaxed one, but for a sequentially
+Halves that no run needs stay. On x86-64 each of these orders costs the same as a relaxed one, except for a sequentially
 consistent store, and the kit asks that a handle goes from one thread to another by a sequentially consistent operation. The
 explorer can't tell such an operation from one that acquires and releases.
 

@@ -1,206 +1,20 @@
 //! Times this crate's mutex and condition variable beside the standard library's, in turn: bench [ROUNDS [MILLISECONDS]]. A
-//! line is ROW|LOCK|MEDIAN|LEAST|GREATEST of the rounds. c_tests/bench.cpp has the same rows of C and C++, and
-//! scripts/bench/bench_c makes a table of both.
-use ligdrosa::{mutex, Condvar, Guard, Mutex, MutexGuard, Seat};
+//! line is ROW|LOCK|MEDIAN|LEAST|GREATEST of the rounds. In rows that end in `in order` our locks queue at once.
+//! c_tests/bench.cpp has the same rows of C and C++, and scripts/bench/bench_c makes a table of both.
+mod locks;
+#[cfg(parking_lot)]
+use locks::ParkingLot;
+use locks::{Here, InHand, Kind, Std, PLACES};
 use std::{
     env,
     hint::black_box,
-    ops::DerefMut,
     sync::{
         atomic::{AtomicBool, Ordering::Relaxed},
-        Arc, Barrier,
+        Barrier,
     },
     thread,
     time::{Duration, Instant},
 };
-#[cfg(parking_lot)]
-use std::{mem::ManuallyDrop, ops::Deref};
-
-const PLACES: usize = 16;
-
-/// What the mutexes guard. It is boxed, so that it lies outside the mutex, as in C and C++.
-#[derive(Default)]
-struct State {
-    total: u64,
-    whose: usize,
-    generation: u32,
-    waiting: usize,
-    slots: [u64; PLACES],
-    put: usize,
-    taken: usize,
-}
-
-/// A mutex and its condition variables.
-trait Kind {
-    /// What one thread locks the mutex with.
-    type Own: Send;
-    type Held<'a>: DerefMut<Target = Box<State>>;
-    type Condition: Default + Sync;
-    const NAME: &'static str;
-
-    fn owns(count: usize) -> Vec<Self::Own>;
-    fn lock(own: &mut Self::Own) -> Self::Held<'_>;
-    fn is_refused(own: &mut Self::Own) -> bool;
-    fn wait<'a>(condition: &Self::Condition, held: Self::Held<'a>) -> Self::Held<'a>;
-    fn wake_one(condition: &Self::Condition, held: &mut Self::Held<'_>);
-    fn wake_all(condition: &Self::Condition, held: &mut Self::Held<'_>);
-}
-
-/// This crate's, with seats in hand.
-struct InHand;
-
-impl Kind for InHand {
-    type Own = Seat<Box<State>>;
-    type Held<'a> = Guard<'a, Box<State>>;
-    type Condition = Condvar;
-    const NAME: &'static str = "Rust in hand";
-
-    fn owns(count: usize) -> Vec<Self::Own> {
-        mutex(count, 1 << 36, Box::default()).expect("a mutex")
-    }
-    fn lock(own: &mut Self::Own) -> Self::Held<'_> {
-        own.lock().expect("a hold")
-    }
-    fn is_refused(own: &mut Self::Own) -> bool {
-        own.try_lock().is_err()
-    }
-    fn wait<'a>(condition: &Condvar, mut held: Self::Held<'a>) -> Self::Held<'a> {
-        condition.wait(&mut held).expect("a wait");
-        held
-    }
-    fn wake_one(condition: &Condvar, held: &mut Self::Held<'_>) {
-        condition.notify_one_by(held);
-    }
-    fn wake_all(condition: &Condvar, held: &mut Self::Held<'_>) {
-        condition.notify_all_by(held);
-    }
-}
-
-/// This crate's, with seats that find themselves.
-struct Here;
-
-impl Kind for Here {
-    type Own = Arc<Mutex<Box<State>>>;
-    type Held<'a> = MutexGuard<'a, Box<State>>;
-    type Condition = Condvar;
-    const NAME: &'static str = "Rust";
-
-    fn owns(count: usize) -> Vec<Self::Own> {
-        vec![Arc::default(); count]
-    }
-    fn lock(own: &mut Self::Own) -> Self::Held<'_> {
-        own.lock().expect("a hold")
-    }
-    fn is_refused(own: &mut Self::Own) -> bool {
-        own.try_lock().is_err()
-    }
-    fn wait<'a>(condition: &Condvar, mut held: Self::Held<'a>) -> Self::Held<'a> {
-        condition.wait(&mut held).expect("a wait");
-        held
-    }
-    fn wake_one(condition: &Condvar, _: &mut Self::Held<'_>) {
-        condition.notify_one();
-    }
-    fn wake_all(condition: &Condvar, _: &mut Self::Held<'_>) {
-        condition.notify_all();
-    }
-}
-
-/// The standard library's.
-struct Std;
-
-impl Kind for Std {
-    type Own = Arc<std::sync::Mutex<Box<State>>>;
-    type Held<'a> = std::sync::MutexGuard<'a, Box<State>>;
-    type Condition = std::sync::Condvar;
-    const NAME: &'static str = "std::sync::Mutex";
-
-    fn owns(count: usize) -> Vec<Self::Own> {
-        vec![Arc::default(); count]
-    }
-    fn lock(own: &mut Self::Own) -> Self::Held<'_> {
-        own.lock().expect("a hold")
-    }
-    fn is_refused(own: &mut Self::Own) -> bool {
-        own.try_lock().is_err()
-    }
-    fn wait<'a>(condition: &Self::Condition, held: Self::Held<'a>) -> Self::Held<'a> {
-        condition.wait(held).expect("a wait")
-    }
-    fn wake_one(condition: &Self::Condition, _: &mut Self::Held<'_>) {
-        condition.notify_one();
-    }
-    fn wake_all(condition: &Self::Condition, _: &mut Self::Held<'_>) {
-        condition.notify_all();
-    }
-}
-
-/// That of the crate parking_lot, whose unlock hands the mutex on if it is `FAIR`. scripts/bench/bench_c adds it if it finds
-/// the crate.
-#[cfg(parking_lot)]
-struct ParkingLot<const FAIR: bool>;
-
-/// Its guard, which is dropped by either kind of unlock.
-#[cfg(parking_lot)]
-struct ParkingLotGuard<'a, const FAIR: bool>(ManuallyDrop<parking_lot::MutexGuard<'a, Box<State>>>);
-
-#[cfg(parking_lot)]
-impl<const FAIR: bool> Deref for ParkingLotGuard<'_, FAIR> {
-    type Target = Box<State>;
-    fn deref(&self) -> &Box<State> {
-        &self.0
-    }
-}
-
-#[cfg(parking_lot)]
-impl<const FAIR: bool> DerefMut for ParkingLotGuard<'_, FAIR> {
-    fn deref_mut(&mut self) -> &mut Box<State> {
-        &mut self.0
-    }
-}
-
-#[cfg(parking_lot)]
-impl<const FAIR: bool> Drop for ParkingLotGuard<'_, FAIR> {
-    fn drop(&mut self) {
-        // SAFETY: the guard is not used after it was dropped.
-        let guard = unsafe { ManuallyDrop::take(&mut self.0) };
-        if FAIR {
-            parking_lot::MutexGuard::unlock_fair(guard);
-        }
-    }
-}
-
-#[cfg(parking_lot)]
-impl<const FAIR: bool> Kind for ParkingLot<FAIR> {
-    type Own = Arc<parking_lot::Mutex<Box<State>>>;
-    type Held<'a> = ParkingLotGuard<'a, FAIR>;
-    type Condition = parking_lot::Condvar;
-    const NAME: &'static str = if FAIR {
-        "parking_lot, fair"
-    } else {
-        "parking_lot"
-    };
-
-    fn owns(count: usize) -> Vec<Self::Own> {
-        vec![Arc::default(); count]
-    }
-    fn lock(own: &mut Self::Own) -> Self::Held<'_> {
-        ParkingLotGuard(ManuallyDrop::new(own.lock()))
-    }
-    fn is_refused(own: &mut Self::Own) -> bool {
-        own.try_lock().is_none()
-    }
-    fn wait<'a>(condition: &Self::Condition, mut held: Self::Held<'a>) -> Self::Held<'a> {
-        condition.wait(&mut held.0);
-        held
-    }
-    fn wake_one(condition: &Self::Condition, _: &mut Self::Held<'_>) {
-        condition.notify_one();
-    }
-    fn wake_all(condition: &Self::Condition, _: &mut Self::Held<'_>) {
-        condition.notify_all();
-    }
-}
 
 /// Turns of a loop that only take time, and take as long from each place that calls them.
 #[inline(never)]
@@ -246,12 +60,20 @@ fn each(begun: Instant, count: usize) -> f64 {
     begun.elapsed().as_nanos() as f64 / count as f64
 }
 
-fn alone<K: Kind>() -> [f64; 1] {
+/// A lock, or one that queues at once.
+fn lock<K: Kind, const IN_ORDER: bool>(own: &mut K::Own) -> K::Held<'_> {
+    match IN_ORDER {
+        true => K::lock_in_order(own),
+        false => K::lock(own),
+    }
+}
+
+fn alone<K: Kind, const IN_ORDER: bool>() -> [f64; 1] {
     const PAIRS: usize = 100_000;
     let mut own = K::owns(1).remove(0);
     own_time_of(PAIRS, || {
         for _ in 0..PAIRS {
-            K::lock(&mut own).total += 1;
+            lock::<K, IN_ORDER>(&mut own).total += 1;
         }
     })
 }
@@ -321,12 +143,16 @@ fn in_threads<K: Kind, A: Send>(
 
 /// This many threads, which hold for `inside` turns and stay outside for `outside` turns, until the time is over: the
 /// nanoseconds for an acquisition, and the most of a thread over the fewest.
-fn together<K: Kind>(threads: usize, (inside, outside): (u64, u64), time: Duration) -> [f64; 2] {
+fn together<K: Kind, const IN_ORDER: bool>(
+    threads: usize,
+    (inside, outside): (u64, u64),
+    time: Duration,
+) -> [f64; 2] {
     let is_over = AtomicBool::new(false);
     let work = |_, mut own| {
         let mut gained = 0u64;
         while !is_over.load(Relaxed) {
-            let mut held = K::lock(&mut own);
+            let mut held = lock::<K, IN_ORDER>(&mut own);
             held.total += 1;
             if inside > 0 {
                 turn(inside);
@@ -462,17 +288,17 @@ fn tell<const ROWS: usize>(rounds: usize, rows: [&str; ROWS], locks: &[Measure<R
     }
 }
 
-/// Measures this function of each kind.
+/// Measures this function of each kind, with its further parameters in brackets.
 macro_rules! tell {
-    ($rounds:expr, $rows:expr, $measure:ident($($argument:expr),*)) => {
+    ($rounds:expr, $rows:expr, $measure:ident $([$parameter:tt])? ($($argument:expr),*)) => {
         tell($rounds, $rows, &[
-            (InHand::NAME, &|| $measure::<InHand>($($argument),*)),
-            (Here::NAME, &|| $measure::<Here>($($argument),*)),
-            (Std::NAME, &|| $measure::<Std>($($argument),*)),
+            (InHand::NAME, &|| $measure::<InHand $(, $parameter)?>($($argument),*)),
+            (Here::NAME, &|| $measure::<Here $(, $parameter)?>($($argument),*)),
+            (Std::NAME, &|| $measure::<Std $(, $parameter)?>($($argument),*)),
             #[cfg(parking_lot)]
-            (ParkingLot::<false>::NAME, &|| $measure::<ParkingLot<false>>($($argument),*)),
+            (ParkingLot::<false>::NAME, &|| $measure::<ParkingLot<false> $(, $parameter)?>($($argument),*)),
             #[cfg(parking_lot)]
-            (ParkingLot::<true>::NAME, &|| $measure::<ParkingLot<true>>($($argument),*)),
+            (ParkingLot::<true>::NAME, &|| $measure::<ParkingLot<true> $(, $parameter)?>($($argument),*)),
         ])
     };
 }
@@ -486,7 +312,8 @@ fn main() {
     };
     let rounds = number(1, 11) as usize;
     let time = Duration::from_millis(number(2, 50));
-    tell!(rounds, ["alone: lock, unlock"], alone());
+    tell!(rounds, ["alone: lock, unlock"], alone[false]());
+    tell!(rounds, ["alone, in order"], alone[true]());
     tell!(rounds, ["try_lock that is refused"], refused_try());
     for count in [64, 4096] {
         tell!(rounds, [&format!("one among {count}")], among(count));
@@ -499,10 +326,16 @@ fn main() {
     for (load, turns) in loads {
         for threads in [2, 4, 8] {
             let row = format!("{threads} threads, {load}");
+            let in_order = format!("{row}, in order");
             tell!(
                 rounds,
                 [&row, &format!("{row}, most over fewest")],
-                together(threads, turns, time)
+                together[false](threads, turns, time)
+            );
+            tell!(
+                rounds,
+                [&in_order, &format!("{in_order}, most over fewest")],
+                together[true](threads, turns, time)
             );
         }
     }

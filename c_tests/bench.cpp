@@ -371,6 +371,10 @@ static void tell_costs() {
 int main(int argc, char **argv) {
   if (argc > 1) rounds = std::atoi(argv[1]);
   if (argc > 2) milliseconds = std::atoi(argv[2]);
+#ifdef WITH_ABSL
+  // Debian builds absl with a search for deadlocks, which a build for release does not have
+  absl::SetMutexDeadlockDetectionMode(absl::OnDeadlockCycle::kIgnore);
+#endif
   // a second thread runs first: before that the C library makes no atomic steps
   std::thread([] {}).join();
   tell_one_thread();

@@ -1,13 +1,15 @@
-/* Accounts between which threads transfer money as fast as they can, and an auditor that adds them up. The auditor locks in
- * order: it queues at once, and from there on no thread that queues later is served before it.
+/* Accounts between which threads transfer money as fast as they can, and an auditor that adds them up each millisecond. It
+ * locks in order: it queues at once, and from there on no thread that queues later is served before it.
  *
  *     cc audited_accounts.c $(pkg-config --cflags --libs ligdrosa) -pthread
  */
+#define _POSIX_C_SOURCE 200809L /* for nanosleep, if the compiler is asked for C alone */
 #include <ligdrosa.h>
 #include <pthread.h>
 #include <stdatomic.h>
 #include <stdio.h>
 #include <stdlib.h>
+#include <time.h>
 
 enum { ACCOUNTS = 4, IN_EACH = 100, THREADS = 3, AUDITS = 200 };
 
@@ -43,11 +45,14 @@ static long audit(void) {
 }
 
 int main(void) {
+  const struct timespec millisecond = {0, 1000000};
   pthread_t threads[THREADS];
   for (int i = 0; i < THREADS; i++)
     if (pthread_create(&threads[i], NULL, transfer, NULL)) return 1;
-  for (int i = 0; i < AUDITS; i++)
+  for (int i = 0; i < AUDITS; i++) {
+    nanosleep(&millisecond, NULL);
     if (audit() != ACCOUNTS * IN_EACH) return 1;
+  }
   atomic_store(&is_over, true);
   for (int i = 0; i < THREADS; i++) pthread_join(threads[i], NULL);
   printf("%d audits beside %d threads that transfer: each found %d\n", AUDITS, THREADS, ACCOUNTS * IN_EACH);

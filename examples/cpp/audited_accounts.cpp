@@ -1,11 +1,12 @@
-// Accounts between which threads transfer money as fast as they can, and an auditor that adds them up. The auditor locks in
-// order: it queues at once, and from there on no thread that queues later is served before it.
+// Accounts between which threads transfer money as fast as they can, and an auditor that adds them up each millisecond. It
+// locks in order: it queues at once, and from there on no thread that queues later is served before it.
 //
 //     c++ -std=c++17 audited_accounts.cpp $(pkg-config --cflags --libs ligdrosa) -pthread
 #include <ligdrosa.hpp>
 
 #include <array>
 #include <atomic>
+#include <chrono>
 #include <iostream>
 #include <mutex>
 #include <numeric>
@@ -47,7 +48,10 @@ int main() {
   std::array<std::thread, 3> threads;
   for (std::thread &thread : threads) thread = std::thread(transfer);
   bool are_right = true;
-  for (int i = 0; i < audits; i++) are_right &= bank.audit() == accounts * in_each;
+  for (int i = 0; i < audits; i++) {
+    std::this_thread::sleep_for(std::chrono::milliseconds(1));
+    are_right &= bank.audit() == accounts * in_each;
+  }
   is_over = true;
   for (std::thread &thread : threads) thread.join();
   if (!are_right) return 1;

@@ -1,10 +1,11 @@
-//! Accounts between which threads transfer money as fast as they can, and an auditor that adds them up. The auditor locks in
-//! order: it queues at once, and from there on no thread that queues later is served before it. examples/c and examples/cpp
-//! have the same program.
+//! Accounts between which threads transfer money as fast as they can, and an auditor that adds them up each millisecond. It
+//! locks in order: it queues at once, and from there on no thread that queues later is served before it. examples/c and
+//! examples/cpp have the same program.
 use ligdrosa::{Mutex, Refusal};
 use std::{
     sync::atomic::{AtomicBool, Ordering::Relaxed},
     thread,
+    time::Duration,
 };
 
 const ACCOUNTS: usize = 4;
@@ -36,6 +37,7 @@ fn main() -> Result<(), Refusal> {
     let threads: Vec<_> = (0..THREADS).map(|_| thread::spawn(transfer)).collect();
     let total = IN_EACH * ACCOUNTS as i64;
     for _ in 0..AUDITS {
+        thread::sleep(Duration::from_millis(1));
         assert_eq!(audit()?, total);
     }
     IS_OVER.store(true, Relaxed);

@@ -11,6 +11,7 @@ ghost use Rattle.lfm_laws.specs.laws.InSchedules.{
 };
 ghost use Rattle.lfm_laws.specs.laws.Laws.{QueueIsInPushOrder, StampsAreConsecutive, AnswersAreTheRecords};
 ghost use Rattle.lfm_laws.specs.laws.Overtaking.{QueuedSeatsAreOvertakenOnce, QueuedSeatsWaitForFewReleases, NoSeatOvertakesTwice};
+ghost use Rattle.lfm_laws.specs.laws.BeforePush.{CountedSeatsArePushedInRounds, CountedSeatsArePushedWithinBudgets};
 ghost use Rattle.lfm_laws.specs.laws.FairRounds.{FairRoundsCanBeMade, QueuedSeatsAreServedInFairRounds};
 ghost use Rattle.lfm_laws.specs.laws.Rounds.{QueuedSeatsAreServedInRounds, RoundsCanBeMade};
 ghost use Rattle.lfm_laws.specs.laws.Service.{QueuedSeatsAreServedSoon, StepsServe, SomebodyCanServe};
@@ -131,4 +132,13 @@ pub fn queued_seats_are_served_in_fair_rounds()
 pub fn rounds_can_be_made()
     ensures rounds { RoundsCanBeMade }
     ensures fair { FairRoundsCanBeMade }
+{}
+
+/// X
+///
+/// Definitions: `CountedSeatsArePushedInRounds` and `CountedSeatsArePushedWithinBudgets` in `specs/laws/BeforePush.antt`. Proof:
+/// `proofs/lawful/rounds/BeforePush.antt`.
+pub fn counted_seats_are_pushed_in_rounds()
+    ensures rounds { CountedSeatsArePushedInRounds }
+    ensures budgets { CountedSeatsArePushedWithinBudgets }
 {}

@@ -1,4 +1,6 @@
 -- Starvation freedom: how many rounds pass before a queued record leaves, outside of holds and if owners only release.
+pub mod Asking
+pub mod BeforePush
 pub mod CarrierSteps
 pub mod Carriers
 pub mod Collecting
@@ -9,6 +11,7 @@ pub mod Made
 pub mod OtherSteps
 pub mod OwnSteps
 pub mod OwnerSteps
+pub mod PushBudgets
 pub mod Runs
 pub mod Slack
 pub mod TriedPosts

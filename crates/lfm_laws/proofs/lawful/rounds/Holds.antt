@@ -37,7 +37,7 @@ use Rattle.lfm_laws.proofs.lawful.rounds.Events.{not_own_start, no_start}
 -- The owner
 
 -- the owner is at depth 1 at least
-owner_place : (p : Responsibility) → 0 < owner_of p → (again : Bool) × (p ≡ owned (owner_of p) again)
+pub owner_place : (p : Responsibility) → 0 < owner_of p → (again : Bool) × (p ≡ owned (owner_of p) again)
 owner_place (owned s again) some = (again, refl)
 owner_place nobody some = absurd (omega (arith, some))
 owner_place (Places.granted s stamp) some = absurd (omega (arith, some))
@@ -53,7 +53,7 @@ deep_at (suc d) s again Rest hold claims rests = omega arith
 deep_at depth s again (ReleaseOwnerStore releaser) hold claims rests = absurd (cc)
 deep_at depth s again _ hold claims rests = absurd hold
 
-own_part : (s : ℕ) (again : Bool) → held_by (owned s again) s ≡ owned s again
+pub own_part : (s : ℕ) (again : Bool) → held_by (owned s again) s ≡ owned s again
 own_part s again = rw (eq-eqb s s refl) refl
 
 pub owner_deep : (c : Core) → Steady c → OwnerRestsOrReleases c → 0 < c.owner → (seat c.seats c.owner).point ≡ Rest → 0 < (seat c.seats c.owner).depth

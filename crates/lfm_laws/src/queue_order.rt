@@ -13,6 +13,7 @@ ghost use Rattle.lfm_laws.specs.laws.Laws.{QueueIsInPushOrder, StampsAreConsecut
 ghost use Rattle.lfm_laws.specs.laws.Overtaking.{QueuedSeatsAreOvertakenOnce, QueuedSeatsWaitForFewReleases, NoSeatOvertakesTwice};
 ghost use Rattle.lfm_laws.specs.laws.BeforePush.{CountedSeatsArePushedInRounds, CountedSeatsArePushedWithinBudgets};
 ghost use Rattle.lfm_laws.specs.laws.FairRounds.{FairRoundsCanBeMade, QueuedSeatsAreServedInFairRounds};
+ghost use Rattle.lfm_laws.specs.laws.FullRounds.{QueuedSeatsAreServedWhateverOwnersBegin};
 ghost use Rattle.lfm_laws.specs.laws.Rounds.{QueuedSeatsAreServedInRounds, RoundsCanBeMade};
 ghost use Rattle.lfm_laws.specs.laws.Service.{QueuedSeatsAreServedSoon, StepsServe, SomebodyCanServe};
 
@@ -141,4 +142,12 @@ pub fn rounds_can_be_made()
 pub fn counted_seats_are_pushed_in_rounds()
     ensures rounds { CountedSeatsArePushedInRounds }
     ensures budgets { CountedSeatsArePushedWithinBudgets }
+{}
+
+/// X
+///
+/// Definition: `QueuedSeatsAreServedWhateverOwnersBegin` in `specs/laws/FullRounds.antt`. Proof:
+/// `proofs/lawful/rounds/FullRounds.antt`.
+pub fn queued_seats_are_served_whatever_owners_begin()
+    ensures { QueuedSeatsAreServedWhateverOwnersBegin }
 {}

@@ -6,10 +6,13 @@ pub mod Carriers
 pub mod Collecting
 pub mod Events
 pub mod FairRounds
+pub mod FullRounds
 pub mod Holds
 pub mod Made
 pub mod OtherSteps
 pub mod OwnSteps
+pub mod OwnerEvents
+pub mod OwnerNeeds
 pub mod OwnerSteps
 pub mod PushBudgets
 pub mod Runs

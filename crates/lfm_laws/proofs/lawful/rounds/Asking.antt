@@ -6,6 +6,7 @@ use Rattle.std.specs.Prelude.{◌⊎◌}
 use Rattle.std.proofs.lemmas.Bool.{cases_Bool, cases_eq, eq-eqb, ne_eqb}
 use Rattle.lfm_protocol.specs.declared.answers.Call.{Call}
 use Rattle.lfm_protocol.specs.declared.kinds.Word.{Word}
+use Rattle.lfm_protocol.specs.declared.points.Carrier.{Carrier}
 use Rattle.lfm_protocol.specs.declared.points.Point.{Point}
 use Rattle.lfm_protocol.specs.declared.points.Point.TheVariants.{LockOwnerLoad, PushLoad, LinkStore, PushExchange, SendPushRecheck, ReleasePushRecheck, TakeClearHead}
 use Rattle.lfm_protocol.specs.declared.points.Pusher.{Pusher}
@@ -139,16 +140,16 @@ own_step c g s _ at is fits asks = absurd (omega (arith, asks))
 -- A step of another seat
 
 -- the push word stays the same, or a record is pushed, or the head is cleared
-data PushWord (push after : Link) (pushes : ℕ) : Type 0 where
-  stays : after ≡ push → PushWord push after pushes
-  rises : 0 < pushes → PushWord push after pushes
-  clears : after ≡ record { stamp = push.stamp; next = 0 } → PushWord push after pushes
+pub data PushWord (push after : Link) (pushes : ℕ) (p : Point) : Type 0 where
+  stays : after ≡ push → PushWord push after pushes p
+  rises : 0 < pushes → PushWord push after pushes p
+  clears : (carrier : Carrier) → p ≡ TakeClearHead carrier → after ≡ record { stamp = push.stamp; next = 0 } → PushWord push after pushes p
 
-push_word : (c : Core) (t : ℕ) (p : Point) → (seat c.seats t).point ≡ p → PushWord c.push (made c t).core.push (length (pushed_at_point c t p))
+pub push_word : (c : Core) (t : ℕ) (p : Point) → (seat c.seats t).point ≡ p → PushWord c.push (made c t).core.push (length (pushed_at_point c t p)) p
 push_word c t (PushLoad pusher) at = stays (rw at refl)
 push_word c t (SendPushRecheck u seen) at = stays (rw at refl)
 push_word c t (ReleasePushRecheck releaser) at = stays (rw at refl)
-push_word c t (TakeClearHead carrier) at = clears (rw at refl)
+push_word c t (TakeClearHead carrier) at = clears carrier refl (rw at refl)
 push_word c t (PushExchange pusher seen) at =
     elim (cases_Bool (same_link c.push seen)) [
       | inl same ↦ rises (rw same (omega arith))
@@ -161,13 +162,13 @@ two_more push after (LinkStore pusher seen) = let most = again_unless-le (same_l
 two_more push after (PushExchange pusher seen) = let most = again_unless-le (same_link after seen) in omega (arith, most)
 two_more push after _ = omega arith
 
-four_more : (push after : Link) (pushes : ℕ) (p : Point) → PushWord push after pushes → left_of after p ≤ left_of push p + 4 * pushes
-four_more push after pushes p (stays same) = rw same (omega arith)
-four_more push after pushes p (rises some) =
+four_more : (push after : Link) (pushes : ℕ) (p q : Point) → PushWord push after pushes q → left_of after p ≤ left_of push p + 4 * pushes
+four_more push after pushes p q (stays same) = rw same (omega arith)
+four_more push after pushes p q (rises some) =
     let more = two_more push after p in
     let most = left_to_clear-le after in
     omega (arith, more, most, some)
-four_more push after pushes p (clears empty) =
+four_more push after pushes p q (clears carrier here empty) =
     elim (cases_eq push.next 0) [
       | inl none ↦
           let same : after ≡ push = empty ∙ (λ i. record { stamp = push.stamp; next = sym none i }) in
@@ -203,7 +204,7 @@ asking_made c t s steady asks is =
       ]
       | inr other ↦
           let view = other_made c t s (λ e. other (sym e)) in
-          let left = four_more c.push (made c t).core.push (length (pushed_by c t)) (seat c.seats s).point (push_word c t (seat c.seats t).point refl) in
+          let left = four_more c.push (made c t).core.push (length (pushed_by c t)) (seat c.seats s).point (seat c.seats t).point (push_word c t (seat c.seats t).point refl) in
           inr (rw (ne_eqb t s other) (record { asks = rw view asks; left = rw view (omega (arith, left)) }))
     ]
 

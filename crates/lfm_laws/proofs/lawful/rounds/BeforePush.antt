@@ -68,7 +68,7 @@ pushes_later : (c : Core) (s : ℕ) (first later : List Event) → PushesIn (run
 pushes_later c s [] later pushes = pushes
 pushes_later c s (e ∷ first) later pushes = inr (pushes_later (happens c e).core s first later pushes)
 
-pushed_append : (c : Core) (first later : List Event)
+pub pushed_append : (c : Core) (first later : List Event)
     → length (push_record c (first ++ later)) ≡ length (push_record c first) + length (push_record (run_of c first) later)
 pushed_append c [] later = omega arith
 pushed_append c (e ∷ first) later =

@@ -13,7 +13,7 @@ ghost use Rattle.lfm_laws.specs.laws.Laws.{QueueIsInPushOrder, StampsAreConsecut
 ghost use Rattle.lfm_laws.specs.laws.Overtaking.{QueuedSeatsAreOvertakenOnce, QueuedSeatsWaitForFewReleases, NoSeatOvertakesTwice};
 ghost use Rattle.lfm_laws.specs.laws.BeforePush.{CountedSeatsArePushedInRounds, CountedSeatsArePushedWithinBudgets};
 ghost use Rattle.lfm_laws.specs.laws.FairRounds.{FairRoundsCanBeMade, QueuedSeatsAreServedInFairRounds};
-ghost use Rattle.lfm_laws.specs.laws.FullRounds.{QueuedSeatsAreServedWhateverOwnersBegin};
+ghost use Rattle.lfm_laws.specs.laws.FullRounds.{FullRoundsCanBeMade, QueuedSeatsAreServedWhateverOwnersBegin};
 ghost use Rattle.lfm_laws.specs.laws.Rounds.{QueuedSeatsAreServedInRounds, RoundsCanBeMade};
 ghost use Rattle.lfm_laws.specs.laws.Service.{QueuedSeatsAreServedSoon, StepsServe, SomebodyCanServe};
 
@@ -133,6 +133,7 @@ pub fn queued_seats_are_served_in_fair_rounds()
 pub fn rounds_can_be_made()
     ensures rounds { RoundsCanBeMade }
     ensures fair { FairRoundsCanBeMade }
+    ensures full { FullRoundsCanBeMade }
 {}
 
 /// X

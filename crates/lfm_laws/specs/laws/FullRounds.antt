@@ -54,3 +54,7 @@ QueuedSeatsAreServedWhateverOwnersBegin =
     (c : Core) (events : List Event) (k : ℕ) → IsReached c → k < length (queue_of c)
     → HasFullRounds (3 * length c.seats + 10 * k + 12 + (seat c.seats c.owner).depth + 5 * calls_of_owners c events) c events
     → k < length (popped_record c events)
+
+-- from each reached state a full round can be made in which owners begin no calls but releases
+abbrev pub FullRoundsCanBeMade : Type 0
+FullRoundsCanBeMade = (c : Core) → IsReached c → (events : List Event) × IsFullRound c events × (calls_of_owners c events ≡ 0)

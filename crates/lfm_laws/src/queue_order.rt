@@ -1,4 +1,5 @@
-//! First come, first served: the order of the queue, and that a queued seat is served, how soon, whatever calls begin.
+//! First come, first served: the order of the queue, that a counted seat is pushed, and that a queued seat is served, how soon,
+//! whatever calls begin.
 ghost use Rattle.lfm_laws.specs.laws.InSchedules.{
   QueueIsInPushOrderInSchedules,
   StampsAreConsecutiveInSchedules,
@@ -106,6 +107,17 @@ pub fn somebody_can_serve()
     ensures schedules { SomebodyCanServeInSchedules }
 {}
 
+/// Before the push. A call that has counted a seat and has yet to push it does so within 4p + 6 rounds, p being the number of
+/// records that are pushed meanwhile, and with N seats of budget B within 4NB + 2. Only others' pushes delay it, and only the
+/// budgets bound these: this is lock freedom, told in rounds.
+///
+/// Definitions: `CountedSeatsArePushedInRounds` and `CountedSeatsArePushedWithinBudgets` in `specs/laws/BeforePush.antt`. Proof:
+/// `proofs/lawful/rounds/BeforePush.antt`.
+pub fn counted_seats_are_pushed_in_rounds()
+    ensures rounds { CountedSeatsArePushedInRounds }
+    ensures budgets { CountedSeatsArePushedWithinBudgets }
+{}
+
 /// Starvation freedom from the push on. In a *round*, each seat that can go on at its start makes a step of its open call, or
 /// begins its receive if it sleeps and has its grant. Among N seats, a queued record with k records before it has left the queue
 /// after N + 8k + 7 rounds that begin while no seat owns, whichever calls begin and however long holds last.
@@ -125,30 +137,24 @@ pub fn queued_seats_are_served_in_fair_rounds()
     ensures { QueuedSeatsAreServedInFairRounds }
 {}
 
-/// From each state a round can be made in which only receives begin. From each reached state whose owner is between two calls or
-/// has begun its release, a fair one can be made, and then another.
-///
-/// Definitions: `RoundsCanBeMade` in `specs/laws/Rounds.antt`, and `FairRoundsCanBeMade` in `specs/laws/FairRounds.antt`. Proof:
-/// `proofs/lawful/rounds/Made.antt`.
-pub fn rounds_can_be_made()
-    ensures rounds { RoundsCanBeMade }
-    ensures fair { FairRoundsCanBeMade }
-    ensures full { FullRoundsCanBeMade }
-{}
-
-/// X
-///
-/// Definitions: `CountedSeatsArePushedInRounds` and `CountedSeatsArePushedWithinBudgets` in `specs/laws/BeforePush.antt`. Proof:
-/// `proofs/lawful/rounds/BeforePush.antt`.
-pub fn counted_seats_are_pushed_in_rounds()
-    ensures rounds { CountedSeatsArePushedInRounds }
-    ensures budgets { CountedSeatsArePushedWithinBudgets }
-{}
-
-/// X
+/// Let owners begin any calls, as sends and recursive locks. In a *full round* an owner that is between two calls at its start
+/// begins one that isn't refused. Then a queued record with k records before it has left the queue after 3N + 10k + 12 full
+/// rounds, one more for each hold of the present owner, and five more for each call but releases that owners begin meanwhile.
 ///
 /// Definition: `QueuedSeatsAreServedWhateverOwnersBegin` in `specs/laws/FullRounds.antt`. Proof:
 /// `proofs/lawful/rounds/FullRounds.antt`.
 pub fn queued_seats_are_served_whatever_owners_begin()
     ensures { QueuedSeatsAreServedWhateverOwnersBegin }
+{}
+
+/// From each state a round can be made in which only receives begin. From each reached state a full one can be made in which
+/// owners begin only releases. If the owner is between two calls or has begun its release, a fair one can be made, and then
+/// another.
+///
+/// Definitions: `RoundsCanBeMade` in `specs/laws/Rounds.antt`, `FairRoundsCanBeMade` in `specs/laws/FairRounds.antt`, and
+/// `FullRoundsCanBeMade` in `specs/laws/FullRounds.antt`. Proof: `proofs/lawful/rounds/Made.antt`.
+pub fn rounds_can_be_made()
+    ensures rounds { RoundsCanBeMade }
+    ensures fair { FairRoundsCanBeMade }
+    ensures full { FullRoundsCanBeMade }
 {}

@@ -259,6 +259,7 @@ full_rounds_can_be_made c reached =
     plain_full : Steady c → (0 < c.owner → (seat c.seats c.owner).point ≡ Rest → ⊥) → (events : List Event) × IsFullRound c events × (calls_of_owners c events ≡ 0)
     plain_full steady none =
         (round_of (length c.seats) c, record { round = is_round c; begins_call = λ some at. absurd (none some at) }, none_begun (length c.seats) c steady)
+
     by_point : (p : Point) → (seat c.seats c.owner).point ≡ p → Steady c → 0 < c.owner → (events : List Event) × IsFullRound c events × (calls_of_owners c events ≡ 0)
     by_point Rest at steady some =
         let d : Core = (begin c c.owner Unlock).core in

@@ -8,8 +8,8 @@ ghost use Rattle.lfm_laws.specs.laws.Entries.{HoldersTookTheirRecord, ReceiversL
 ghost use Rattle.lfm_laws.specs.laws.InSchedules.{ClaimedSeatsAreQueuedInSchedules};
 ghost use Rattle.lfm_laws.specs.laws.Releases.{ReleasesAnswerWhatTheyDid, ServedRecordsAreTold, WaitsAnswerTheirRelease};
 
-/// A seat's takes rise by one when a `lock` or `try_lock` opens at depth 0, and when a `start_wait` opens. They fall by one at
-/// a step that is refused as Busy. No other event changes them.
+/// A seat's takes rise by one when a `start_wait` opens, or a `lock` or `try_lock` at depth 0. They fall by one at a step
+/// that is refused as Busy. No other event changes them.
 ///
 /// Definition: `TakesChangeByCharges` in `specs/laws/Charges.antt`. Proof: `proofs/lawful/calls/TakesCounted.antt`.
 pub fn takes_change_by_charges()
@@ -23,9 +23,8 @@ pub fn takes_count_charges()
     ensures { TakesCountCharges }
 {}
 
-/// A step that answers a new hold raises the depth from 0 to 1. With Again the depth rises by one, with Still it falls by one,
-/// and both answer the new depth. A release sets the depth to 0 with the store that empties the owner word. Nothing else
-/// changes it.
+/// A step that answers a new hold raises the depth from 0 to 1. With Again it rises by one, with Still it falls by one, and
+/// both answer the new depth. A release sets it to 0 with the store that empties the owner word. Nothing else changes it.
 ///
 /// Definition: `DepthCountsHolds` in `specs/laws/Depths.antt`. Proof: `proofs/lawful/calls/DepthsCounted.antt`.
 pub fn depth_counts_holds()

@@ -76,9 +76,8 @@ pub fn no_seat_overtakes_twice()
     ensures schedules { NoSeatOvertakesTwiceInSchedules }
 {}
 
-/// If the only calls that begin in a run are unlocks, and receives of seats that have their grant, the calls of N seats make at
-/// most (5N + 5)(o + 2k + 2) steps while a queued record with k records before it has not left the queue; o calls were open before
-/// the run.
+/// If the only calls that begin in a run are unlocks, and receives of seats that have their grant, calls make at most (5N +
+/// 5)(o + 2k + 2) steps while a queued record with k before it has not left the queue; o calls were open before.
 ///
 /// Definitions: `QueuedSeatsAreServedSoon` in `specs/laws/Service.antt`, and `QueuedSeatsAreServedSoonInSchedules` in
 /// `specs/laws/InSchedules.antt`. Proofs: `proofs/lawful/bounds/Served.antt` and `proofs/lawful/runs/InSchedules.antt`.
@@ -118,17 +117,17 @@ pub fn counted_seats_are_pushed_in_rounds()
     ensures budgets { CountedSeatsArePushedWithinBudgets }
 {}
 
-/// Starvation freedom from the push on. In a *round*, each seat that can go on at its start makes a step of its open call, or
-/// begins its receive if it sleeps and has its grant. Among N seats, a queued record with k records before it has left the queue
-/// after N + 8k + 7 rounds that begin while no seat owns, whichever calls begin and however long holds last.
+/// Starvation freedom from the push on. In a *round*, each seat that can go on at its start makes a step of its open call,
+/// or begins its receive if it sleeps and has its grant. A queued record with k before it has left the queue after N + 8k +
+/// 7 rounds that begin while no seat owns, whichever calls begin and however long holds last.
 ///
 /// Definition: `QueuedSeatsAreServedInRounds` in `specs/laws/Rounds.antt`. Proof: `proofs/lawful/rounds/Runs.antt`.
 pub fn queued_seats_are_served_in_rounds()
     ensures { QueuedSeatsAreServedInRounds }
 {}
 
-/// Let owners begin no calls but releases. In a *fair round* an owner that is between two calls at its start begins one, too.
-/// Then a queued record with k records before it has left the queue after N + 10k + 9 fair rounds, and as many more as the
+/// Let owners begin no calls but releases. In a *fair round* an owner that is between two calls at its start begins one,
+/// too. Then a queued record with k before it has left the queue after N + 10k + 9 fair rounds, and as many more as the
 /// present owner needs to release: one for each of its holds, and one.
 ///
 /// Definition: `QueuedSeatsAreServedInFairRounds` in `specs/laws/FairRounds.antt`. Proof:
@@ -137,9 +136,9 @@ pub fn queued_seats_are_served_in_fair_rounds()
     ensures { QueuedSeatsAreServedInFairRounds }
 {}
 
-/// Let owners begin any calls, as sends and recursive locks. In a *full round* an owner that is between two calls at its start
-/// begins one that isn't refused. Then a queued record with k records before it has left the queue after 3N + 10k + 12 full
-/// rounds, one more for each hold of the present owner, and five more for each call but releases that owners begin meanwhile.
+/// Let owners begin any calls. In a *full round* an owner that is between two calls at its start begins one that isn't
+/// refused. Then a queued record with k before it has left the queue after 3N + 10k + 12 full rounds, one more for each hold
+/// of the present owner, and five more for each call but releases that owners begin.
 ///
 /// Definition: `QueuedSeatsAreServedWhateverOwnersBegin` in `specs/laws/FullRounds.antt`. Proof:
 /// `proofs/lawful/rounds/FullRounds.antt`.

@@ -31,8 +31,8 @@ pub fn begins_are_refused_for_cause()
     ensures { BeginsAreRefusedForCause }
 {}
 
-/// The mutex refuses a step of a call exactly if it has one of two causes. Busy: a `try_lock` loads no post, or finds that the
-/// post that it loaded is gone. NotWaiting: the target of a send does not wait. The call then ends, and only its seat changes;
+/// The mutex refuses a step of a call exactly if it has one of two causes. Busy: a `try_lock` loads no post, or the post
+/// that it loaded is gone. NotWaiting: the target of a send does not wait. The call then ends, and only its seat changes;
 /// Busy gives the take back.
 ///
 /// Definition: `StepsAreRefusedForCause` in `specs/laws/Refusals.antt`. Proof: `proofs/lawful/refusals/RefusedSteps.antt`.

@@ -1,5 +1,5 @@
 //! Progress: a release, a try and a receive are wait-free, every call is obstruction-free, and all calls together are
-//! lock-free.
+//! lock-free. N is the number of seats.
 ghost use Rattle.lfm_laws.specs.laws.ConstantBounds.{ReceivesAreBounded, TriesAreBounded};
 ghost use Rattle.lfm_laws.specs.laws.InSchedules.{
   UnlocksAreBoundedInSchedules,
@@ -78,8 +78,8 @@ pub fn tries_alone_hold()
     ensures schedules { TriesAloneHoldInSchedules }
 {}
 
-/// With N seats, an open call makes at most N + 9 steps, plus two for each time that another seat changes the push word before
-/// the call ends.
+/// An open call makes at most N + 9 steps, plus two for each time that another seat changes the push word before the call
+/// ends.
 ///
 /// Definitions: `CallsEndBesideOthers` in `specs/laws/Progress.antt`, and `CallsEndBesideOthersInSchedules` in
 /// `specs/laws/InSchedules.antt`. Proofs: `proofs/lawful/bounds/Beside.antt` and `proofs/lawful/runs/InSchedules.antt`.
@@ -106,7 +106,7 @@ pub fn calls_share_their_steps()
     ensures schedules { CallsShareTheirStepsInSchedules }
 {}
 
-/// Among any 5N(N + 1) + 1 steps of calls, however the N seats interleave, some call ends.
+/// Among any 5N(N + 1) + 1 steps of calls, however the seats interleave, some call ends.
 ///
 /// Definitions: `SomeCallEnds` in `specs/laws/Progress.antt`, and `SomeCallEndsInSchedules` in
 /// `specs/laws/InSchedules.antt`. Proofs: `proofs/lawful/bounds/LockFree.antt` and `proofs/lawful/runs/InSchedules.antt`.
@@ -115,8 +115,8 @@ pub fn some_call_ends()
     ensures schedules { SomeCallEndsInSchedules }
 {}
 
-/// From each state of N seats with k open calls, some sequence of at most (5N + 5)k steps leads to a state without an open
-/// call. Nothing is posted there, and if the count is above 0, a seat owns the mutex or a sleeping seat has its grant.
+/// From each state with k open calls, some sequence of at most (5N + 5)k steps leads to one without. Nothing is posted
+/// there, and if the count is above 0, a seat owns or a sleeping seat has its grant.
 ///
 /// Definitions: `NoStateIsStuck` in `specs/laws/Progress.antt`, and `NoStateIsStuckInSchedules` in
 /// `specs/laws/InSchedules.antt`. Proofs: `proofs/lawful/bounds/Resting.antt` and `proofs/lawful/runs/InSchedules.antt`.

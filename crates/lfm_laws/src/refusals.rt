@@ -23,8 +23,8 @@ pub fn steps_outside_of_calls_change_nothing()
     ensures runs { RunsStayWithoutOutsideSteps }
 {}
 
-/// The mutex refuses a call exactly if the seat and the state have the cause that is named for this call and this refusal; at
-/// most one cause holds.
+/// The mutex refuses a call exactly if the seat and the state have the cause that is named for this call and refusal; at
+/// most one holds.
 ///
 /// Definition: `BeginsAreRefusedForCause` in `specs/laws/Refusals.antt`. Proof: `proofs/lawful/refusals/RefusedCalls.antt`.
 pub fn begins_are_refused_for_cause()
@@ -40,8 +40,8 @@ pub fn steps_are_refused_for_cause()
     ensures { StepsAreRefusedForCause }
 {}
 
-/// A call or step is refused exactly if there is a cause for it. NoSuchSeat: no seat has the number. InCall, for a call: the
-/// seat has another call open. Idle, for a step: the seat has no call open. Any other refusal is one of the call itself.
+/// A call or step is refused exactly if there is a cause for it. NoSuchSeat: no seat has the number. InCall, of a call: the
+/// seat has another open. Idle, of a step: it has none open. Any other refusal is one of the call itself.
 ///
 /// Definition: `TurnsAreRefusedForCause` in `specs/laws/Refusals.antt`. Proof: `proofs/lawful/refusals/RefusedTurns.antt`.
 pub fn turns_are_refused_for_cause()

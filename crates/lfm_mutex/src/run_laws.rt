@@ -8,6 +8,7 @@ ghost use Rattle.lfm_mutex.specs.TableRuns.{
   TablesGoThroughReachedStates,
   TablesHaveARun,
   TablesOvertakeOnce,
+  TablesPushInRounds,
   TablesRunAsTheAbstractMutex,
   TablesServeInPushOrder,
   TablesServeInRounds,
@@ -70,12 +71,20 @@ pub fn tables_overtake_once<T: Kept>()
     ensures { TablesOvertakeOnce T.follows T.fits }
 {}
 
-/// From each moment of a table's run on, `queued_seats_are_served_in_rounds` and `queued_seats_are_served_in_fair_rounds` hold. So
-/// a queued thread with k before it waits for at most k + 1 releases, and for N + 8k + 7 rounds between holds.
+/// From each moment of a table's run on, `queued_seats_are_served_in_rounds`, `queued_seats_are_served_in_fair_rounds` and
+/// `queued_seats_are_served_whatever_owners_begin` hold. So a queued thread with k before it waits for at most k + 1 releases, and
+/// N + 8k + 7 rounds between holds.
 ///
 /// Definition: `TablesServeInRounds` in `specs/TableRuns.antt`. Proof: `proofs/TableRuns.antt`.
 pub fn tables_serve_in_rounds<T: Kept>()
     ensures { TablesServeInRounds T.follows T.fits }
+{}
+
+/// From each moment of a table's run on, `counted_seats_are_pushed_in_rounds` holds.
+///
+/// Definition: `TablesPushInRounds` in `specs/TableRuns.antt`. Proof: `proofs/TableRuns.antt`.
+pub fn tables_push_in_rounds<T: Kept>()
+    ensures { TablesPushInRounds T.follows T.fits }
 {}
 
 /// If k calls have ended since some moment of a table's run, at most (5N + 5)(N + k) steps of calls were made since then. The

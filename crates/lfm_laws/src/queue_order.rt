@@ -1,5 +1,5 @@
-//! First come, first served: the order of the queue, that a counted seat is pushed, and that a queued seat is served, how soon,
-//! whatever calls begin. N is the number of seats.
+//! First come, first served: the order of the queue, that a counted seat is pushed, and that a queued seat is served, how
+//! soon, whatever calls begin. N is the number of seats.
 ghost use Rattle.lfm_laws.specs.laws.InSchedules.{
   QueueIsInPushOrderInSchedules,
   StampsAreConsecutiveInSchedules,
@@ -110,8 +110,8 @@ pub fn somebody_can_serve()
 /// and within 4NB + 2 with a budget of B. Only others' pushes delay it, and only budgets bound these: it is lock freedom in
 /// rounds.
 ///
-/// Definitions: `CountedSeatsArePushedInRounds` and `CountedSeatsArePushedWithinBudgets` in `specs/laws/BeforePush.antt`. Proof:
-/// `proofs/lawful/rounds/BeforePush.antt`.
+/// Definitions: `CountedSeatsArePushedInRounds` and `CountedSeatsArePushedWithinBudgets` in `specs/laws/BeforePush.antt`.
+/// Proof: `proofs/lawful/rounds/BeforePush.antt`.
 pub fn counted_seats_are_pushed_in_rounds()
     ensures rounds { CountedSeatsArePushedInRounds }
     ensures budgets { CountedSeatsArePushedWithinBudgets }

@@ -195,11 +195,11 @@ module _ {T : Type 0} (follows : ℕ → T → T → Type 0) (fits : T → ℕ �
       × (releases_of_run (state_after l early) (events_of late) ≤ length (popped_since l early late) + 1)
       × ((t : ℕ) → (entries_of_seat (state_after l early) t (events_of late) ≤ 1) × (entries_told (late_part l early late t) ≤ 1))
 
-  -- Starvation freedom. Take a record that was queued at an earlier moment, with k before it. It has left the queue if the actions
-  -- since then have N + 8k + 7 rounds that begin while no seat owns. It also has if owners have begun no calls but releases since,
-  -- and the actions have N + 10k + 9 fair rounds, and as many more as the owner of that moment needed to release; and whichever
-  -- calls owners have begun, if the actions have 3N + 10k + 12 full rounds, one more for each hold of that owner, and five more
-  -- for each of these calls that is no release. A load for `owner` is no step of a round.
+  -- Starvation freedom. Take a record that was queued at an earlier moment, with k before it. It has left the queue if the
+  -- actions since then have N + 8k + 7 rounds that begin while no seat owns. It also has if owners have begun no calls but
+  -- releases since, and the actions have N + 10k + 9 fair rounds, and as many more as the owner of that moment needed to
+  -- release. Whichever calls owners have begun, it has if the actions have 3N + 10k + 12 full rounds, one more for each hold
+  -- of that owner, and five more for each of these calls that isn't a release. A load for `owner` is no step of a round.
   abbrev pub TablesServeInRounds : Type 0
   TablesServeInRounds =
       (s : State (Option (Moving T)) (View T)) (l : Limits) (early late : List Action) (k : ℕ) → HoldsAfter l (early ++ late) s
@@ -213,8 +213,8 @@ module _ {T : Type 0} (follows : ℕ → T → T → Type 0) (fits : T → ℕ �
       (state_after l early) (events_of late)
       → k < length (popped_since l early late))
 
-  -- Before the push. A call that at an earlier moment had counted a seat, and had yet to push it, has pushed it if the actions since
-  -- then have 4p + 6 rounds, p being the number of records that were pushed since, or 4NB + 2 rounds.
+  -- Before the push. A call that at an earlier moment had counted a seat, and had yet to push it, has pushed it if the
+  -- actions since then have 4p + 6 rounds, p being the number of records that were pushed since, or 4NB + 2 rounds.
   abbrev pub TablesPushInRounds : Type 0
   TablesPushInRounds =
       (s : State (Option (Moving T)) (View T)) (l : Limits) (early late : List Action) (t : ℕ) → HoldsAfter l (early ++ late) s

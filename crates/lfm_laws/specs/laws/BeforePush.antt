@@ -1,5 +1,5 @@
--- Before the push: after how many rounds a call has pushed the seat that it has counted. Only pushes of others delay it, and the
--- budgets bound how many there are.
+-- Before the push: after how many rounds a call has pushed the seat that it has counted. Only pushes of others delay it, and
+-- the budgets bound how many there are.
 use Rattle.std.specs.Prelude.{◌≡◌, ◌⊎◌, ℕ, ◌+◌, ◌*◌, ◌<◌, List, [], ◌∷◌, length}
 use Rattle.lfm_protocol.specs.Core.{Core}
 use Rattle.lfm_protocol.specs.Seats.{seat}
@@ -19,8 +19,8 @@ abbrev pub PushesIn : Core → ℕ → List Event → Type 0
 PushesIn c s [] = ⊥
 PushesIn c s (e ∷ later) = PushesBy c s e ⊎ PushesIn (happens c e).core s later
 
--- a call that has counted a seat and has yet to push it pushes in 4p + 6 rounds, p being the number of records that are pushed
--- in these events: a push of another seat, and the clear of the push list after it, delay it by at most two rounds each
+-- a call that has counted a seat and has yet to push it pushes in 4p + 6 rounds, p being the number of records that are
+-- pushed in these events: a push of another seat, and the clear of its push list, delay it by at most two rounds each
 abbrev pub CountedSeatsArePushedInRounds : Type 0
 CountedSeatsArePushedInRounds =
     (c : Core) (events : List Event) (s : ℕ) → IsReached c → 0 < asks_for (seat c.seats s) s

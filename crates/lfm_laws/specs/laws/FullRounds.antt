@@ -1,5 +1,5 @@
--- The same of owners that begin any calls, as sends and recursive locks: in a full round the owner goes on too, by whichever
--- call it likes. Each call that isn't a release adds a constant number of rounds.
+-- The same of owners that begin any calls, as sends and recursive locks: in a full round an owner that is between two calls
+-- begins one. Each call that isn't a release adds a constant number of rounds.
 use Rattle.std.specs.Prelude.{◌≡◌, ◌⊎◌, ⊤, ℕ, zero, suc, false, ◌+◌, ◌*◌, ◌<◌, ◌++◌, List, [], ◌∷◌, length, nat_eq, if◌then◌else◌}
 use Rattle.lfm_protocol.specs.declared.answers.Call.TheVariants.{Unlock, StartWait}
 use Rattle.lfm_protocol.specs.declared.points.Point.TheVariants.{Rest}
@@ -17,6 +17,7 @@ abbrev pub BeginsBy : Core → ℕ → Event → Type 0
 BeginsBy c s (begins t call) = (t ≡ s) × (is_refused (begin c s call).turn ≡ false)
 BeginsBy c s (makes t) = ⊥
 
+-- by one of these events it does
 abbrev pub BeginsIn : Core → ℕ → List Event → Type 0
 BeginsIn c s [] = ⊥
 BeginsIn c s (e ∷ later) = BeginsBy c s e ⊎ BeginsIn (happens c e).core s later
@@ -57,4 +58,5 @@ QueuedSeatsAreServedWhateverOwnersBegin =
 
 -- from each reached state a full round can be made in which owners begin no calls but releases
 abbrev pub FullRoundsCanBeMade : Type 0
-FullRoundsCanBeMade = (c : Core) → IsReached c → (events : List Event) × IsFullRound c events × (calls_of_owners c events ≡ 0)
+FullRoundsCanBeMade =
+    (c : Core) → IsReached c → (events : List Event) × IsFullRound c events × (calls_of_owners c events ≡ 0)

@@ -1,6 +1,6 @@
--- A call that has counted a seat and has yet to push it: the rounds that it still needs fall with each of its steps. A push of
--- another seat raises them by at most four: by two, since the next exchange fails, and by two more, since the new head may be
--- cleared before the exchange after that. A clear raises nothing, since the head that it clears has been charged for.
+-- A call that has counted a seat and has yet to push it: the rounds that it still needs fall with each of its steps. A push
+-- of another seat raises them by at most four: by two, since the next exchange fails, and by two more, since the new head
+-- may be cleared before the exchange after that. A clear raises nothing, since the head that it clears has been charged for.
 use Rattle.std.proofs.Common.{◌≡◌, ◌≢◌, ℕ, true, ◌+◌, ◌*◌, ◌≤◌, ◌<◌, length, nat_eq, refl, sym, ap, subst, ◌∙◌, inl, inr, arith, if◌then◌else◌}
 use Rattle.std.specs.Prelude.{◌⊎◌}
 use Rattle.std.proofs.lemmas.Bool.{cases_Bool, cases_eq, eq-eqb, ne_eqb}

@@ -1,5 +1,5 @@
--- Before the push: each round lowers what a call still needs, unless it pushes, and each push of another seat raises it by at
--- most four. At first it needs at most six rounds.
+-- Before the push: each round lowers what a call still needs, unless it pushes, and each push of another seat raises it by
+-- at most four. At first it needs at most six rounds.
 use Rattle.std.proofs.Common.{◌≡◌, ℕ, zero, suc, ◌+◌, ◌*◌, ◌<◌, ◌++◌, List, [], ◌∷◌, length, sym, ap, subst, inl, inr, arith}
 use Rattle.std.specs.Prelude.{◌⊎◌}
 use Rattle.std.proofs.lemmas.List.{length-append}

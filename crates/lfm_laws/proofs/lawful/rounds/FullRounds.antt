@@ -1,5 +1,5 @@
--- Full rounds: each that begins while a seat owns lowers what the owner needs. Seats become the owner at most k + 1 times, and
--- at most N - 1 records are pushed, before our record leaves. The other rounds begin while no seat owns.
+-- Full rounds: each that begins while a seat owns lowers what the owner needs. Before our record leaves, seats become the
+-- owner at most k + 1 times, and at most N - 1 records are pushed. The other rounds begin while no seat owns.
 use Rattle.std.proofs.Common.{◌≡◌, ℕ, Bool, zero, suc, ◌+◌, ◌*◌, ◌≤◌, ◌<◌, ◌++◌, List, [], ◌∷◌, length, refl, sym, ap, subst, ◌∙◌, inl, inr, arith}
 use Rattle.std.specs.Prelude.{◌⊎◌}
 use Rattle.std.proofs.lemmas.Bool.{cases_eq}
@@ -142,7 +142,8 @@ split (suc r) c events steady has =
 
 -- Pushes
 
--- while our record is queued, all records of the queue, and all that are pushed, are of different seats
+-- while our record is queued at most N - 1 records are pushed: at most k leave the queue, which had more than k at first and has
+-- at most N then
 few_pushes : (c : Core) (events : List Event) (k : ℕ) → Steady c → k < length (queue_of c) → length (popped_record c events) ≤ k
     → length (push_record c events) + 1 ≤ length c.seats
 few_pushes c events k steady queued low =

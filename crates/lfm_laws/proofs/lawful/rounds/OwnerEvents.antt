@@ -1,5 +1,5 @@
--- What an owner needs after an event: it rises by at most two with a store by which a seat becomes the owner, by four with the start of a call that
--- isn't a release, and by two with a push. It falls by one if the owner goes on or begins a call, beside five for that start.
+-- What an owner needs after an event. It is lower if the owner goes on or begins a call, except that a store by which a seat
+-- becomes the owner adds two rounds, the start of a call that isn't a release five, and a push two.
 use Rattle.std.proofs.Common.{◌≡◌, ◌≢◌, ℕ, zero, suc, Bool, true, false, ◌+◌, ◌*◌, ◌≤◌, ◌<◌, length, nat_lt, refl, sym, ap, subst, ◌∙◌, inl, inr, arith, ◌&&◌, if◌then◌else◌}
 use Rattle.std.specs.Prelude.{◌⊎◌}
 use Rattle.std.proofs.lemmas.Bool.{cases_Bool, cases_eq, eq-eqb, ne_eqb, false≢true}
@@ -115,7 +115,7 @@ other_made_outcome c g t fits some other =
 
 -- The start of a call
 
--- the start is refused, or it lowers what the seat needs, beside five for a call that isn't a release
+-- the start is refused, or it adds less than five to what the seat needs
 data Starts (push : Link) (x y : SeatState) (refused : Bool) : Type 0 where
   refuses : y ≡ x → refused ≡ true → Starts push x y refused
   opens : refused ≡ false → needs_at push y.depth y.point + 1 ≤ needs_at push x.depth x.point + 5 → Starts push x y refused

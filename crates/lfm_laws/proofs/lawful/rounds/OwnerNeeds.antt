@@ -1,5 +1,5 @@
--- What an owner needs: the rounds up to its release if it begins no more calls than releases. Each of its steps lowers them, and each
--- push raises them by at most two: if it is a push of another seat, since the owner's own push may then fail.
+-- What an owner needs: the rounds up to its release if it begins no calls but releases. Each of its steps lowers them, and a
+-- push raises them by at most two: a push of another seat may make the owner's own fail.
 use Rattle.std.proofs.Common.{◌≡◌, ◌≢◌, ℕ, zero, suc, Bool, ◌+◌, ◌*◌, ◌≤◌, ◌<◌, length, refl, sym, ap, subst, ◌∙◌, inl, inr, arith}
 use Rattle.std.proofs.lemmas.Bool.{cases_Bool, eq-eqb, ne_eqb}
 use Rattle.lfm_model.specs.declared.answers.How.{How}
@@ -32,7 +32,8 @@ use Rattle.lfm_laws.proofs.lawful.touched.OneWord.{other_word}
 
 -- What an owner needs
 
--- by its depth and its point. Its own push lowers it by one too, beside the two that each push raises it by
+-- by its depth and its point. Before the push of its send this is two less than the rounds that it needs: that push adds two,
+-- as each push does
 abbrev pub needs_at : Link → ℕ → Point → ℕ
 needs_at push depth Rest = rounds_from_rest depth
 needs_at push depth LockCountAdd = depth + 5

@@ -41,9 +41,10 @@ pub use mutual_exclusion::{
     count_is_zero_if_free, one_has_the_responsibility, one_seat_owns, places_are_read,
 };
 pub use queue_order::{
-    answers_are_the_records, no_seat_overtakes_twice, queue_is_in_push_order,
-    queued_seats_are_overtaken_once, queued_seats_are_served_in_fair_rounds,
-    queued_seats_are_served_in_rounds, queued_seats_are_served_soon,
+    answers_are_the_records, counted_seats_are_pushed_in_rounds, no_seat_overtakes_twice,
+    queue_is_in_push_order, queued_seats_are_overtaken_once,
+    queued_seats_are_served_in_fair_rounds, queued_seats_are_served_in_rounds,
+    queued_seats_are_served_soon, queued_seats_are_served_whatever_owners_begin,
     queued_seats_wait_for_few_releases, rounds_can_be_made, somebody_can_serve,
     stamps_are_consecutive, steps_serve,
 };

@@ -1,14 +1,20 @@
 -- Starvation freedom: how many rounds pass before a queued record leaves, outside of holds and if owners only release.
+pub mod Asking
+pub mod BeforePush
 pub mod CarrierSteps
 pub mod Carriers
 pub mod Collecting
 pub mod Events
 pub mod FairRounds
+pub mod FullRounds
 pub mod Holds
 pub mod Made
 pub mod OtherSteps
 pub mod OwnSteps
+pub mod OwnerEvents
+pub mod OwnerNeeds
 pub mod OwnerSteps
+pub mod PushBudgets
 pub mod Runs
 pub mod Slack
 pub mod TriedPosts

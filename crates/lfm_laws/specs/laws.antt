@@ -6,6 +6,7 @@ pub mod Overtaking
 pub mod Service
 pub mod Rounds
 pub mod FairRounds
+pub mod HoldingInRounds
 pub mod Reading
 pub mod Watched
 pub mod TriedPosts

@@ -3,6 +3,8 @@ pub mod CarrierSteps
 pub mod Carriers
 pub mod Collecting
 pub mod Events
+pub mod GrantedSeats
+pub mod HoldingInRounds
 pub mod FairRounds
 pub mod Holds
 pub mod Made

@@ -2,3 +2,4 @@
 pub mod UserMutexEvents
 pub mod UserMutexRounds
 pub mod SentWaiters
+pub mod Made

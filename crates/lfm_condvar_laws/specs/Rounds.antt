@@ -78,3 +78,13 @@ GrantedWaitersHoldInRounds =
     (r : CondvarRun) (events : List CondvarEvent) (s v ticket stamp : ℕ) → (reached_by r).stage s ≡ receiving v ticket
     → wake (reached_by r).mutex.wakes s ≡ Grant stamp → HasUnownedRounds 5 (reached_by r) events
     → HoldsIn (reached_by r) s v ticket events
+
+-- from each state that a run reaches a round can be made, and no call begins in it but receives
+abbrev pub BeginsOnlyReceives : List CondvarEvent → Type 0
+BeginsOnlyReceives [] = ⊤
+BeginsOnlyReceives (makes s ∷ later) = BeginsOnlyReceives later
+BeginsOnlyReceives (begins s Receive ∷ later) = BeginsOnlyReceives later
+BeginsOnlyReceives (e ∷ later) = ⊥
+
+abbrev pub RoundsCanBeMade : Type 0
+RoundsCanBeMade = (r : CondvarRun) → (events : List CondvarEvent) × IsRound (reached_by r) events × BeginsOnlyReceives events

@@ -1,5 +1,5 @@
 //! The laws of a `wait`: its seat is not in the list yet, it sleeps until it is sent, and it ends holding.
-ghost use Rattle.lfm_condvar_laws.specs.Rounds.{SentWaitersHoldInRounds, GrantedWaitersHoldInRounds};
+ghost use Rattle.lfm_condvar_laws.specs.Rounds.{SentWaitersHoldInRounds, GrantedWaitersHoldInRounds, RoundsCanBeMade};
 ghost use Rattle.lfm_condvar_laws.specs.Laws.{WaitsAreNew, WaitsAreSent, WaitsSleepUntilSent, WaitsEndHolding, WaitsCanEnd};
 
 /// No `wait` finds its seat in the list when it has taken the lock. So none is refused as Busy.
@@ -38,14 +38,15 @@ pub fn waits_can_end()
     ensures { WaitsCanEnd }
 {}
 
-/// Starvation freedom of waiters, in rounds. In a *round*, each seat that can go on in the user mutex at its start makes a step
-/// of its open call there, or begins its receive if it sleeps and has its grant. Among N seats, a waiter that was sent and is
-/// queued, with k records before its own, holds the user mutex, and its `wait` is about to end, within N + 8k + 12 rounds that
-/// begin while no seat owns, whichever calls begin and however long holds last. A waiter that has its grant holds within five.
+/// Starvation freedom of waiters. In a *round*, each seat that can go on in the user mutex makes a step of its open call there,
+/// or begins its receive if it sleeps and has its grant. A waiter that has its grant holds within five rounds that begin while
+/// no seat owns, and a waiter that was sent and is queued, with k records before its own, within N + 8k + 12: its `wait` is
+/// about to end. A round can always be made.
 ///
-/// Definitions: `SentWaitersHoldInRounds` and `GrantedWaitersHoldInRounds` in `specs/Rounds.antt`. Proof:
-/// `proofs/rounds/SentWaiters.antt`.
+/// Definitions: `SentWaitersHoldInRounds`, `GrantedWaitersHoldInRounds` and `RoundsCanBeMade` in `specs/Rounds.antt`. Proofs:
+/// `proofs/rounds/SentWaiters.antt` and `proofs/rounds/Made.antt`.
 pub fn sent_waiters_hold_in_rounds()
     ensures queued { SentWaitersHoldInRounds }
     ensures granted { GrantedWaitersHoldInRounds }
+    ensures rounds { RoundsCanBeMade }
 {}

@@ -12,7 +12,8 @@ pub use lfm_condvar_laws::lists::{
 };
 pub use lfm_condvar_laws::user_mutex::{cores_are_reached, own_calls_are_free};
 pub use lfm_condvar_laws::waits::{
-    waits_are_new, waits_are_sent, waits_can_end, waits_end_holding, waits_sleep_until_sent,
+    sent_waiters_hold_in_rounds, waits_are_new, waits_are_sent, waits_can_end, waits_end_holding,
+    waits_sleep_until_sent,
 };
 pub use lfm_condvar_laws::{claims, lists, user_mutex, waits};
 use lfm_mutex::Kept;

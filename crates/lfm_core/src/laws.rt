@@ -35,7 +35,7 @@ pub use lfm_laws::mutual_exclusion::{
 pub use lfm_laws::queue_order::{
     answers_are_the_records, no_seat_overtakes_twice, queue_is_in_push_order,
     queued_seats_are_overtaken_once, queued_seats_are_served_in_fair_rounds,
-    queued_seats_are_served_in_rounds, queued_seats_are_served_soon,
+    queued_seats_are_served_in_rounds, queued_seats_are_served_soon, queued_seats_hold_in_rounds,
     queued_seats_wait_for_few_releases, rounds_can_be_made, somebody_can_serve,
     stamps_are_consecutive, steps_serve,
 };

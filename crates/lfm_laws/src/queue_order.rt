@@ -134,19 +134,13 @@ pub fn rounds_can_be_made()
     ensures fair { FairRoundsCanBeMade }
 {}
 
-/// A seat whose wake word has a grant owns within five rounds, whichever calls begin.
+/// Starvation freedom until the seat holds, whichever calls begin and however long holds last. A seat that has its grant owns
+/// within five rounds. So among N seats, the seat of a queued record with k records before it owns within N + 8k + 12 rounds
+/// that begin while no seat owns.
 ///
-/// Definition: `GrantedSeatsHoldInRounds` in `specs/laws/HoldingInRounds.antt`. Proof:
-/// `proofs/lawful/rounds/HoldingInRounds.antt`.
-pub fn granted_seats_hold_in_rounds()
-    ensures { GrantedSeatsHoldInRounds }
-{}
-
-/// Starvation freedom until the seat holds: among N seats, the seat of a queued record with k records before it owns within
-/// N + 8k + 12 rounds that begin while no seat owns, whichever calls begin and however long holds last.
-///
-/// Definition: `QueuedSeatsHoldInRounds` in `specs/laws/HoldingInRounds.antt`. Proof:
+/// Definitions: `GrantedSeatsHoldInRounds` and `QueuedSeatsHoldInRounds` in `specs/laws/HoldingInRounds.antt`. Proof:
 /// `proofs/lawful/rounds/HoldingInRounds.antt`.
 pub fn queued_seats_hold_in_rounds()
-    ensures { QueuedSeatsHoldInRounds }
+    ensures granted { GrantedSeatsHoldInRounds }
+    ensures queued { QueuedSeatsHoldInRounds }
 {}

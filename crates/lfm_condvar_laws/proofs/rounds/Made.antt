@@ -1,7 +1,7 @@
 -- From each state that a run reaches a round can be made: one seat after another makes a step, or begins its receive if it
 -- sleeps outside of calls on condvars. No other seat changes its point or its stage, so each seat that can go on at the start
 -- still can when its event comes.
-use Rattle.std.proofs.Common.{◌≡◌, ◌≢◌, ◌⊎◌, ℕ, zero, suc, Bool, true, false, ◌≤◌, ◌<◌, ◌&&◌, List, [], ◌∷◌, length, refl, sym, ap, subst, ◌∙◌, inl, inr, arith, if◌then◌else◌}
+use Rattle.std.proofs.Common.{◌≡◌, ◌≢◌, ◌⊎◌, ℕ, zero, suc, Bool, true, false, ◌≤◌, ◌<◌, ◌&&◌, List, [], ◌∷◌, length, refl, sym, subst, ◌∙◌, inl, inr, arith, if◌then◌else◌}
 use Rattle.std.proofs.lemmas.Bool.{cases_Bool, cases_eq, false≢true}
 use Rattle.lfm_protocol.specs.declared.answers.Call.TheVariants.{StartWait, Receive}
 use Rattle.lfm_protocol.specs.declared.points.Point.{Point}
@@ -13,7 +13,7 @@ use Rattle.lfm_protocol.specs.Core.{Core}
 use Rattle.lfm_protocol.specs.Seats.{seat, wake, IsSeat}
 use Rattle.lfm_protocol.specs.Step.{begin}
 use Rattle.lfm_protocol.specs.Turns.{is_open}
-use Rattle.lfm_laws.specs.laws.Rounds.{CanGoOn, SleepsWithGrant}
+use Rattle.lfm_laws.specs.laws.Rounds.{CanGoOn}
 use Rattle.lfm_laws.specs.laws.Schedules.{is_call}
 use Rattle.lfm_laws.proofs.lawful.bounds.Leaving.{seat_of_call}
 use Rattle.lfm_laws.proofs.lawful.rounds.Made.{opens}
@@ -21,8 +21,8 @@ use Rattle.lfm_laws.proofs.steady.frames.Seated.{seat_of_point, test_of_seat}
 use Rattle.lfm_condvar_laws.specs.Condvars.{Stage, outside, locking_to_wait, starting, receiving, locking_to_wake, claiming, sending, unlocking, CondvarCore, point_of}
 use Rattle.lfm_condvar_laws.specs.Events.{CondvarEvent, begins, makes, is_outside, happens}
 use Rattle.lfm_condvar_laws.specs.Laws.{reached_by}
-use Rattle.lfm_condvar_laws.specs.Rounds.{ReceivesNext, GoesOnBy, GoesOnIn, IsRound, BeginsOnlyReceives, RoundsCanBeMade}
-use Rattle.lfm_condvar_laws.proofs.Invariant.{CondvarGhost, StartsAt, StageFits, CoreFits, sends_at, waits_at}
+use Rattle.lfm_condvar_laws.specs.Rounds.{GoesOnBy, GoesOnIn, BeginsOnlyReceives, RoundsCanBeMade}
+use Rattle.lfm_condvar_laws.proofs.Invariant.{CondvarGhost, StartsAt, StageFits, CoreFits}
 use Rattle.lfm_condvar_laws.proofs.LockMoves.{actor, event_moves}
 use Rattle.lfm_condvar_laws.proofs.Runs.{run_reaches}
 use Rattle.lfm_condvar_laws.proofs.mutex.OwnSeat.{begin_wait_at}

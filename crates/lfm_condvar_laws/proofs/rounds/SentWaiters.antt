@@ -1,16 +1,15 @@
 -- A waiter that was sent holds: once the seat of a wait that receives owns the user mutex, the wait is about to end. Until then
 -- its stage stays, so the laws of the user mutex say after how many rounds that is.
-use Rattle.std.proofs.Common.{◌≡◌, ◌≢◌, ◌⊎◌, ℕ, true, false, ◌+◌, ◌*◌, ◌<◌, Option, Some, None, List, [], ◌∷◌, length, nat_eq, refl, sym, ap, subst, ◌∙◌, inl, inr, arith}
-use Rattle.std.proofs.lemmas.Bool.{cases_eq, eqb-true, false≢true}
+use Rattle.std.proofs.Common.{◌≡◌, ◌≢◌, ℕ, true, false, ◌+◌, ◌*◌, ◌<◌, Option, Some, None, List, [], ◌∷◌, length, refl, sym, ap, subst, ◌∙◌, inl, inr, arith}
+use Rattle.std.proofs.lemmas.Bool.{cases_eq, false≢true}
 use Rattle.lfm_protocol.specs.declared.points.Entrant.{Entrant}
 use Rattle.lfm_protocol.specs.declared.points.Point.{Point}
 use Rattle.lfm_protocol.specs.declared.points.Point.TheVariants.{Rest, Asleep, EnterOwnerStore, ReceiveWakeLoad, ReceiveWakeStore}
-use Rattle.lfm_protocol.specs.declared.points.Sleeper.{Sleeper}
 use Rattle.lfm_protocol.specs.Core.{Core}
 use Rattle.lfm_protocol.specs.Seats.{seat, IsSeat}
 use Rattle.lfm_laws.specs.laws.HoldingInRounds.{OwnsIn}
 use Rattle.lfm_laws.specs.laws.Schedules.{Event}
-use Rattle.lfm_laws.specs.steady.Ghost.{Responsibility, nobody, owned, entering, Ghost}
+use Rattle.lfm_laws.specs.steady.Ghost.{entering, Ghost}
 use Rattle.lfm_laws.specs.steady.Steady.{Fits}
 use Rattle.lfm_laws.specs.steady.Views.{claim, stamp_of}
 use Rattle.lfm_laws.proofs.lawful.calls.RecursiveCalls.{owner_of_claim}
@@ -18,8 +17,8 @@ use Rattle.lfm_laws.proofs.lawful.rounds.HoldingInRounds.{any_rounds, granted_se
 use Rattle.lfm_laws.proofs.steady.frames.Entries.{seat_or_absent}
 use Rattle.lfm_laws.proofs.steady.frames.Frames.{place_of_claim}
 use Rattle.lfm_laws.proofs.steady.frames.Quiet.{owner_of-held}
-use Rattle.lfm_condvar_laws.specs.Condvars.{Stage, receiving, CondvarCore, point_of}
-use Rattle.lfm_condvar_laws.specs.Events.{CondvarEvent, makes, receives_at, goes_on, happens, is_outside}
+use Rattle.lfm_condvar_laws.specs.Condvars.{receiving, CondvarCore, point_of}
+use Rattle.lfm_condvar_laws.specs.Events.{CondvarEvent, receives_at, goes_on, happens}
 use Rattle.lfm_condvar_laws.specs.Laws.{reached_by}
 use Rattle.lfm_condvar_laws.specs.Rounds.{IsAboutToEnd, HoldsIn, SentWaitersHoldInRounds, GrantedWaitersHoldInRounds}
 use Rattle.lfm_condvar_laws.proofs.Invariant.{CondvarGhost, ReceivingFits, CoreFits, comes_to_hold, comes_to_hold_at}

@@ -1,11 +1,12 @@
--- Starvation freedom: how many rounds pass before a queued record leaves, outside of holds and if owners only release.
+-- Starvation freedom: how many rounds pass before a queued record leaves, outside of holds and if owners only release, and
+-- before its seat holds.
 pub mod CarrierSteps
 pub mod Carriers
 pub mod Collecting
 pub mod Events
+pub mod FairRounds
 pub mod GrantedSeats
 pub mod HoldingInRounds
-pub mod FairRounds
 pub mod Holds
 pub mod Made
 pub mod OtherSteps

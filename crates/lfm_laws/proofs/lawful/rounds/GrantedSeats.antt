@@ -1,7 +1,7 @@
 -- A seat that has its grant, one event at a time: how many rounds are left until it owns. No other seat moves the
 -- responsibility, so only its own steps matter: it ends its `lock`, begins its receive, loads the grant, stores QUIET and
 -- stores the owner.
-use Rattle.std.proofs.Common.{◌≡◌, ◌≢◌, ℕ, Bool, true, false, ◌≤◌, ◌<◌, Some, None, refl, sym, ap, subst, ◌∙◌, inl, inr, arith}
+use Rattle.std.proofs.Common.{◌≡◌, ◌≢◌, ℕ, Bool, true, false, ◌≤◌, ◌<◌, refl, sym, ap, subst, ◌∙◌, inl, inr, arith}
 use Rattle.std.specs.Prelude.{◌⊎◌}
 use Rattle.std.proofs.lemmas.Bool.{cases_Bool, cases_eq, eq-eqb, false≢true}
 use Rattle.lfm_model.specs.Abstract.{passed}
@@ -12,11 +12,9 @@ use Rattle.lfm_protocol.specs.declared.points.Point.{Point}
 use Rattle.lfm_protocol.specs.declared.points.Point.TheVariants.{Rest, Asleep, PushedHandoffLoad, PushedHandoffExchange, EnterOwnerStore, ReceiveWakeLoad, ReceiveWakeStore}
 use Rattle.lfm_protocol.specs.declared.points.Pusher.{Pusher}
 use Rattle.lfm_protocol.specs.declared.points.Sleeper.{Sleeper}
-use Rattle.lfm_protocol.specs.declared.seats.SeatState.{SeatState}
-use Rattle.lfm_words.specs.declared.wakes.Wake.TheVariants.{Grant}
 use Rattle.lfm_protocol.specs.After.{same_handoff, how_granted}
 use Rattle.lfm_protocol.specs.Core.{Core, limits}
-use Rattle.lfm_protocol.specs.Seats.{seat, wake, is_seat, IsSeat}
+use Rattle.lfm_protocol.specs.Seats.{seat, is_seat, IsSeat}
 use Rattle.lfm_protocol.specs.Step.{made, begin}
 use Rattle.lfm_laws.specs.laws.Cases.{GoesBy}
 use Rattle.lfm_laws.specs.laws.Events.{case_at, case_of_step}
@@ -25,7 +23,7 @@ use Rattle.lfm_laws.specs.laws.Schedules.{Event, begins, makes, happens, is_call
 use Rattle.lfm_laws.specs.steady.Ghost as Places
 use Rattle.lfm_laws.specs.steady.Ghost.{Responsibility, nobody, Ghost}
 use Rattle.lfm_laws.specs.steady.EventOutcome.{abstract, abstract_place}
-use Rattle.lfm_laws.specs.steady.Steady.{Fits, awaits_grant}
+use Rattle.lfm_laws.specs.steady.Steady.{Fits}
 use Rattle.lfm_laws.specs.steady.Views.{held_by}
 use Rattle.lfm_laws.proofs.lawful.bounds.DueCalls.{granted_word, passed_place}
 use Rattle.lfm_laws.proofs.lawful.bounds.Leaving.{own_made, other_made, begun_other, begin_leaves}

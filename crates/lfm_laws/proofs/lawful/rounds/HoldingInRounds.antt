@@ -1,7 +1,7 @@
 -- From the grant, and from the queue, to the hold: each round brings a seat that has its grant nearer, so it owns within five.
 -- A queued record leaves within N + 8k + 7 rounds, and the step by which it leaves grants its seat or makes it the owner.
 use Rattle.std.proofs.Common.{◌≡◌, ℕ, zero, suc, ◌+◌, ◌*◌, ◌≤◌, ◌<◌, ◌++◌, Option, Some, None, List, [], ◌∷◌, length, refl, sym, ap, ◌∙◌, append_assoc, inl, inr, arith}
-use Rattle.std.specs.Prelude.{◌⊎◌, ⊤, Bool, true, false, ◌&&◌, if◌then◌else◌}
+use Rattle.std.specs.Prelude.{◌⊎◌, Bool, true, false, ◌&&◌, if◌then◌else◌}
 use Rattle.std.proofs.lemmas.Bool.{cases_Bool}
 use Rattle.std.proofs.lemmas.List.{length-append}
 use Rattle.lfm_model.specs.declared.answers.How.{How}
@@ -10,26 +10,25 @@ use Rattle.lfm_protocol.specs.declared.points.Point.{Point}
 use Rattle.lfm_protocol.specs.declared.points.Point.TheVariants.{Asleep, GrantWakeStore, EnterOwnerStore, ReceiveWakeLoad, ReceiveWakeStore}
 use Rattle.lfm_protocol.specs.declared.points.Sleeper.{Sleeper}
 use Rattle.lfm_words.specs.declared.pop_lists.Record.{Record}
-use Rattle.lfm_words.specs.declared.wakes.Wake.{Wake}
 use Rattle.lfm_words.specs.declared.wakes.Wake.TheVariants.{Quiet, Waiting, Claimed, Grant}
 use Rattle.lfm_protocol.specs.Core.{Core}
 use Rattle.lfm_protocol.specs.Queue.{queue_of}
-use Rattle.lfm_protocol.specs.Seats.{seat, wake, is_seat, IsSeat}
+use Rattle.lfm_protocol.specs.Seats.{seat, wake, is_seat}
 use Rattle.lfm_protocol.specs.Step.{made}
-use Rattle.lfm_laws.specs.laws.Events.{popped_at_point, popped_by}
+use Rattle.lfm_laws.specs.laws.Events.{popped_at_point}
 use Rattle.lfm_laws.specs.laws.HoldingInRounds.{OwnsIn, HasRounds, GrantedSeatsHoldInRounds, QueuedSeatsHoldInRounds}
+use Rattle.lfm_laws.specs.laws.Laws.{IsReached}
 use Rattle.lfm_laws.specs.laws.Rounds.{CanGoOn, GoesOnBy, GoesOnIn, IsRound, HasUnownedRounds}
 use Rattle.lfm_laws.specs.laws.Schedules.{Event, begins, makes, happens, run_of, push_record, popped_in, popped_record}
-use Rattle.lfm_laws.specs.steady.Ghost as Places
 use Rattle.lfm_laws.specs.steady.Ghost.{Responsibility, Standing, Ghost}
 use Rattle.lfm_laws.specs.steady.EventOutcome.{abstract_place}
 use Rattle.lfm_laws.specs.steady.Steady.{Fits}
 use Rattle.lfm_laws.specs.steady.Views.{grant_at, is_apart, is_entered, wake_at, wake_by}
 use Rattle.lfm_laws.proofs.lawful.bounds.DueCalls.{granted_word, passed_place}
 use Rattle.lfm_laws.proofs.lawful.runs.PushOrder.{queue_goes}
-use Rattle.lfm_laws.proofs.lawful.runs.Reached.{absent_tested, event_goes, made_keeps, steady_reached}
+use Rattle.lfm_laws.proofs.lawful.runs.Reached.{absent_tested, event_goes, steady_reached}
 use Rattle.lfm_laws.proofs.steady.frames.Entries.{entry-with_same}
-use Rattle.lfm_laws.proofs.steady.frames.Seated.{seat_of_test, seat_of_queued}
+use Rattle.lfm_laws.proofs.steady.frames.Seated.{seat_of_queued}
 use Rattle.lfm_laws.proofs.steady.grant.Wakings.{place_of_grant}
 use Rattle.lfm_laws.proofs.steady.queue.Popping.{first_of}
 use Rattle.lfm_laws.proofs.lawful.rounds.GrantedSeats.{rounds_to_hold, has_gained, Comes, awaits, gained, Nearer, owns, nearer, stays, can_come, comes_event}
@@ -287,6 +286,19 @@ record Parts (m n : ℕ) (c : Core) (events : List Event) : Type 0 where
   first : HasUnownedRounds m c early
   last : HasUnownedRounds n (run_of c early) late
 
+one_more : (m n : ℕ) (c : Core) (events before round later : List Event) → events ≡ before ++ (round ++ later) → (run_of c before).owner ≡ 0
+    → IsRound (run_of c before) round → Parts m n (run_of (run_of c before) round) later → Parts (suc m) n c events
+one_more m n c events before round later whole none is rest =
+    let there : run_of c (before ++ (round ++ rest.early)) ≡ run_of (run_of (run_of c before) round) rest.early =
+    run_append c before (round ++ rest.early) ∙ run_append (run_of c before) round rest.early in
+    record {
+      early = before ++ (round ++ rest.early);
+      late = rest.late;
+      whole = whole ∙ ap (λ l. before ++ (round ++ l)) rest.whole ∙ regroup before round rest.early rest.late;
+      first = (before, round, rest.early, refl, none, is, rest.first);
+      last = rw there rest.last;
+    }
+
 parts : (m n : ℕ) (c : Core) (events : List Event) → HasUnownedRounds (m + n) c events → Parts m n c events
 parts zero n c events has =
     let none : zero + n ≡ n = omega arith in
@@ -294,34 +306,33 @@ parts zero n c events has =
 parts (suc m) n c events has =
     let sum : suc m + n ≡ suc (m + n) = omega arith in
     let has : HasUnownedRounds (suc (m + n)) c events = rw sum at has in
-    let before : List Event = has.0 in
-    let round : List Event = has.1 in
-    let rest = parts m n (run_of (run_of c before) round) has.2 has.6 in
-    let there : run_of c (before ++ (round ++ rest.early)) ≡ run_of (run_of (run_of c before) round) rest.early =
-    run_append c before (round ++ rest.early) ∙ run_append (run_of c before) round rest.early in
-    record {
-      early = before ++ (round ++ rest.early);
-      late = rest.late;
-      whole = has.3 ∙ ap (λ l. before ++ (round ++ l)) rest.whole ∙ regroup before round rest.early rest.late;
-      first = (before, round, rest.early, refl, has.4, has.5, rest.first);
-      last = rw there rest.last;
-    }
+    one_more m n c events has.0 has.1 has.2 has.3 has.4 has.5 (parts m n (run_of (run_of c has.0) has.1) has.2 has.6)
 
 -- The law
 
+-- the record has left by the end of the first part
+left_early : (c : Core) (m n : ℕ) (events : List Event) (first behind : List Record) (x : Record) → IsReached c → queue_of c ≡ first ++ (x ∷ behind)
+    → m ≡ length c.seats + 8 * length first + 7 → (split : Parts m n c events) → OwnsIn c x.seat split.early ⊎ WillHold (run_of c split.early) x.seat 5
+left_early c m n events first behind x reached queue enough split =
+    let steady = steady_reached c reached in
+    let size : length (queue_of c) ≡ length first + length (x ∷ behind) = ap length queue ∙ length-append first (x ∷ behind) in
+    let served = queued_seats_are_served_in_rounds c split.early (length first) reached (omega (arith, size)) (rw enough at split.first) in
+    let order : first ++ (x ∷ (behind ++ push_record c split.early)) ≡ popped_record c split.early ++ queue_of (run_of c split.early) =
+    sym (append_assoc first (x ∷ behind) (push_record c split.early)) ∙ ap (λ l. l ++ push_record c split.early) (sym queue)
+    ∙ queue_goes c steady.ghost_state split.early steady.fits in
+    let left = begins_so first (popped_record c split.early) (queue_of (run_of c split.early)) (behind ++ push_record c split.early) x order served in
+    left_run c steady.ghost_state split.early first left.0 x steady.fits left.1
+
+by_parts : (c : Core) (m : ℕ) (events : List Event) (s : ℕ) → (split : Parts m 5 c events) → OwnsIn c s split.early ⊎ WillHold (run_of c split.early) s 5
+    → OwnsIn c s events
+by_parts c m events s split (inl own) = rw split.whole (owns_first c s split.early split.late own)
+by_parts c m events s split (inr will) =
+    rw split.whole (owns_later c s split.early split.late
+    (hold_within 5 (run_of c split.early) s split.late will (any_rounds 5 (run_of c split.early) split.late split.last)))
+
 pub queued_seats_hold_in_rounds : QueuedSeatsHoldInRounds
 queued_seats_hold_in_rounds c events first behind x reached queue has =
-    let steady = steady_reached c reached in
-    let k = length first in
-    let sum : length c.seats + 8 * length first + 12 ≡ (length c.seats + 8 * length first + 7) + 5 = omega arith in
-    let split = parts (length c.seats + 8 * length first + 7) 5 c events (rw sum at has) in
-    let size : length (queue_of c) ≡ length first + length (x ∷ behind) = ap length queue ∙ length-append first (x ∷ behind) in
-    let served = queued_seats_are_served_in_rounds c split.early (length first) reached (omega (arith, size)) split.first in
-    let order : first ++ (x ∷ (behind ++ push_record c split.early)) ≡ popped_record c split.early ++ queue_of (run_of c split.early) =
-    sym (append_assoc first (x ∷ behind) (push_record c split.early)) ∙ ap (λ l. l ++ push_record c split.early) (sym queue) ∙ queue_goes c steady.ghost_state split.early steady.fits in
-    let left = begins_so first (popped_record c split.early) (queue_of (run_of c split.early)) (behind ++ push_record c split.early) x order served in
-    rw split.whole (
-    elim (left_run c steady.ghost_state split.early first left.0 x steady.fits left.1) [
-      | inl own ↦ owns_first c x.seat split.early split.late own
-      | inr will ↦ owns_later c x.seat split.early split.late (hold_within 5 (run_of c split.early) x.seat split.late will (any_rounds 5 (run_of c split.early) split.late split.last))
-    ])
+    let enough : ℕ = length c.seats + 8 * length first + 7 in
+    let sum : length c.seats + 8 * length first + 12 ≡ enough + 5 = omega arith in
+    let split = parts enough 5 c events (rw sum at has) in
+    by_parts c enough events x.seat split (left_early c enough 5 events first behind x reached queue refl split)

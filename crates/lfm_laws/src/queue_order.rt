@@ -12,7 +12,6 @@ ghost use Rattle.lfm_laws.specs.laws.InSchedules.{
 ghost use Rattle.lfm_laws.specs.laws.Laws.{QueueIsInPushOrder, StampsAreConsecutive, AnswersAreTheRecords};
 ghost use Rattle.lfm_laws.specs.laws.Overtaking.{QueuedSeatsAreOvertakenOnce, QueuedSeatsWaitForFewReleases, NoSeatOvertakesTwice};
 ghost use Rattle.lfm_laws.specs.laws.FairRounds.{FairRoundsCanBeMade, QueuedSeatsAreServedInFairRounds};
-ghost use Rattle.lfm_laws.specs.laws.HoldingInRounds.{GrantedSeatsHoldInRounds, QueuedSeatsHoldInRounds};
 ghost use Rattle.lfm_laws.specs.laws.Rounds.{QueuedSeatsAreServedInRounds, RoundsCanBeMade};
 ghost use Rattle.lfm_laws.specs.laws.Service.{QueuedSeatsAreServedSoon, StepsServe, SomebodyCanServe};
 
@@ -132,15 +131,4 @@ pub fn queued_seats_are_served_in_fair_rounds()
 pub fn rounds_can_be_made()
     ensures rounds { RoundsCanBeMade }
     ensures fair { FairRoundsCanBeMade }
-{}
-
-/// Starvation freedom until the seat holds, whichever calls begin and however long holds last. A seat that has its grant owns
-/// within five rounds. So among N seats, the seat of a queued record with k records before it owns within N + 8k + 12 rounds
-/// that begin while no seat owns.
-///
-/// Definitions: `GrantedSeatsHoldInRounds` and `QueuedSeatsHoldInRounds` in `specs/laws/HoldingInRounds.antt`. Proof:
-/// `proofs/lawful/rounds/HoldingInRounds.antt`.
-pub fn queued_seats_hold_in_rounds()
-    ensures granted { GrantedSeatsHoldInRounds }
-    ensures queued { QueuedSeatsHoldInRounds }
 {}

@@ -17,7 +17,7 @@ ghost use Rattle.lfm_laws.specs.laws.InSchedules.{
 ghost use Rattle.lfm_laws.specs.laws.Laws.{UnlocksAreBounded, StartWaitsAreBounded, CallsEndAlone, PushesAloneFailOnce, TriesAloneHold};
 ghost use Rattle.lfm_laws.specs.laws.Progress.{CallsEndBesideOthers, CallsChangeThePushWordTwice, CallsShareTheirSteps, SomeCallEnds, NoStateIsStuck};
 
-/// An `unlock` makes at most N + 7 steps, whatever the other seats do in between; N is the number of seats.
+/// With N seats, an `unlock` makes at most N + 7 steps, whatever the other seats do in between.
 ///
 /// Definitions: `UnlocksAreBounded` in `specs/laws/Laws.antt`, and `UnlocksAreBoundedInSchedules` in
 /// `specs/laws/InSchedules.antt`. Proofs: `proofs/lawful/bounds/ReleaseBounds.antt` and
@@ -27,7 +27,7 @@ pub fn unlocks_are_bounded()
     ensures schedules { UnlocksAreBoundedInSchedules }
 {}
 
-/// A `start_wait` makes at most N + 8 steps, whatever the other seats do in between; N is the number of seats.
+/// With N seats, a `start_wait` makes at most N + 8 steps, whatever the other seats do in between.
 ///
 /// Definitions: `StartWaitsAreBounded` in `specs/laws/Laws.antt`, and `StartWaitsAreBoundedInSchedules` in
 /// `specs/laws/InSchedules.antt`. Proofs: `proofs/lawful/bounds/ReleaseBounds.antt` and
@@ -37,8 +37,8 @@ pub fn start_waits_are_bounded()
     ensures schedules { StartWaitsAreBoundedInSchedules }
 {}
 
-/// Wait-free tries and receives: a `try_lock` ends within 6 of its own atomic steps and a `receive` within 3, however the other
-/// seats interleave and however many there are.
+/// Wait-free tries and receives: a `try_lock` ends within 6 of its own steps and a `receive` within 3, whatever the other seats
+/// do in between.
 ///
 /// Definitions: `TriesAreBounded` and `ReceivesAreBounded` in `specs/laws/ConstantBounds.antt`, and
 /// `TriesAndReceivesAreBoundedInSchedules` in `specs/laws/InSchedules.antt`. Proofs:
@@ -49,8 +49,8 @@ pub fn tries_and_receives_are_bounded()
     ensures schedules { TriesAndReceivesAreBoundedInSchedules }
 {}
 
-/// If only its seat makes steps, an open call ends within N + 16 of them, N being the number of seats. So `*` makes no more
-/// than that. `calls_end_beside_others` gives the smaller bound N + 9.
+/// With N seats, if only its seat makes steps, an open call ends within N + 16 of them, so `*` makes no more.
+/// `calls_end_beside_others` gives N + 9.
 ///
 /// Definitions: `CallsEndAlone` in `specs/laws/Laws.antt`, and `CallsEndAloneInSchedules` in `specs/laws/InSchedules.antt`.
 /// Proofs: `proofs/lawful/bounds/CallsEnd.antt` and `proofs/lawful/runs/InSchedules.antt`.

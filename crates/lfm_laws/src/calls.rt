@@ -40,8 +40,8 @@ pub fn recursive_calls_load_the_owner()
     ensures { RecursiveCallsLoadTheOwner }
 {}
 
-/// The step by which a `lock` answers Held with a stamp takes the oldest record from the queue; it is the seat's own record and
-/// has that stamp. The step by which a `lock` answers Held as Free, or a `try_lock` answers Held, takes no record.
+/// The step by which a `lock` answers Held with a stamp takes the oldest record from the queue, which is its seat's own and has
+/// that stamp. The step by which a `lock` answers Held as Free, or a `try_lock` answers Held, takes no record.
 ///
 /// Definition: `HoldersTookTheirRecord` in `specs/laws/Entries.antt`. Proof: `proofs/lawful/calls/HeldTold.antt`.
 pub fn holders_took_their_record()

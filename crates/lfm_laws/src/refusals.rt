@@ -12,8 +12,8 @@ pub fn refused_begins_change_nothing()
     ensures { RefusedBeginsChangeNothing }
 {}
 
-/// A step of a seat that has no call open, or of a number that no seat has, leaves each word, record and seat unchanged. Only
-/// such a step is refused as Idle or NoSuchSeat. So a run leads to the same state without it.
+/// A step of a seat that has no call open, or of a number that no seat has, changes no word, record or seat, so a run leads to
+/// the same state without it. Only such a step is refused as Idle or NoSuchSeat.
 ///
 /// Definitions: `StepsOutsideOfCallsChangeNothing`, `AnsweredOutside` and `RunsStayWithoutOutsideSteps` in
 /// `specs/laws/OutsideSteps.antt`. Proof: `proofs/lawful/refusals/OutsideSteps.antt`.
@@ -31,9 +31,9 @@ pub fn begins_are_refused_for_cause()
     ensures { BeginsAreRefusedForCause }
 {}
 
-/// The mutex refuses a step of a call exactly if it has one of two causes. Busy: a `try_lock` loads no post, or finds that the
-/// post that it loaded is gone. NotWaiting: the target of a send does not wait. The call then ends, and only its seat changes;
-/// Busy gives the take back.
+/// The mutex refuses a step of a call exactly for one of two causes. Busy: a `try_lock` loads no post, or the post that it
+/// loaded is gone. NotWaiting: the target of a send does not wait. The call then ends, and only its seat changes; Busy gives
+/// the take back.
 ///
 /// Definition: `StepsAreRefusedForCause` in `specs/laws/Refusals.antt`. Proof: `proofs/lawful/refusals/RefusedSteps.antt`.
 pub fn steps_are_refused_for_cause()

@@ -29,6 +29,7 @@ pub use lfm_laws::handoffs::{
     posts_with_records_are_tried, quiescent_states_rest, sleepers_are_reachable,
     takes_find_a_record, won_posts_have_a_record,
 };
+pub use lfm_laws::holding::queued_seats_hold_in_rounds;
 pub use lfm_laws::mutual_exclusion::{
     count_is_zero_if_free, one_has_the_responsibility, one_seat_owns, places_are_read,
 };
@@ -47,7 +48,7 @@ pub use lfm_laws::refusals::{
     turns_are_refused_for_cause,
 };
 pub use lfm_laws::{
-    bounds, calls, effects, handoffs, mutual_exclusion, queue_order, ranges, refusals,
+    bounds, calls, effects, handoffs, holding, mutual_exclusion, queue_order, ranges, refusals,
 };
 pub use schedules::lines_are_events;
 pub use steadiness::{

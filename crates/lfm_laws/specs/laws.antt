@@ -8,6 +8,7 @@ pub mod Rounds
 pub mod FairRounds
 pub mod FullRounds
 pub mod BeforePush
+pub mod HoldingInRounds
 pub mod Reading
 pub mod Watched
 pub mod TriedPosts

@@ -10,6 +10,7 @@ pub mod bounds;
 pub mod calls;
 pub mod effects;
 pub mod handoffs;
+pub mod holding;
 pub mod mutual_exclusion;
 pub mod queue_order;
 pub mod ranges;
@@ -37,6 +38,7 @@ pub use handoffs::{
     posts_with_records_are_tried, quiescent_states_rest, sleepers_are_reachable,
     takes_find_a_record, won_posts_have_a_record,
 };
+pub use holding::queued_seats_hold_in_rounds;
 pub use mutual_exclusion::{
     count_is_zero_if_free, one_has_the_responsibility, one_seat_owns, places_are_read,
 };

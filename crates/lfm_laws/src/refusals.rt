@@ -12,8 +12,8 @@ pub fn refused_begins_change_nothing()
     ensures { RefusedBeginsChangeNothing }
 {}
 
-/// A step of a seat that has no call open, or of a number that no seat has, leaves each word, record and seat unchanged. Only
-/// such a step is refused as Idle or NoSuchSeat. So a run leads to the same state without it.
+/// A step of a seat that has no call open, or of a number that no seat has, changes no word, record or seat, so a run leads to
+/// the same state without it. Only such a step is refused as Idle or NoSuchSeat.
 ///
 /// Definitions: `StepsOutsideOfCallsChangeNothing`, `AnsweredOutside` and `RunsStayWithoutOutsideSteps` in
 /// `specs/laws/OutsideSteps.antt`. Proof: `proofs/lawful/refusals/OutsideSteps.antt`.

@@ -51,7 +51,7 @@ Goes p = (is_call p ≡ true) ⊎ ((since : Sleeper) × (p ≡ Asleep since))
 opens_at : (x : SeatState) (limits : Limits) (p : Point) (since : Sleeper) → p ≡ Asleep since → (Begin.begin_at x limits Receive p).turn ≡ Open
 opens_at x limits p since at = rw at refl
 
-opens : (c : Core) (s : ℕ) (since : Sleeper) → (seat c.seats s).point ≡ Asleep since → (begin c s Receive).turn ≡ Open
+pub opens : (c : Core) (s : ℕ) (since : Sleeper) → (seat c.seats s).point ≡ Asleep since → (begin c s Receive).turn ≡ Open
 opens c s since at =
     let is = seat_of_point c.seats s (λ rests. let e = sym at ∙ rests in cc) in
     rw (test_of_seat c.seats s is) (opens_at (seat c.seats s) (limits c) (seat c.seats s).point since at)

@@ -1,9 +1,9 @@
 -- The steps of a call, one after another: that they end, what they add to the trail, and how a call changes the sight of its
 -- seat.
 pub mod BusyFacts
+pub mod CallStarts
 pub mod Courses
 pub mod DueFalls
-pub mod FirstPoints
 pub mod GoesOn
 pub mod Granted
 pub mod MadeCalls
@@ -11,7 +11,6 @@ pub mod OneStep
 pub mod PlainCourses
 pub mod PushPoints
 pub mod ReceivePoints
-pub mod RunFacts
 pub mod RunGoesOn
 pub mod Running
 pub mod SameSeats
@@ -21,10 +20,12 @@ pub mod SendFacts
 pub mod SendPoints
 pub mod ServePoints
 pub mod ShortCalls
-pub mod SightFacts
 pub mod Sights
 pub mod Spending
 pub mod FastPathPoints
+pub mod StepResults
+pub mod Tests
 pub mod TryEnds
 pub mod WakeUps
+pub mod WeightFalls
 pub mod Woken

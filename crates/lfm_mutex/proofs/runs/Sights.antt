@@ -39,43 +39,29 @@ use Rattle.lfm_mutex.specs.calls.Runs.{Errand, locking, trying, releasing, sendi
 use Rattle.lfm_table.specs.Steps.{Event, ValueGoes, MayBeLeft}
 use Rattle.lfm_mutex.specs.calls.Sight.{Sight, sight_of, by_depth, is_asleep, is_in_call, sends_of, Concludes, RefusedBy, StillAt, IsLeft, Suits, Finds, MayLeave, Gains, Deepens, LeavesOff, Turned, claimed, Stays, BusySeen, new_sight, Names}
 use Rattle.lfm_mutex.specs.Fresh.{Fresh}
-use Rattle.lfm_mutex.proofs.runs.RunFacts.{no_leaves}
-use Rattle.lfm_mutex.proofs.runs.Running.{begun_open}
+use Rattle.lfm_mutex.proofs.runs.StepResults.{is_send, no_leaves, concludes}
+use Rattle.lfm_mutex.proofs.runs.CallStarts.{begun_open}
+use Rattle.lfm_mutex.proofs.runs.Tests.{if_known}
 use Rattle.lfm_table.proofs.tables.StepFacts.{made_of, left_same}
-use Rattle.lfm_mutex.proofs.runs.SightFacts.{concludes}
-use Rattle.lfm_mutex.proofs.runs.FirstPoints.{is_send}
 use Rattle.lfm_mutex.proofs.runs.SendFacts.{no_sends, sends_join, sent_path, refused_path}
 use Rattle.lfm_mutex.proofs.runs.BusyFacts.{busy_path}
 
 -- One step
 
 deep_after : (x p : SeatState) (turn : Turn) → Concludes x turn p → 0 < x.depth → 0 < p.depth
-deep_after x p Open c deep = let e = c.0 in omega (arith, e, deep)
-deep_after x p (Ended (Answer.Asked (Asked.Held how))) c deep = let e = c.0 in omega (arith, e, deep)
 deep_after x p (Ended (Answer.Asked (Asked.Again d))) c deep = let e = c.1 in let f = c.2 in omega (arith, e, f)
-deep_after x p (Ended (Answer.Asked Asked.Asleep)) c deep = let e = c.0 in omega (arith, e, deep)
-deep_after x p (Ended (Answer.Locked (Locked.Held how))) c deep = let e = c.0 in omega (arith, e, deep)
 deep_after x p (Ended (Answer.Locked (Locked.Again d))) c deep = let e = c.1 in let f = c.2 in omega (arith, e, f)
-deep_after x p (Ended (Answer.Unlocked u)) c deep = let e = c.0 in omega (arith, e, deep)
-deep_after x p (Ended (Answer.Waiting u)) c deep = let e = c.0 in omega (arith, e, deep)
-deep_after x p (Ended (Answer.Got (Some how))) c deep = let e = c.0 in omega (arith, e, deep)
 deep_after x p (Ended (Answer.Got None)) c deep = let e = c.0 in omega (arith, e, deep)
-deep_after x p (Ended Answer.Sent) c deep = let e = c.0 in omega (arith, e, deep)
 deep_after x p (Refused (Why.By Refusal.Busy)) c deep = let e = c.0 in omega (arith, e, deep)
 deep_after x p (Refused (Why.By Refusal.NotWaiting)) c deep = let e = c.0 in omega (arith, e, deep)
 deep_after x p (Refused _) c deep = absurd c
+deep_after x p _ c deep = let e = c.0 in omega (arith, e, deep)
 
 none_answered : (s : ℕ) (x p : SeatState) (turn : Turn) → Concludes x turn p → 0 < x.depth → length (answered_by s turn) ≡ 0
 none_answered s x p (Ended (Answer.Asked (Asked.Held how))) c deep = absurd (let e = c.0 in omega (arith, e, deep))
-none_answered s x p (Ended (Answer.Asked (Asked.Again d))) c deep = refl
-none_answered s x p (Ended (Answer.Asked Asked.Asleep)) c deep = refl
 none_answered s x p (Ended (Answer.Locked (Locked.Held how))) c deep = absurd (let e = c.0 in omega (arith, e, deep))
-none_answered s x p (Ended (Answer.Locked (Locked.Again d))) c deep = refl
 none_answered s x p (Ended (Answer.Got (Some how))) c deep = absurd (let e = c.0 in omega (arith, e, deep))
-none_answered s x p (Ended (Answer.Got None)) c deep = refl
-none_answered s x p (Ended _) c deep = refl
-none_answered s x p Open c deep = refl
-none_answered s x p (Refused why) c deep = refl
+none_answered s x p _ c deep = refl
 
 carries_deep : (d : ℕ) (q : Point) → 0 < d → (if nat_eq d 0 then carries q else true) ≡ true
 carries_deep d q deep = let z = ne_eqb d 0 (λ e. omega (arith, e, deep)) in rw z refl
@@ -157,41 +143,23 @@ module _ {T : Type 0} (n n' : ℕ) (p p' : SeatState) (v v' : View T) (a a' : Op
   abbrev Level : Type 0
   Level = ((p.depth ≡ 0) × (p'.depth ≡ 0)) ⊎ ((0 < p.depth) × (0 < p'.depth))
 
+  -- a part of the sight that depends on whether the seat holds
+  by_level : {A : Type 0} (out deep out' deep' : A) → Level → (p.depth ≡ 0 → out' ≡ out) → (0 < p.depth → deep' ≡ deep) → by_depth p'.depth out' deep' ≡ by_depth p.depth out deep
+  by_level out deep out' deep' level flat held = elim level [
+    | inl f ↦ flat_by p'.depth out' deep' f.1 ∙ (flat f.0 ∙ sym (flat_by p.depth out deep f.0))
+    | inr f ↦ deep_by p'.depth out' deep' f.1 ∙ (held f.0 ∙ sym (deep_by p.depth out deep f.0))
+  ]
+
   -- a call that neither acquires nor gives up the mutex
   pub same_but : (d k : ℕ) (asleep in_call : Bool) (sends : List ℕ) → n' ≡ n → p'.depth ≡ d → p'.takes ≡ k → is_asleep p'.point ≡ asleep → is_in_call p'.point ≡ in_call → sends_of v'.trail ≡ sends
       → last_hold v' ≡ last_hold v → Stays p.depth v a v' a' → Level
       → sight_of n' p' v' a' ≡ record (sight_of n p v a) { depth = d; takes = k; asleep = asleep; in_call = in_call; trail = v'.trail; sends = sends }
   same_but d k asleep in_call sends number depth takes asleep_is in_call_is sends_are last stays level =
-      let lasts : by_depth p'.depth v'.last v'.found ≡ by_depth p.depth v.last v.found =
-      elim level [
-        | inl f ↦ flat_by p'.depth v'.last v'.found f.1 ∙ (ap (λ (t : LastHold T). t.0) last ∙ sym (flat_by p.depth v.last v.found f.0))
-        | inr f ↦ deep_by p'.depth v'.last v'.found f.1 ∙ ((stays f.0).1 ∙ sym (deep_by p.depth v.last v.found f.0))
-      ]
-      in
-      let founds : by_depth p'.depth v'.last_found v'.found ≡ by_depth p.depth v.last_found v.found =
-      elim level [
-        | inl f ↦ flat_by p'.depth v'.last_found v'.found f.1 ∙ (ap (λ (t : LastHold T). t.1) last ∙ sym (flat_by p.depth v.last_found v.found f.0))
-        | inr f ↦ deep_by p'.depth v'.last_found v'.found f.1 ∙ ((stays f.0).1 ∙ sym (deep_by p.depth v.last_found v.found f.0))
-      ]
-      in
-      let values : by_depth p'.depth None a' ≡ by_depth p.depth None a =
-      elim level [
-        | inl f ↦ flat_by p'.depth None a' f.1 ∙ sym (flat_by p.depth None a f.0)
-        | inr f ↦ deep_by p'.depth None a' f.1 ∙ ((stays f.0).0 ∙ sym (deep_by p.depth None a f.0))
-      ]
-      in
-      let queued : by_depth p'.depth 0 v'.answered ≡ by_depth p.depth 0 v.answered =
-      elim level [
-        | inl f ↦ flat_by p'.depth 0 v'.answered f.1 ∙ sym (flat_by p.depth 0 v.answered f.0)
-        | inr f ↦ deep_by p'.depth 0 v'.answered f.1 ∙ ((stays f.0).2 ∙ sym (deep_by p.depth 0 v.answered f.0))
-      ]
-      in
-      let holds : by_depth p'.depth 0 v'.holds_ended ≡ by_depth p.depth 0 v.holds_ended =
-      elim level [
-        | inl f ↦ flat_by p'.depth 0 v'.holds_ended f.1 ∙ sym (flat_by p.depth 0 v.holds_ended f.0)
-        | inr f ↦ deep_by p'.depth 0 v'.holds_ended f.1 ∙ ((stays f.0).3 ∙ sym (deep_by p.depth 0 v.holds_ended f.0))
-      ]
-      in
+      let lasts = by_level v.last v.found v'.last v'.found level (λ _. ap (λ (t : LastHold T). t.0) last) (λ deep. (stays deep).1) in
+      let founds = by_level v.last_found v.found v'.last_found v'.found level (λ _. ap (λ (t : LastHold T). t.1) last) (λ deep. (stays deep).1) in
+      let values = by_level None a None a' level (λ _. refl) (λ deep. (stays deep).0) in
+      let queued = by_level 0 v.answered 0 v'.answered level (λ _. refl) (λ deep. (stays deep).2) in
+      let holds = by_level 0 v.holds_ended 0 v'.holds_ended level (λ _. refl) (λ deep. (stays deep).3) in
       λ i. record { number = number i; seats = ap (λ (t : LastHold T). t.2.seats) last i; depth = depth i; takes = takes i; asleep = asleep_is i; in_call = in_call_is i; last = lasts i; found = founds i; ended = ap (λ (t : LastHold T). t.3) last i; holds_ended = holds i; value = values i; queued = queued i; trail = v'.trail; sends = sends_are i }
 
 -- Starts of calls
@@ -217,58 +185,50 @@ module _ {T : Type 0} (follows : ℕ → T → T → Type 0) (fits : T → ℕ �
   abbrev Starts : Call → SeatState → Stepped → Type 0
   Starts call p st = StartsBy call p st.seat st.turn
 
-  starts_if : (call : Call) (p : SeatState) (b : Bool) (x y : Stepped) → (b ≡ true → Starts call p x) → (b ≡ false → Starts call p y) → Starts call p (if b then x else y)
-  starts_if call p true x y first second = first refl
-  starts_if call p false x y first second = second refl
-
   starts_lock : (d t ps : ℕ) → Starts Call.Lock (made_of d t ps Rest) (Begin.begin_entry (made_of d t ps Rest) l.budget LockCountAdd)
   starts_lock d t ps = let x = made_of d t ps Rest in
-      starts_if Call.Lock x (nat_lt (max_depth - 1) d) (refuses x Refusal.DepthFull) (if nat_eq d 0 then charges x l.budget LockCountAdd else goes_on x LockCountAdd) (λ e. ((refl, search (tests, arith, e)), refl))
-      (λ e. starts_if Call.Lock x (nat_eq d 0) (charges x l.budget LockCountAdd) (goes_on x LockCountAdd)
-      (λ f. starts_if Call.Lock x (nat_lt t l.budget) (record { seat = record x { point = LockCountAdd; takes = t + 1 }; turn = Open }) (refuses x Refusal.Spent)
+      if_known (Starts Call.Lock x) (nat_lt (max_depth - 1) d) (refuses x Refusal.DepthFull) (if nat_eq d 0 then charges x l.budget LockCountAdd else goes_on x LockCountAdd) (λ e. ((refl, search (tests, arith, e)), refl))
+      (λ e. if_known (Starts Call.Lock x) (nat_eq d 0) (charges x l.budget LockCountAdd) (goes_on x LockCountAdd)
+      (λ f. if_known (Starts Call.Lock x) (nat_lt t l.budget) (record { seat = record x { point = LockCountAdd; takes = t + 1 }; turn = Open }) (refuses x Refusal.Spent)
       (λ h. ((refl, search (tests, arith, e), refl, inl (search (tests, arith, f), search (tests, arith, h), refl)), refl))
       (λ h. ((refl, search (tests, arith, f), search (tests, arith, h)), refl)))
       (λ f. ((refl, search (tests, arith, e), refl, inr (search (tests, arith, f), refl)), refl)))
 
   starts_try : (d t ps : ℕ) → Starts Call.TryLock (made_of d t ps Rest) (Begin.begin_entry (made_of d t ps Rest) l.budget TryCountExchange)
   starts_try d t ps = let x = made_of d t ps Rest in
-      starts_if Call.TryLock x (nat_lt (max_depth - 1) d) (refuses x Refusal.DepthFull) (if nat_eq d 0 then charges x l.budget TryCountExchange else goes_on x TryCountExchange) (λ e. ((refl, search (tests, arith, e)), refl))
-      (λ e. starts_if Call.TryLock x (nat_eq d 0) (charges x l.budget TryCountExchange) (goes_on x TryCountExchange)
-      (λ f. starts_if Call.TryLock x (nat_lt t l.budget) (record { seat = record x { point = TryCountExchange; takes = t + 1 }; turn = Open }) (refuses x Refusal.Spent)
+      if_known (Starts Call.TryLock x) (nat_lt (max_depth - 1) d) (refuses x Refusal.DepthFull) (if nat_eq d 0 then charges x l.budget TryCountExchange else goes_on x TryCountExchange) (λ e. ((refl, search (tests, arith, e)), refl))
+      (λ e. if_known (Starts Call.TryLock x) (nat_eq d 0) (charges x l.budget TryCountExchange) (goes_on x TryCountExchange)
+      (λ f. if_known (Starts Call.TryLock x) (nat_lt t l.budget) (record { seat = record x { point = TryCountExchange; takes = t + 1 }; turn = Open }) (refuses x Refusal.Spent)
       (λ h. ((refl, search (tests, arith, e), refl, inl (search (tests, arith, f), search (tests, arith, h), refl)), refl))
       (λ h. ((refl, search (tests, arith, f), search (tests, arith, h)), refl)))
       (λ f. ((refl, search (tests, arith, e), refl, inr (search (tests, arith, f), refl)), refl)))
 
   starts_unlock : (d t ps : ℕ) → Starts Call.Unlock (made_of d t ps Rest) (Begin.begin_unlock (made_of d t ps Rest))
   starts_unlock d t ps = let x = made_of d t ps Rest in
-      starts_if Call.Unlock x (nat_eq d 0) (refuses x Refusal.NotOwner) _ (λ e. ((refl, search (tests, arith, e)), refl))
-      (λ e. starts_if Call.Unlock x (nat_eq d 1) (goes_on x (ReleaseOwnerStore Unlocker)) (record { seat = record x { depth = d - 1 }; turn = Ended (Answer.Unlocked (Unlocked.Still (d - 1))) })
+      if_known (Starts Call.Unlock x) (nat_eq d 0) (refuses x Refusal.NotOwner) _ (λ e. ((refl, search (tests, arith, e)), refl))
+      (λ e. if_known (Starts Call.Unlock x) (nat_eq d 1) (goes_on x (ReleaseOwnerStore Unlocker)) (record { seat = record x { depth = d - 1 }; turn = Ended (Answer.Unlocked (Unlocked.Still (d - 1))) })
       (λ f. (refl, search (tests, arith, f), refl, refl))
       (λ f. let more : 0 < d - 1 = search (tests, arith, e, f) in let one : d ≡ (d - 1) + 1 = omega (arith, more) in
       (refl, more, one, same_but n n x (made_of (d - 1) t ps Rest) v v a a (d - 1) t false false (sends_of v.trail) refl refl refl refl refl refl refl (stays_none d v a) (inr (omega (arith, more), more)))))
 
   starts_wait : (d t ps : ℕ) → Starts Call.StartWait (made_of d t ps Rest) (Begin.begin_wait (made_of d t ps Rest) l.budget)
   starts_wait d t ps = let x = made_of d t ps Rest in
-      starts_if Call.StartWait x (nat_eq d 0) (refuses x Refusal.NotOwner) _ (λ e. ((refl, search (tests, arith, e)), refl))
-      (λ e. starts_if Call.StartWait x (nat_lt 1 d) (refuses x Refusal.Nested) _ (λ f. ((refl, search (tests, arith, f)), refl))
+      if_known (Starts Call.StartWait x) (nat_eq d 0) (refuses x Refusal.NotOwner) _ (λ e. ((refl, search (tests, arith, e)), refl))
+      (λ e. if_known (Starts Call.StartWait x) (nat_lt 1 d) (refuses x Refusal.Nested) _ (λ f. ((refl, search (tests, arith, f)), refl))
       (λ f. let one : d ≡ 1 = search (tests, arith, e, f) in
-      starts_if Call.StartWait x (nat_lt t l.budget) (record { seat = record x { point = ReleaseOwnerStore Waiter; takes = t + 1 }; turn = Open }) (refuses x Refusal.Spent)
+      if_known (Starts Call.StartWait x) (nat_lt t l.budget) (record { seat = record x { point = ReleaseOwnerStore Waiter; takes = t + 1 }; turn = Open }) (refuses x Refusal.Spent)
       (λ h. (refl, one, search (tests, arith, h), refl, refl))
       (λ h. ((refl, one, search (tests, arith, h)), refl))))
 
   starts_send : (d t ps u : ℕ) → Starts (Call.SendLock u) (made_of d t ps Rest) (Begin.begin_send (made_of d t ps Rest) l.seats u)
   starts_send d t ps u = let x = made_of d t ps Rest in
-      starts_if (Call.SendLock u) x (nat_lt 0 u && nat_lt u (l.seats + 1)) (goes_on x (SendWakeExchange u)) (refuses x Refusal.NoSuchSeat)
+      if_known (Starts (Call.SendLock u) x) (nat_lt 0 u && nat_lt u (l.seats + 1)) (goes_on x (SendWakeExchange u)) (refuses x Refusal.NoSuchSeat)
       (λ e. (refl, search (tests, arith, e), search (tests, arith, e), refl, refl, refl))
       (λ e. ((refl, λ some. search (tests, arith, e, some)), refl))
 
   starts_asleep : (d t ps : ℕ) (sleeper : Sleeper) (call : Call) → Starts call (made_of d t ps (Asleep sleeper)) (Begin.begin_asleep (made_of d t ps (Asleep sleeper)) sleeper call)
   starts_asleep d t ps sleeper Call.Receive = (refl, refl, refl, refl, (sleeper, refl))
-  starts_asleep d t ps sleeper Call.Lock = (refl, refl)
-  starts_asleep d t ps sleeper Call.TryLock = (refl, refl)
-  starts_asleep d t ps sleeper Call.Unlock = (refl, refl)
-  starts_asleep d t ps sleeper Call.StartWait = (refl, refl)
-  starts_asleep d t ps sleeper (Call.SendLock u) = (refl, refl)
+  starts_asleep d t ps sleeper _ = (refl, refl)
 
   starts_awake : (d t ps : ℕ) (call : Call) → Starts call (made_of d t ps Rest) (Begin.begin_awake (made_of d t ps Rest) l call)
   starts_awake d t ps Call.Lock = starts_lock d t ps
@@ -281,11 +241,7 @@ module _ {T : Type 0} (follows : ℕ → T → T → Type 0) (fits : T → ℕ �
   -- a call that starts while another call of the seat is open
   starts_busy : (x : SeatState) (call : Call) → is_asleep x.point ≡ true → is_in_call x.point ≡ true → Starts call x (record { seat = x; turn = Refused Why.InCall })
   starts_busy x Call.Receive asleep busy = (inr busy, refl)
-  starts_busy x Call.Lock asleep busy = (asleep, refl)
-  starts_busy x Call.TryLock asleep busy = (asleep, refl)
-  starts_busy x Call.Unlock asleep busy = (asleep, refl)
-  starts_busy x Call.StartWait asleep busy = (asleep, refl)
-  starts_busy x (Call.SendLock u) asleep busy = (asleep, refl)
+  starts_busy x _ asleep busy = (asleep, refl)
 
   starts_at : (d t ps : ℕ) (q : Point) (call : Call) → Starts call (made_of d t ps q) (Begin.begin_at (made_of d t ps q) l call q)
   starts_at d t ps Rest call = starts_awake d t ps call
@@ -458,10 +414,7 @@ module _ {T : Type 0} (follows : ℕ → T → T → Type 0) (fits : T → ℕ �
 
   unlocked : (u : Unlocked) → IsLeft u → LeavesOff S S' → S'.takes ≡ S.takes → S'.asleep ≡ false → Turned follows fits l Call.Unlock S S' (Ended (Answer.Unlocked u))
   unlocked (Unlocked.Still d) is off takes awake_now = absurd is
-  unlocked Unlocked.Free is off takes awake_now = (off, takes, awake_now)
-  unlocked (Unlocked.Granted t) is off takes awake_now = (off, takes, awake_now)
-  unlocked Unlocked.Posted is off takes awake_now = (off, takes, awake_now)
-  unlocked Unlocked.TakenOver is off takes awake_now = (off, takes, awake_now)
+  unlocked _ is off takes awake_now = (off, takes, awake_now)
 
   unlock_turned : (turn : Turn) → Begun l Call.Unlock p q → Ends (releasing Unlocker) turn → Concludes (record q { depth = 0 }) turn p' → last_hold v' ≡ (value_in a, v.found, v.limits, v.holds_ended + 1) → sends_of v'.trail ≡ sends_of v.trail → Turned follows fits l Call.Unlock S S' turn
   unlock_turned (Ended (Answer.Unlocked u)) b ends c last sends = unlocked u c.3 (leaves_off b.0 b.1 c.0 last sends) (c.1 ∙ b.2) (awake p'.point c.2)
@@ -517,26 +470,19 @@ module _ {T : Type 0} (follows : ℕ → T → T → Type 0) (fits : T → ℕ �
       try_turned turn b ends c held stays last (unsent turn ran (ap is_send b.1)) (λ is. (trail_of n q ran.finds, ran.trail, busy_path n q ran.finds b.1 (ap (λ (z : Stepped). z.turn) ran.ends ∙ is)))
   turned_by_steps Call.Receive turn keeps b ends c held stays last ran = receive_turned turn b ends c held stays last (unsent turn ran (ap is_send b.4.1))
   turned_by_steps (Call.SendLock t) turn keeps b ends c held stays last ran = send_turned t turn b ends c stays last ran
-  turned_by_steps Call.Unlock turn keeps b ends c held stays last ran = absurd (false≢true (sym keeps))
-  turned_by_steps Call.StartWait turn keeps b ends c held stays last ran = absurd (false≢true (sym keeps))
+  turned_by_steps _ turn keeps b ends c held stays last ran = absurd (false≢true (sym keeps))
 
   pub turned_by_release : (call : Call) (turn : Turn) → is_releasing (errand_of call) ≡ true → Begun l call p q → Ends (errand_of call) turn → Concludes (record q { depth = 0 }) turn p' → last_hold v' ≡ (value_in a, v.found, v.limits, v.holds_ended + 1) → Ran n (opens q) v turn p' v' → Turned follows fits l call S S' turn
   turned_by_release Call.Unlock turn gives b ends c last ran = unlock_turned turn b ends c last (unsent turn ran (ap is_send b.3))
   turned_by_release Call.StartWait turn gives b ends c last ran = wait_turned turn b ends c last (unsent turn ran (ap is_send b.4))
-  turned_by_release Call.Lock turn gives b ends c last ran = absurd (false≢true gives)
-  turned_by_release Call.TryLock turn gives b ends c last ran = absurd (false≢true gives)
-  turned_by_release (Call.SendLock t) turn gives b ends c last ran = absurd (false≢true gives)
-  turned_by_release Call.Receive turn gives b ends c last ran = absurd (false≢true gives)
+  turned_by_release _ turn gives b ends c last ran = absurd (false≢true gives)
 
 -- What may be left
 
 pub release_once : (l : Limits) (call : Call) (p q : SeatState) → is_releasing (errand_of call) ≡ true → Begun l call p q → p.depth ≡ 1
 release_once l Call.Unlock p q gives b = b.1
 release_once l Call.StartWait p q gives b = b.1
-release_once l Call.Lock p q gives b = absurd (false≢true gives)
-release_once l Call.TryLock p q gives b = absurd (false≢true gives)
-release_once l (Call.SendLock t) p q gives b = absurd (false≢true gives)
-release_once l Call.Receive p q gives b = absurd (false≢true gives)
+release_once l _ p q gives b = absurd (false≢true gives)
 
 pub may_leave : {T : Type 0} (follows : ℕ → T → T → Type 0) (fits : T → ℕ → Type 0) (n : ℕ) (p : SeatState) (v : View T) (a : Option (Moving T)) → v.number ≡ n → 0 < p.depth → MayLeave follows fits (sight_of n p v (value_in a)) → MayBeLeft follows fits a v
 may_leave {T} follows fits n p v a named deep may x is =

@@ -5,7 +5,8 @@ use Rattle.lfm_mutex.specs.calls.Due.{due}
 use Rattle.lfm_mutex.specs.calls.FailedPushes.{Spends}
 use Rattle.lfm_mutex.proofs.runs.DueFalls.{due-most}
 use Rattle.lfm_mutex.proofs.runs.Spending.{spends_within, spent, spent_nothing}
-use Rattle.lfm_mutex.proofs.runs.Running.{begun_open, called_steps, called_at_once}
+use Rattle.lfm_mutex.proofs.runs.CallStarts.{begun_open}
+use Rattle.lfm_mutex.proofs.runs.Running.{called_steps, called_at_once}
 use Rattle.lfm_table.specs.Rule.{value_in, LastHold, last_hold}
 use Rattle.lfm_mutex.specs.calls.Sight.{sight_of, Stays, Turned}
 use Rattle.lfm_mutex.proofs.runs.Sights.{begun, turned_by_steps, turned_at_once, called_ends}
@@ -64,21 +65,24 @@ pub returns-in_default-clause-bounded : goal.returns-in_default-clause-bounded
 returns-in_default-clause-bounded g c = let s = c.args.seat.now in let b = c.begin_call.new.seat in
     spent_nothing (c.args.mutex.now.limits.seats + 9) s.table_seat.place.me.0.trail b.table_seat.place.me.0.trail (ap (λ p. p.me.0.trail) c.begin_call.ensures.same.0)
 
-pub returns-in-Open-clause-wakes : goal.returns-in-Open-clause-wakes
-returns-in-Open-clause-wakes g c = let f = c.finish.new.seat in
-    subst (λ (t : View g.row.T.Denot × Limits). Wakes t.1.seats c.finish.result.1 t.0.trail f.table_seat.place.me.0.trail) (λ i. (ap (λ p. p.me.0) c.begin_call.ensures.same.0 i, (c.begin_call.ensures.same.2 ∙ c.requires.belongs.1) i)) c.finish.ensures.finishes.wakes
-
-pub returns-in_default-clause-wakes : goal.returns-in_default-clause-wakes
-returns-in_default-clause-wakes g c = let s = c.args.seat.now in let b = c.begin_call.new.seat in
-    wakes_none c.args.mutex.now.limits.seats s.table_seat.place.me.0.trail b.table_seat.place.me.0.trail (ap (λ p. grants_of p.me.0.trail) c.begin_call.ensures.same.0)
-
 pub returns-in-Open-clause-none : goal.returns-in-Open-clause-none
 returns-in-Open-clause-none g c = λ idle. let s = c.args.seat.now in
     c.finish.ensures.none (ap may_grant (ap (λ x. errand x.point) c.in-Open.ensures.seat ∙ begun_open s.state s.table_seat.limits c.args.call (sym c.in-Open.ensures.turn)) ∙ idle)
 
 pub returns-in-Open-clause-acts : goal.returns-in-Open-clause-acts
-returns-in-Open-clause-acts g c =
-    record { belongs = search rules; woken = search rules; run = run_next (run_stays_at (ap (λ p. p.me.0) c.begin_call.ensures.same.0)) c.finish.ensures.finishes.made.ran.run }
+returns-in-Open-clause-acts g c = record {
+  belongs = search rules;
+  woken = search rules;
+  run = run_next (run_stays_at (ap (λ p. p.me.0) c.begin_call.ensures.same.0)) c.finish.ensures.finishes.made.ran.run;
+  wakes = let f = c.finish.new.seat in
+      subst (λ (t : View g.row.T.Denot × Limits). Wakes t.1.seats c.finish.result.1 t.0.trail f.table_seat.place.me.0.trail) (λ i. (ap (λ p. p.me.0) c.begin_call.ensures.same.0 i, (c.begin_call.ensures.same.2 ∙ c.requires.belongs.1) i)) c.finish.ensures.finishes.wakes;
+}
 
 pub returns-in_default-clause-acts : goal.returns-in_default-clause-acts
-returns-in_default-clause-acts g c = record { belongs = search rules; run = run_stays_at (ap (λ p. p.me.0) c.begin_call.ensures.same.0); woken = search rules }
+returns-in_default-clause-acts g c = record {
+  belongs = search rules;
+  woken = search rules;
+  run = run_stays_at (ap (λ p. p.me.0) c.begin_call.ensures.same.0);
+  wakes = let s = c.args.seat.now in let b = c.begin_call.new.seat in
+      wakes_none c.args.mutex.now.limits.seats s.table_seat.place.me.0.trail b.table_seat.place.me.0.trail (ap (λ p. grants_of p.me.0.trail) c.begin_call.ensures.same.0);
+}

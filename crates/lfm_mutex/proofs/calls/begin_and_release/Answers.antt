@@ -3,7 +3,8 @@ use Rattle.lfm_table.specs.declared.seat_view.View.{View}
 use Rattle.lfm_table.specs.declared.rule.Moving.{Moving}
 use Rattle.lfm_mutex.specs.calls.Runs.{Ran, opens, release_steps}
 use Rattle.lfm_table.specs.Steps.{MayBeLeft}
-use Rattle.lfm_mutex.proofs.runs.Running.{begun_release, weight_begun, called_steps, called_at_once}
+use Rattle.lfm_mutex.proofs.runs.CallStarts.{begun_release, weight_begun}
+use Rattle.lfm_mutex.proofs.runs.Running.{called_steps, called_at_once}
 use Rattle.lfm_table.specs.Rule.{value_in}
 use Rattle.lfm_mutex.specs.calls.Sight.{sight_of, Turned}
 use Rattle.lfm_mutex.proofs.runs.Sights.{begun, turned_by_release, turned_at_once, called_ends, may_leave, release_once}
@@ -71,17 +72,20 @@ pub returns-in_default-clause-bounded : goal.returns-in_default-clause-bounded
 returns-in_default-clause-bounded g c = let s = c.args.seat.now in let b = c.begin_call.new.seat in
     let same = ap (λ p. length p.me.0.trail) c.begin_call.ensures.same.0 in omega (arith, same)
 
-pub returns-in-Open-clause-wakes : goal.returns-in-Open-clause-wakes
-returns-in-Open-clause-wakes g c = let f = c.finish_from_owner_store.new.seat in
-    subst (λ (t : View g.row.T.Denot × Limits). Wakes t.1.seats c.finish_from_owner_store.result.1 t.0.trail f.table_seat.place.me.0.trail) (λ i. (ap (λ p. p.me.0) c.begin_call.ensures.same.0 i, (c.begin_call.ensures.same.2 ∙ c.requires.belongs.1) i)) c.finish_from_owner_store.ensures.wakes
-
-pub returns-in_default-clause-wakes : goal.returns-in_default-clause-wakes
-returns-in_default-clause-wakes g c = let s = c.args.seat.now in let b = c.begin_call.new.seat in
-    wakes_none c.args.mutex.now.limits.seats s.table_seat.place.me.0.trail b.table_seat.place.me.0.trail (ap (λ p. grants_of p.me.0.trail) c.begin_call.ensures.same.0)
-
 pub returns-in-Open-clause-acts : goal.returns-in-Open-clause-acts
-returns-in-Open-clause-acts g c =
-    record { belongs = search rules; woken = search rules; run = run_next (run_stays_at (ap (λ p. p.me.0) c.begin_call.ensures.same.0)) c.finish_from_owner_store.ensures.ran.run }
+returns-in-Open-clause-acts g c = record {
+  belongs = search rules;
+  woken = search rules;
+  run = run_next (run_stays_at (ap (λ p. p.me.0) c.begin_call.ensures.same.0)) c.finish_from_owner_store.ensures.ran.run;
+  wakes = let f = c.finish_from_owner_store.new.seat in
+      subst (λ (t : View g.row.T.Denot × Limits). Wakes t.1.seats c.finish_from_owner_store.result.1 t.0.trail f.table_seat.place.me.0.trail) (λ i. (ap (λ p. p.me.0) c.begin_call.ensures.same.0 i, (c.begin_call.ensures.same.2 ∙ c.requires.belongs.1) i)) c.finish_from_owner_store.ensures.wakes;
+}
 
 pub returns-in_default-clause-acts : goal.returns-in_default-clause-acts
-returns-in_default-clause-acts g c = record { belongs = search rules; run = run_stays_at (ap (λ p. p.me.0) c.begin_call.ensures.same.0); woken = search rules }
+returns-in_default-clause-acts g c = record {
+  belongs = search rules;
+  woken = search rules;
+  run = run_stays_at (ap (λ p. p.me.0) c.begin_call.ensures.same.0);
+  wakes = let s = c.args.seat.now in let b = c.begin_call.new.seat in
+      wakes_none c.args.mutex.now.limits.seats s.table_seat.place.me.0.trail b.table_seat.place.me.0.trail (ap (λ p. grants_of p.me.0.trail) c.begin_call.ensures.same.0);
+}

@@ -2,8 +2,10 @@
 -- seat.
 pub mod BusyFacts
 pub mod CallStarts
+pub mod Conclusions
 pub mod Courses
 pub mod DueFalls
+pub mod EndSights
 pub mod GoesOn
 pub mod Granted
 pub mod MadeCalls
@@ -20,9 +22,10 @@ pub mod SendFacts
 pub mod SendPoints
 pub mod ServePoints
 pub mod ShortCalls
-pub mod Sights
+pub mod SightParts
 pub mod Spending
 pub mod FastPathPoints
+pub mod StartSights
 pub mod StepResults
 pub mod Tests
 pub mod TryEnds

@@ -26,7 +26,9 @@ use Rattle.lfm_mutex.specs.calls.FastPath.{Course, ComesTo}
 use Rattle.lfm_mutex.proofs.runs.MadeCalls.{makes}
 use Rattle.lfm_mutex.proofs.runs.Running.{called_at_once, ran_one, last_one, ran_none, ran_more, ran_join, last_more, holds_now}
 use Rattle.lfm_mutex.proofs.runs.FastPathPoints.{event_there}
-use Rattle.lfm_mutex.proofs.runs.Sights.{turned_at_once, first_concludes, turned_by_release, concludes_now, concludes_join, stays_now, stays_join, stays_none, begun, turned_by_steps}
+use Rattle.lfm_mutex.proofs.runs.StartSights.{turned_at_once, begun}
+use Rattle.lfm_mutex.proofs.runs.Conclusions.{first_concludes, concludes_now, concludes_join, stays_now, stays_join, stays_none}
+use Rattle.lfm_mutex.proofs.runs.EndSights.{turned_by_release, turned_by_steps}
 
 none_held : (how : How) → ◌≡◌ {A = Option How} None (Some how) → ⊥
 none_held how e = cc

@@ -33,7 +33,9 @@ use Rattle.lfm_mutex.specs.calls.SeatSteps.{Steps, KeepsValue, StepsOn, stores_o
 use Rattle.lfm_mutex.proofs.ends.OwnerLoads.{depth_seen}
 use Rattle.lfm_mutex.proofs.runs.StepResults.{how_enters}
 use Rattle.lfm_mutex.proofs.runs.Running.{holds_now, last_one, last_more, ran_none}
-use Rattle.lfm_mutex.proofs.runs.Sights.{concludes_now, stays_now, stays_none, same_but, finds, first_concludes, deep_by, flat_by, may_leave}
+use Rattle.lfm_mutex.proofs.runs.Conclusions.{concludes_now, stays_now, stays_none, first_concludes}
+use Rattle.lfm_mutex.proofs.runs.SightParts.{same_but, deep_by, flat_by, may_leave}
+use Rattle.lfm_mutex.proofs.runs.EndSights.{finds}
 
 abbrev Both : ℕ → ℕ → Type 0
 Both d k = ((d ≡ 0) × (k ≡ 0)) ⊎ ((0 < d) × (0 < k))

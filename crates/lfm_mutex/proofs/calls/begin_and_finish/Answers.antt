@@ -9,7 +9,8 @@ use Rattle.lfm_mutex.proofs.runs.CallStarts.{begun_open}
 use Rattle.lfm_mutex.proofs.runs.Running.{called_steps, called_at_once}
 use Rattle.lfm_table.specs.Rule.{value_in, LastHold, last_hold}
 use Rattle.lfm_mutex.specs.calls.Sight.{sight_of, Stays, Turned}
-use Rattle.lfm_mutex.proofs.runs.Sights.{begun, turned_by_steps, turned_at_once, called_ends}
+use Rattle.lfm_mutex.proofs.runs.StartSights.{begun, turned_at_once}
+use Rattle.lfm_mutex.proofs.runs.EndSights.{turned_by_steps, called_ends}
 use Rattle.lfm_protocol.specs.declared.limits.Limits.{Limits}
 use Rattle.lfm_mutex.specs.calls.Trails.{Made}
 use Rattle.lfm_mutex.proofs.runs.MadeCalls.{makes}

@@ -7,7 +7,9 @@ use Rattle.lfm_mutex.proofs.runs.CallStarts.{begun_release, weight_begun}
 use Rattle.lfm_mutex.proofs.runs.Running.{called_steps, called_at_once}
 use Rattle.lfm_table.specs.Rule.{value_in}
 use Rattle.lfm_mutex.specs.calls.Sight.{sight_of, Turned}
-use Rattle.lfm_mutex.proofs.runs.Sights.{begun, turned_by_release, turned_at_once, called_ends, may_leave, release_once}
+use Rattle.lfm_mutex.proofs.runs.StartSights.{begun, turned_at_once}
+use Rattle.lfm_mutex.proofs.runs.EndSights.{turned_by_release, called_ends, release_once}
+use Rattle.lfm_mutex.proofs.runs.SightParts.{may_leave}
 use Rattle.lfm_protocol.specs.declared.limits.Limits.{Limits}
 use Rattle.lfm_mutex.specs.calls.Trails.{Made}
 use Rattle.lfm_mutex.proofs.runs.MadeCalls.{makes}

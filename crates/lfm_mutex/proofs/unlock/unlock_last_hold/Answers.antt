@@ -17,7 +17,7 @@ use Rattle.lfm_table.specs.FastPath.{Fit, SeatFits}
 use Rattle.lfm_mutex.specs.calls.FastPath.{Course, ComesTo}
 use Rattle.lfm_mutex.proofs.runs.Courses.{course_none, course_next, course_join, gives_up}
 use Rattle.lfm_mutex.proofs.runs.Running.{trail_grows, bounded_more}
-use Rattle.lfm_mutex.proofs.runs.Sights.{may_leave}
+use Rattle.lfm_mutex.proofs.runs.SightParts.{may_leave}
 use Rattle.lfm_mutex.proofs.runs.FastPathPoints.{begins_last, fit_begun}
 use Rattle.lfm_mutex.proofs.runs.ServePoints.{freed, not_freed}
 use Rattle.lfm_table.proofs.tables.StepFacts.{made_of}

@@ -16,6 +16,7 @@ pub mod ReceivePoints
 pub mod RunGoesOn
 pub mod Running
 pub mod SameSeats
+pub mod SeatCalls
 pub mod SendCounts
 pub mod SendEnds
 pub mod SendFacts

@@ -3,9 +3,7 @@ use Rattle.std.proofs.Common.{◌≡◌, ℕ, ◌<◌, ◌≤◌, [], sym, refl,
 use Rattle.lfm_table.specs.Table.{Me}
 use Rattle.lfm_protocol.specs.declared.limits.Limits.{Limits}
 use Rattle.lfm_protocol.specs.declared.seats.SeatState.{SeatState}
-use Rattle.lfm_protocol.specs.Core.{limits}
 use Rattle.lfm_protocol.specs.Seats.{absent}
-use Rattle.lfm_laws.specs.table.Words.{words}
 use Rattle.lfm_laws.proofs.table.Ready.{packs_none, packs_unposted}
 use Rattle.lfm_laws.specs.table.Ready.{IsReady}
 use Rattle.lfm_table.specs.declared.seat_view.Role.TheVariants.{User}

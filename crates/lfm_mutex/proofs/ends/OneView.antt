@@ -8,7 +8,7 @@ use mathlib.Core.Option as maybe
 use lib.ListN.{get_elem?}
 use mathlib.Core.Logic.{dite}
 use native.Mathlib.Decide.{ℕ_discrete}
-use Rattle.lfm_table.specs.Table.{State, opening}
+use Rattle.lfm_table.specs.Table.{State}
 use Rattle.lfm_table.proofs.Lists.{at_set, set_here, set_else}
 use Rattle.lfm_protocol.specs.declared.limits.Limits.{Limits}
 use Rattle.lfm_protocol.specs.declared.seats.SeatState.{SeatState}

@@ -1,16 +1,15 @@
 -- A load of the owner word for `owner`: the rule still holds after it, and it tells the caller whether it holds.
-use Rattle.std.proofs.Common.{◌≡◌, ◌≢◌, ℕ, ◌+◌, ◌<◌, List, [], ◌∷◌, ◌++◌, get_or, set, sym, refl, ap, ◌∙◌, subst, ◌⊎◌, ⊎_elim, arith, Option}
+use Rattle.std.proofs.Common.{◌≡◌, ◌≢◌, ℕ, ◌+◌, ◌<◌, List, [], ◌∷◌, ◌++◌, get_or, set, sym, refl, ap, ◌∙◌, subst, ⊎_elim, arith, Option}
 use Rattle.std.proofs.lemmas.Bool.{cases_eq}
 use mathlib.Core.Option.{some}
 use lib.ListN.{get_elem?}
 use lib.Seq.{set-get_or}
-use Rattle.lfm_table.specs.Table.{State, Me, keeps, Allows, opening, stepped}
+use Rattle.lfm_table.specs.Table.{State, Me, keeps, Allows, stepped}
 use Rattle.lfm_protocol.specs.declared.limits.Limits.{Limits}
 use Rattle.lfm_protocol.specs.declared.points.Point.TheVariants.{TryOwnerLoad}
 use Rattle.lfm_protocol.specs.declared.seats.SeatState.{SeatState}
 use Rattle.lfm_protocol.specs.Core.{limits}
 use Rattle.lfm_protocol.specs.Seats.{seat, IsSeat}
-use Rattle.lfm_laws.specs.table.Words.{words}
 use Rattle.lfm_laws.proofs.lawful.runs.LimitsKept.{limits_stay}
 use Rattle.lfm_table.specs.declared.seat_view.Action.TheVariants.{LoadsOwner}
 use Rattle.lfm_table.specs.declared.seat_view.Role.TheVariants.{User}

@@ -1,12 +1,12 @@
 -- The rule still holds after a new seat is split off seat 1, and after a seat is joined into seat 1 again.
-use Rattle.std.proofs.Common.{◌≡◌, ◌≢◌, ℕ, ◌+◌, ◌≤◌, List, [], ◌∷◌, ◌++◌, length, set, sym, refl, ap, ◌∙◌, subst, ◌⊎◌, ⊎_elim, inl, inr, arith, Option, length-set, length-append}
+use Rattle.std.proofs.Common.{◌≡◌, ◌≢◌, ℕ, ◌+◌, ◌≤◌, List, [], ◌∷◌, ◌++◌, length, set, sym, refl, ap, ◌∙◌, subst, ⊎_elim, inl, inr, arith, Option, length-set, length-append}
 use mathlib.Core.Option.{some, some-injective}
 use lib.ListN.{get_elem?}
 use Rattle.lfm_table.specs.Table.{State, Splits, Joins}
 use Rattle.lfm_table.proofs.Lists.{at_set, set_here, set_else, at_last, at_longer}
 use Rattle.lfm_protocol.specs.declared.limits.Limits.{Limits}
 use Rattle.lfm_protocol.specs.declared.points.Point.TheVariants.{Rest}
-use Rattle.lfm_protocol.specs.Core.{Core, limits}
+use Rattle.lfm_protocol.specs.Core.{Core}
 use Rattle.lfm_table.specs.declared.seat_view.Action.{Action}
 use Rattle.lfm_table.specs.declared.seat_view.Role.TheVariants.{User}
 use Rattle.lfm_table.specs.declared.seat_view.Joined.{Joined}

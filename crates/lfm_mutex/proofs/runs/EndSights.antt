@@ -13,8 +13,7 @@ use Rattle.lfm_protocol.specs.declared.answers.Turn.TheVariants.{Open, Ended, Re
 use Rattle.lfm_protocol.specs.declared.answers.Why.{Why}
 use Rattle.lfm_protocol.specs.declared.limits.Limits.{Limits}
 use Rattle.lfm_protocol.specs.declared.points.Point.{Point}
-use Rattle.lfm_protocol.specs.declared.points.Point.TheVariants.{Rest, Asleep, SendWakeExchange}
-use Rattle.lfm_protocol.specs.declared.points.Releaser.{Releaser}
+use Rattle.lfm_protocol.specs.declared.points.Point.TheVariants.{Rest, SendWakeExchange}
 use Rattle.lfm_protocol.specs.declared.points.Releaser.TheVariants.{Unlocker, Waiter}
 use Rattle.lfm_protocol.specs.declared.seats.SeatState.{SeatState}
 use Rattle.lfm_protocol.specs.Begin as Begin
@@ -36,20 +35,11 @@ use Rattle.lfm_mutex.proofs.runs.StartSights.{BegunEntry, Begun}
 pub called_ends : (l : Limits) (call : Call) (p q : SeatState) (turn : Turn) → Open ≡ (Begin.begin p l call).turn → q ≡ (Begin.begin p l call).seat → Ends (errand q.point) turn → Ends (errand_of call) turn
 called_ends l call p q turn is seat_is ends = subst (λ (e : Errand). Ends e turn) (ap (λ (x : SeatState). errand x.point) seat_is ∙ begun_open p l call (sym is)) ends
 
-no_busy_asks : (e : Errand) (why : Why) → e ≡ locking → refuses_for why ≡ e → (x p : SeatState) → RefusedBy x p why → ⊥
-no_busy_asks e (Why.By Refusal.Busy) is told x p by = let z : trying ≡ locking = told ∙ is in absurd (cc)
-no_busy_asks e (Why.By Refusal.NotWaiting) is told x p by = let z : sending ≡ locking = told ∙ is in absurd (cc)
-no_busy_asks e _ is told x p by = by
-
-no_trying_asks : (e : Errand) (r : Releaser) (why : Why) → e ≡ releasing r → refuses_for why ≡ e → (x p : SeatState) → RefusedBy x p why → ⊥
-no_trying_asks e r (Why.By Refusal.Busy) is told x p by = let z : trying ≡ releasing r = told ∙ is in absurd (cc)
-no_trying_asks e r (Why.By Refusal.NotWaiting) is told x p by = let z : sending ≡ releasing r = told ∙ is in absurd (cc)
-no_trying_asks e r _ is told x p by = by
-
-no_busy_receives : (e : Errand) (why : Why) → e ≡ receiving → refuses_for why ≡ e → (x p : SeatState) → RefusedBy x p why → ⊥
-no_busy_receives e (Why.By Refusal.Busy) is told x p by = let z : trying ≡ receiving = told ∙ is in absurd (cc)
-no_busy_receives e (Why.By Refusal.NotWaiting) is told x p by = let z : sending ≡ receiving = told ∙ is in absurd (cc)
-no_busy_receives e _ is told x p by = by
+-- only a try and a send are refused after steps
+no_refusal : (e : Errand) (why : Why) → e ≢ trying → e ≢ sending → refuses_for why ≡ e → (x p : SeatState) → RefusedBy x p why → ⊥
+no_refusal e (Why.By Refusal.Busy) try send told x p by = try (sym told)
+no_refusal e (Why.By Refusal.NotWaiting) try send told x p by = send (sym told)
+no_refusal e _ try send told x p by = by
 
 module _ {T : Type 0} (follows : ℕ → T → T → Type 0) (fits : T → ℕ → Type 0) (n n' : ℕ) (l : Limits) (p q p' : SeatState) (v v' : View T) (a a' : Option (Moving T)) (number : n' ≡ n) where
   abbrev S : Sight T
@@ -121,7 +111,7 @@ module _ {T : Type 0} (follows : ℕ → T → T → Type 0) (fits : T → ℕ �
         same_but n n' p p' v v' (value_in a) (value_in a') p.depth (p.takes + 1) true false (sends_of v.trail) number (c.1 ∙ sym flat_p) (c.2 ∙ charged.1) c.3 c.4 sends last
             (λ deep. absurd (omega (arith, deep, flat_p))) (inl (flat_p, c.1)),
       )
-  lock_turned (Refused why) b ends c held stays last sends = absurd (no_busy_asks locking why refl ends q p' c)
+  lock_turned (Refused why) b ends c held stays last sends = absurd (no_refusal locking why (λ e. cc) (λ e. cc) ends q p' c)
   lock_turned (Ended _) b ends c held stays last sends = tt
   lock_turned Open b ends c held stays last sends = tt
 
@@ -161,7 +151,7 @@ module _ {T : Type 0} (follows : ℕ → T → T → Type 0) (fits : T → ℕ �
         same_but n n' p p' v v' (value_in a) (value_in a') p.depth p.takes (is_asleep p.point) (is_in_call p.point) (sends_of v.trail) number (c.0 ∙ b.2) (c.1 ∙ b.3) (c.2 ∙ sym b.0) (c.3 ∙ sym b.1) sends last
             (subst (λ (k : ℕ). Stays k v (value_in a) v' (value_in a')) b.2 stays) level,
       )
-  receive_turned (Refused why) b ends c held stays last sends = absurd (no_busy_receives receiving why refl ends q p' c)
+  receive_turned (Refused why) b ends c held stays last sends = absurd (no_refusal receiving why (λ e. cc) (λ e. cc) ends q p' c)
   receive_turned (Ended _) b ends c held stays last sends = tt
   receive_turned Open b ends c held stays last sends = tt
 
@@ -186,13 +176,13 @@ module _ {T : Type 0} (follows : ℕ → T → T → Type 0) (fits : T → ℕ �
 
   unlock_turned : (turn : Turn) → Begun l Call.Unlock p q → Ends (releasing Unlocker) turn → Concludes (record q { depth = 0 }) turn p' → last_hold v' ≡ (value_in a, v.found, v.limits, v.holds_ended + 1) → sends_of v'.trail ≡ sends_of v.trail → Turned follows fits l Call.Unlock S S' turn
   unlock_turned (Ended (Answer.Unlocked u)) b ends c last sends = unlocked u c.3 (leaves_off b.0 b.1 c.0 last sends) (c.1 ∙ b.2) (awake p'.point c.2)
-  unlock_turned (Refused why) b ends c last sends = absurd (no_trying_asks (releasing Unlocker) Unlocker why refl ends (record q { depth = 0 }) p' c)
+  unlock_turned (Refused why) b ends c last sends = absurd (no_refusal (releasing Unlocker) why (λ e. cc) (λ e. cc) ends (record q { depth = 0 }) p' c)
   unlock_turned (Ended _) b ends c last sends = tt
   unlock_turned Open b ends c last sends = tt
 
   wait_turned : (turn : Turn) → Begun l Call.StartWait p q → Ends (releasing Waiter) turn → Concludes (record q { depth = 0 }) turn p' → last_hold v' ≡ (value_in a, v.found, v.limits, v.holds_ended + 1) → sends_of v'.trail ≡ sends_of v.trail → Turned follows fits l Call.StartWait S S' turn
   wait_turned (Ended (Answer.Waiting u)) b ends c last sends = (c.4 (subst (λ (x : Point). StillAt x) (sym b.4) tt), leaves_off b.0 b.1 c.0 last sends, b.2, c.1 ∙ b.3, c.2, c.3)
-  wait_turned (Refused why) b ends c last sends = absurd (no_trying_asks (releasing Waiter) Waiter why refl ends (record q { depth = 0 }) p' c)
+  wait_turned (Refused why) b ends c last sends = absurd (no_refusal (releasing Waiter) why (λ e. cc) (λ e. cc) ends (record q { depth = 0 }) p' c)
   wait_turned (Ended _) b ends c last sends = tt
   wait_turned Open b ends c last sends = tt
 

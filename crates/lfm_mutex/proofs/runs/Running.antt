@@ -41,7 +41,7 @@ use Rattle.lfm_table.proofs.tables.RuleKept.{some_same}
 use Rattle.lfm_mutex.proofs.runs.RunGoesOn.{run_stepped}
 use Rattle.lfm_mutex.proofs.runs.StepResults.{turns_step, no_release, no_leaves, how_enters}
 use Rattle.lfm_mutex.proofs.runs.WeightFalls.{falls}
-use Rattle.lfm_mutex.proofs.runs.CallStarts.{BeginTold, begin_told, begun_open}
+use Rattle.lfm_mutex.proofs.runs.CallStarts.{BeginTold, begin_told}
 use Rattle.lfm_table.proofs.tables.StepFacts.{left_same, left_new, carrying}
 
 end_more : (s : ℕ) (st : Stepped) (finds : List (ℕ × Option Record)) (n : ℕ) (o : Option Record) → end_of s st (finds ++ (n, o) ∷ []) ≡ stepped_by (end_of s st finds).seat s n o
@@ -163,7 +163,7 @@ ends_of e d (Refused why) q some same is = is.0 ∙ same
 
 -- Calls
 
-ends_answers : (e : Errand) (t : Turn) → Ends e t → Answers e t
+pub ends_answers : (e : Errand) (t : Turn) → Ends e t → Answers e t
 ends_answers e (Ended answer) is = is
 ends_answers e (Refused why) is = tt
 ends_answers e Open is = absurd is
@@ -172,16 +172,6 @@ told_answers : (e : Errand) (t : Turn) (q : Point) → t ≢ Open → BeginTold 
 told_answers e Open q some is = absurd (some refl)
 told_answers e (Ended answer) q some is = is
 told_answers e (Refused why) q some is = tt
-
--- a call that made steps
-pub called_steps : {T : Type 0} (s : ℕ) (l : Limits) (call : Call) (p p1 p' : SeatState) (v v' : View T) (turn : Turn) → (Begin.begin p l call).turn ≡ Open → p1 ≡ (Begin.begin p l call).seat → Ends (errand p1.point) turn → Ran s (opens p1) v turn p' v'
-    → Called s l call p v turn p' v' × Answers (errand_of call) turn
-called_steps s l call p p1 p' v v' turn is_open is_p1 ends ran =
-    let same : errand p1.point ≡ errand_of call = ap (λ (x : SeatState). errand x.point) is_p1 ∙ begun_open p l call is_open in
-    let e : Ends (errand_of call) turn = subst (λ (z : Errand). Ends z turn) same ends in (
-      subst (λ (t : Turn). CalledBy t s (errand_of call) (Begin.begin p l call).seat v turn p' v') (sym is_open) (e, subst (λ (x : SeatState). Ran s (opens x) v turn p' v') is_p1 ran),
-      ends_answers (errand_of call) turn e,
-    )
 
 -- a call that ended at once
 at_once : {T : Type 0} (t : Turn) (s : ℕ) (e : Errand) (q p' : SeatState) (v : View T) → t ≢ Open → p' ≡ q → CalledBy t s e q v t p' v

@@ -1,5 +1,5 @@
 -- Which steps a send makes: its exchange is the first step of its call.
-use Rattle.std.proofs.Common.{◌≡◌, ◌≢◌, ℕ, true, false, Option, refl, sym, ap, ◌∙◌, List, [], ◌∷◌, ◌++◌, subst, append_assoc}
+use Rattle.std.proofs.Common.{◌≡◌, ℕ, false, Option, refl, sym, ap, ◌∙◌, List, [], ◌∷◌, ◌++◌, subst, append_assoc}
 use Rattle.std.proofs.lemmas.Bool.{false≢true}
 use Rattle.lfm_words.specs.declared.pop_lists.Record.{Record}
 use Rattle.lfm_words.specs.declared.wakes.Wake.{Wake}

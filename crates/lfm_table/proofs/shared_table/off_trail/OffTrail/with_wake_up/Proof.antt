@@ -27,12 +27,12 @@ use denote.Triple.Entry.{on_entry, alive, Args}
 use denote.Triple.Spec.{Meets, triple_of}
 use denote.Triple.Table.{entered}
 use denote.Triple.Walked.{says, stay_none_ref, Stays, walk_of, Walks, ends_at, walked, Goes-none_ref, walk_Meets}
-use Rattle.lfm_table.specs.declared.off_trail.OffTrail.{OffTrail}
-use Rattle.lfm_table.specs.contracts.off_trail.OffTrail.with_wake_up.Key.{name as key}
-use Rattle.lfm_table.specs.contracts.off_trail.OffTrail.with_wake_up as f
-use Rattle.lfm_table.proofs.off_trail.OffTrail.with_wake_up.Statement as stated
-use Rattle.lfm_table.proofs.off_trail.OffTrail.with_wake_up.Code as code
-use Rattle.lfm_table.specs.contracts.off_trail.OffTrail as off_trail
+use Rattle.lfm_table.specs.declared.shared_table.off_trail.OffTrail.{OffTrail}
+use Rattle.lfm_table.specs.contracts.shared_table.off_trail.OffTrail.with_wake_up.Key.{name as key}
+use Rattle.lfm_table.specs.contracts.shared_table.off_trail.OffTrail.with_wake_up as f
+use Rattle.lfm_table.proofs.shared_table.off_trail.OffTrail.with_wake_up.Statement as stated
+use Rattle.lfm_table.proofs.shared_table.off_trail.OffTrail.with_wake_up.Code as code
+use Rattle.lfm_table.specs.contracts.shared_table.off_trail.OffTrail as off_trail
 use Rattle.lfm_table.specs.contracts.wake_up.WakeUp as wake_up
 
 abbrev stayed : Stays (f.ended).signature.params (f.ended).kept

@@ -28,12 +28,12 @@ use denote.Triple.Entry.{on_entry, alive, Args}
 use denote.Triple.Spec.{Meets, triple_of}
 use denote.Triple.Table.{entered}
 use denote.Triple.Walked.{says, stay_none_ref, Stays, walk_of, Walks, ends_at, walked, Goes-none_ref, walk_Meets}
-use Rattle.lfm_table.specs.declared.off_trail.OffTrail.{OffTrail}
-use Rattle.lfm_table.specs.contracts.off_trail.OffTrail.with_look.Key.{name as key}
-use Rattle.lfm_table.specs.contracts.off_trail.OffTrail.with_look as f
-use Rattle.lfm_table.proofs.off_trail.OffTrail.with_look.Statement as stated
-use Rattle.lfm_table.proofs.off_trail.OffTrail.with_look.Code as code
-use Rattle.lfm_table.specs.contracts.off_trail.OffTrail as off_trail
+use Rattle.lfm_table.specs.declared.shared_table.off_trail.OffTrail.{OffTrail}
+use Rattle.lfm_table.specs.contracts.shared_table.off_trail.OffTrail.with_look.Key.{name as key}
+use Rattle.lfm_table.specs.contracts.shared_table.off_trail.OffTrail.with_look as f
+use Rattle.lfm_table.proofs.shared_table.off_trail.OffTrail.with_look.Statement as stated
+use Rattle.lfm_table.proofs.shared_table.off_trail.OffTrail.with_look.Code as code
+use Rattle.lfm_table.specs.contracts.shared_table.off_trail.OffTrail as off_trail
 
 abbrev stayed : Stays (f.ended).signature.params (f.ended).kept
 stayed = (stay_none_ref (0 ∷ []) tt (plain (λ _. off_trail.the_row)) yes, tt)

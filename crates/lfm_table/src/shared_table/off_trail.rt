@@ -1,6 +1,7 @@
 //! What calls with a seat did that is in no trail: the seats that they woke, in order, and the number of their looks. Contracts
-//! read both, and no code does. A handwritten proof in any crate could change them. Only `new`, `with_wake_up` and `with_look`,
-//! which no tactic can prove, have a handwritten proof that names them. `scripts/gate/edits --check` looks for others.
+//! read both, and no code does. Only `shared_table` and its children can add to them. A handwritten proof in any crate could
+//! change them. Only `new`, `with_wake_up` and `with_look`, which no tactic can prove, have a handwritten proof that names them.
+//! `scripts/gate/edits --check` looks for others.
 ghost use Rattle.std.specs.Prelude.{◌≡◌, ◌+◌, ℕ, List, [], ◌∷◌, ◌++◌};
 ghost use Rattle.std.specs.Borrow.{ftrue};
 
@@ -37,7 +38,7 @@ impl OffTrail {
 
     /// The same with the seat of this wake-up added at the end. Only `parking::wake` calls it.
     #[inline(always)]
-    pub(crate) fn with_wake_up(_before: &OffTrail, _wake_up: &WakeUp) -> OffTrail
+    pub(super) fn with_wake_up(_before: &OffTrail, _wake_up: &WakeUp) -> OffTrail
         ensures { result ≡ record _before.now { woken = _before.now.woken ++ _wake_up.now ∷ [] } }
     {
         OffTrail { seal: () }
@@ -45,7 +46,7 @@ impl OffTrail {
 
     /// The same with one more look. Only `SharedTable::look` calls it.
     #[inline(always)]
-    pub(crate) fn with_look(_before: &OffTrail) -> OffTrail
+    pub(super) fn with_look(_before: &OffTrail) -> OffTrail
         ensures { result ≡ record _before.now { looks = _before.now.looks + 1 } }
     {
         OffTrail { seal: () }

@@ -1,7 +1,7 @@
 -- The type owns nothing, so threads may share its values.
 use denote.Param.Send.{IsSync, cell_keyless}
 use denote.Memory.{part_of, raw_all}
-use Rattle.lfm_table.specs.contracts.off_trail.OffTrail.{the_row}
+use Rattle.lfm_table.specs.contracts.shared_table.off_trail.OffTrail.{the_row}
 
 pub sync : IsSync the_row
 unfolding part_of

@@ -1,6 +1,6 @@
 -- `new` makes a value of no bytes, for nobody woken and no look.
 use mathlib.Core.Path.{refl}
-use Rattle.lfm_table.specs.declared.off_trail.OffTrail.{OffTrail}
+use Rattle.lfm_table.specs.declared.shared_table.off_trail.OffTrail.{OffTrail}
 use mathlib.Core.List.{[], ◌∷◌}
 use seplogic.Ra.Ura.{Ura}
 use mir.Val.{vstruct, vcons, vunit, vnil}
@@ -22,11 +22,11 @@ use denote.Triple.Entry.{on_entry, alive}
 use denote.Triple.Spec.{Meets, triple_of}
 use denote.Triple.Table.{entered}
 use denote.Triple.Walked.{says, Stays, walk_of, Walks, ends_at, walked, walk_Meets}
-use Rattle.lfm_table.specs.contracts.off_trail.OffTrail.new.Key.{name as key}
-use Rattle.lfm_table.specs.contracts.off_trail.OffTrail.new as f
-use Rattle.lfm_table.proofs.off_trail.OffTrail.new.Statement as stated
-use Rattle.lfm_table.proofs.off_trail.OffTrail.new.Code as code
-use Rattle.lfm_table.specs.contracts.off_trail.OffTrail as made
+use Rattle.lfm_table.specs.contracts.shared_table.off_trail.OffTrail.new.Key.{name as key}
+use Rattle.lfm_table.specs.contracts.shared_table.off_trail.OffTrail.new as f
+use Rattle.lfm_table.proofs.shared_table.off_trail.OffTrail.new.Statement as stated
+use Rattle.lfm_table.proofs.shared_table.off_trail.OffTrail.new.Code as code
+use Rattle.lfm_table.specs.contracts.shared_table.off_trail.OffTrail as made
 
 abbrev none : OffTrail
 none = record { seal = tt; woken = []; looks = 0 }

@@ -1,5 +1,5 @@
-/* Locks that answer a bool, and assertions of a hold, with seats in hand and with those that find themselves. The assertion of
- * a thread that doesn't hold ends the program with a text. */
+/* Locks that answer a bool, and assertions of a hold, with seats in hand and with those that find themselves. The assertion
+ * of a thread that doesn't hold ends the program with a text. */
 #define _GNU_SOURCE
 #include <signal.h>
 #include <sys/wait.h>

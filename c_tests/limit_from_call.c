@@ -1,7 +1,8 @@
-/* The time of lfm_try_lock_for_here begins at the call, though the thread has to take a seat first, and here that takes long.
+/* The time of lfm_try_lock_for_here begins at the call, though the thread has to take a seat first, and here that takes
+ * long.
  *
- * The test has the C file of the library in it, with a take of a seat that is slow in some threads. On a busy machine a call may
- * end late for other reasons, so one of a few calls has to end in time. */
+ * The test has the C file of the library in it, with a take of a seat that is slow in some threads. On a busy machine a call
+ * may end late for other reasons, so one of a few calls has to end in time. */
 #define lfm_c_take_seat take_slowly
 #include "../c/ligdrosa.c"
 #undef lfm_c_take_seat

@@ -1,5 +1,5 @@
-// Seats in hand: locks and waits with a time limit, wakes by a holder, and what wakes, takes and assertions tell. It throws and
-// catches nothing, so it is compiled without exceptions too.
+// Seats in hand: locks and waits with a time limit, wakes by a holder, and what wakes, takes and assertions tell. It throws
+// and catches nothing, so it is compiled without exceptions too.
 #include <signal.h>
 #include <sys/wait.h>
 #include <unistd.h>

@@ -1,10 +1,10 @@
-/* A program that goes on after a refused call. Its mutex has one seat, so it serves one thread at a time, and another thread's
- * lock is refused. The functions answer whether they were made, and the caller decides what to do.
+/* A program that goes on after a refused call. Its mutex has one seat, so it serves one thread at a time, and another
+ * thread's lock is refused. The functions answer whether they were made, and the caller decides what to do.
  *
  *     cc refused_lock.c $(pkg-config --cflags --libs ligdrosa) -pthread
  *
- * With -Wthread-safety, clang has no warning of this program. It has one if a function reads `sum` without the mutex, or ends
- * without an unlock.
+ * With -Wthread-safety, clang has no warning of this program. It has one if a function reads `sum` without the mutex, or
+ * ends without an unlock.
  */
 #include <ligdrosa.h>
 #include <pthread.h>

@@ -49,8 +49,8 @@ impl Drop for Closing {
 // SAFETY: the value is reached through the seat that holds the mutex, of which there is one, or through `&mut` of the mutex.
 unsafe impl<T: ?Sized + Send> Sync for Mutex<T> {}
 
-/// A function that `catch_unwind` runs may lock the mutex, as one of `std::sync`. There is no poisoning: if it panics in a hold,
-/// the next holder finds the value as the panic left it.
+/// A function that `catch_unwind` runs may lock the mutex, as one of `std::sync`. There is no poisoning: if it panics in a
+/// hold, the next holder finds the value as the panic left it.
 impl<T: ?Sized> UnwindSafe for Mutex<T> {}
 impl<T: ?Sized> RefUnwindSafe for Mutex<T> {}
 
@@ -186,8 +186,8 @@ impl<T: ?Sized> Mutex<T> {
     ///
     /// # Safety
     ///
-    /// There is such a hold, which no other guard releases, and no reference to the value that another guard gave is used while
-    /// this one lives.
+    /// There is such a hold, which no other guard releases, and no reference to the value that another guard gave is used
+    /// while this one lives.
     #[inline]
     pub unsafe fn make_guard_unchecked(&self) -> MutexGuard<'_, T> {
         Guard {

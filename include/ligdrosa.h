@@ -12,11 +12,10 @@
  *     lfm_unlock_here(&mutex);
  *
  * Most programs need only the calls whose names end in `here`, and lfm_wake_one and lfm_wake_all. A status is tested by
- * lfm_is_refused, and not against 0: each one below LFM_BLANK is a success, as LFM_AGAIN of a thread that held before. A
- * program that goes on after a refused lock may write `if (!lfm_acquire_here(&mutex)) return false;` instead.
- * lfm_status_text has its meaning in words. Null, a mutex that is not open and a seat that is not taken are answered by
- * LFM_BLANK. A call that is refused has changed nothing, unless it says so; but it may have opened an LFM_MUTEX_INIT and
- * taken the thread's seat.
+ * lfm_is_refused, and not against 0: each one below LFM_BLANK is a success, as LFM_AGAIN of a thread that held before.
+ * lfm_status_text has its meaning in words. A program that goes on after a refused lock may call lfm_acquire_here, which
+ * answers a bool. Null, a mutex that is not open and a seat that is not taken are answered by LFM_BLANK. A call that is
+ * refused has changed nothing, unless it says so; but it may have opened an LFM_MUTEX_INIT and taken the thread's seat.
  *
  * A thread calls a mutex through a seat. Calls whose names end in `here` find the calling thread's seat by themselves. The
  * others are given a seat (lfm_seat_take), for programs that want to keep nothing in thread-local memory. Then memory is

@@ -42,6 +42,7 @@
 #include "parts/lock.h"    /* lock, try and unlock with a seat in hand */
 #include "parts/own.h"     /* each thread's table of seats */
 #include "parts/here.h"    /* the calls that find the thread's seat */
+#include "parts/held.h"    /* the calls that end the program unless a seat holds */
 #include "parts/end.h"     /* closing, and forked children */
 #include "parts/condvar.h" /* condition variables */
 #include "parts/texts.h"   /* the version and the texts of statuses */

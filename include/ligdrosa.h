@@ -13,9 +13,9 @@
  *
  * Most programs need only the calls whose names end in `here`, and lfm_wake_one and lfm_wake_all. A status is tested by
  * lfm_is_refused, and not against 0: each one below LFM_BLANK is a success, as LFM_AGAIN of a thread that held before.
- * lfm_status_text has its meaning in words. Null, a mutex that is not open and a seat that is not taken are answered by
- * LFM_BLANK. A call that is refused has changed nothing, unless it says so; but it may have opened an LFM_MUTEX_INIT and
- * taken the thread's seat.
+ * lfm_status_text has its meaning in words. A program that goes on after a refused lock may call lfm_acquire_here, which
+ * answers a bool. Null, a mutex that is not open and a seat that is not taken are answered by LFM_BLANK. A call that is
+ * refused has changed nothing, unless it says so; but it may have opened an LFM_MUTEX_INIT and taken the thread's seat.
  *
  * A thread calls a mutex through a seat. Calls whose names end in `here` find the calling thread's seat by themselves. The
  * others are given a seat (lfm_seat_take), for programs that want to keep nothing in thread-local memory. Then memory is
@@ -43,7 +43,7 @@
  *     share a mutex call one copy of the library, as libligdrosa.so, since each copy finds seats of its own.
  *   - A seat is in one call at a time. It goes from one thread to another by a lock, a thread's start or join, or the like.
  *     If all files of a program are compiled with -DLFM_CHECKED, two threads in one seat of lfm_seat_take end it with a
- *     text. This does not check lfm_depth and lfm_left.
+ *     text. This does not check lfm_depth, lfm_left and lfm_assert_held.
  *   - No call comes from a signal handler. From a forked child come calls of a mutex only after lfm_after_fork, but its
  *     seats may be given back and it may be closed: then the child only forgets it. If other threads of the parent may have
  *     waited at a condition variable or been in a call of it, the child sets it to zero before it calls it: it has none of
@@ -117,11 +117,14 @@ static inline bool lfm_is_refused(lfm_status status) { return status >= LFM_BLAN
 #define LFM_API __attribute__((visibility("default"), nothrow))
 /* The compiler warns if the status of such a call is not used. A program that goes on after a refused lock would not
  * hold. */
-#define LFM_NODISCARD __attribute__((warn_unused_result)) LFM_API
+#define LFM_MUST_TEST __attribute__((warn_unused_result))
+#define LFM_NODISCARD LFM_MUST_TEST LFM_API
 
-/* For clang's -Wthread-safety. Calls with a seat are not told: clang can't see of which mutex a seat is. Of the calls that
- * try, it sees in `if (!lfm_try_lock_here(&mutex))` that the mutex is held, but clang 14 not in a test by lfm_is_refused or
- * by `==`. That form takes LFM_AGAIN for a failure, so it is for a thread that doesn't hold yet. */
+/* For clang's -Wthread-safety. Calls with a seat are not annotated: clang can't see of which mutex a seat is. It takes the
+ * mutex to be held after lfm_lock_here, even if that was refused. A program that goes on after a refused lock tests
+ * lfm_acquire_here or lfm_try_acquire_here, whose answers clang understands. Of the other calls that try, it sees in
+ * `if (!lfm_try_lock_here(&mutex))` that the mutex is held, but clang 14 not in a test by lfm_is_refused or by `==`. That
+ * form takes LFM_AGAIN for a failure, so it is for a thread that doesn't hold yet. */
 #if defined(__clang__) && !defined(LFM_NO_THREAD_SAFETY)
 #define LFM_TELLS_CLANG(what) __attribute__((what))
 #else
@@ -132,6 +135,10 @@ static inline bool lfm_is_refused(lfm_status status) { return status >= LFM_BLAN
 #define LFM_TRIES(mutex) LFM_TELLS_CLANG(try_acquire_capability(0, mutex))
 #define LFM_RELEASES(mutex) LFM_TELLS_CLANG(release_capability(mutex))
 #define LFM_NEEDS(mutex) LFM_TELLS_CLANG(requires_capability(mutex))
+#define LFM_ASSERTS(mutex) LFM_TELLS_CLANG(assert_capability(mutex))
+/* Of calls with a body, which clang doesn't follow. */
+#define LFM_UNSEEN LFM_TELLS_CLANG(no_thread_safety_analysis)
+#define LFM_IF_ACQUIRED(mutex) LFM_TELLS_CLANG(try_acquire_capability(1, mutex)) LFM_UNSEEN
 
 /* The clocks that a call with a time limit takes: CLOCK_REALTIME and CLOCK_MONOTONIC of Linux. */
 enum { LFM_REALTIME = 0, LFM_MONOTONIC = 1 };
@@ -228,8 +235,8 @@ LFM_API lfm_status lfm_seat_take_checked(lfm_mutex *mutex, lfm_seat *seat);
 
 /* Gives the seat back. It may sleep until another thread has taken or given one. If a timed lock has left the seat queued,
  * its place is left to the thread that passes it by, with a copy of some 200 bytes, and only then can it be taken anew. If
- * memory for the copy is refused, the call sleeps until the seat's turn comes. A seat of lfm_seat_here is given back as by
- * lfm_seat_give_here.
+ * memory for the copy is refused, the call sleeps until the seat's turn comes: for ever if the calling thread holds the
+ * mutex by another seat. A seat of lfm_seat_here is given back as by lfm_seat_give_here.
  * Refused: LFM_BLANK, LFM_HOLDING, LFM_SEAT_ASLEEP, and LFM_FOREIGN if another thread has that seat. */
 LFM_API lfm_status lfm_seat_give(lfm_seat *seat);
 
@@ -238,6 +245,8 @@ LFM_API lfm_status lfm_seat_give(lfm_seat *seat);
 LFM_API uint64_t lfm_number(lfm_seat *seat);
 /* How many times the seat holds. */
 LFM_API uint64_t lfm_depth(lfm_seat *seat);
+/* Ends the program with a text unless the seat holds the mutex, and else changes nothing. It never sleeps. */
+LFM_API void lfm_assert_held(lfm_seat *seat);
 /* How many takes the seat has left, or 0 of a seat that is not taken. */
 LFM_API uint64_t lfm_left(lfm_seat *seat);
 
@@ -271,6 +280,11 @@ LFM_NODISCARD lfm_status lfm_try_lock(lfm_seat *seat);
 LFM_NODISCARD lfm_status lfm_try_lock_for(lfm_seat *seat, uint64_t nanoseconds);
 LFM_NODISCARD lfm_status lfm_try_lock_until(lfm_seat *seat, int clock, const struct timespec *time);
 
+/* The same as lfm_lock and lfm_try_lock, but they answer whether the call was made: then the seat holds. They don't tell why
+ * a call was refused. */
+static inline LFM_MUST_TEST bool lfm_acquire(lfm_seat *seat) { return !lfm_is_refused(lfm_lock(seat)); }
+static inline LFM_MUST_TEST bool lfm_try_acquire(lfm_seat *seat) { return !lfm_is_refused(lfm_try_lock(seat)); }
+
 /* Releases one hold: LFM_STILL if the seat still holds, else LFM_DONE, LFM_POSTED or LFM_GRANTED. It never sleeps. On its
  * way to the next thread that waits, it passes by the seats that timed locks have left queued, and LFM_GRANTED counts these
  * too. No number bounds these: a seat that was passed by may be queued and left again before the unlock ends. The same holds
@@ -299,9 +313,14 @@ LFM_NODISCARD lfm_status lfm_lock_in_order_here(lfm_mutex *mutex) LFM_ACQUIRES(*
 LFM_NODISCARD lfm_status lfm_try_lock_here(lfm_mutex *mutex) LFM_TRIES(*mutex);
 LFM_NODISCARD lfm_status lfm_try_lock_for_here(lfm_mutex *mutex, uint64_t nanoseconds) LFM_TRIES(*mutex);
 LFM_NODISCARD lfm_status lfm_try_lock_until_here(lfm_mutex *mutex, int clock, const struct timespec *time) LFM_TRIES(*mutex);
+static inline LFM_MUST_TEST bool lfm_acquire_here(lfm_mutex *mutex) LFM_IF_ACQUIRED(*mutex);
+static inline LFM_MUST_TEST bool lfm_try_acquire_here(lfm_mutex *mutex) LFM_IF_ACQUIRED(*mutex);
+static inline bool lfm_acquire_here(lfm_mutex *mutex) { return !lfm_is_refused(lfm_lock_here(mutex)); }
+static inline bool lfm_try_acquire_here(lfm_mutex *mutex) { return !lfm_is_refused(lfm_try_lock_here(mutex)); }
 /* These take no seat: a thread that has none doesn't hold. */
 LFM_API lfm_status lfm_unlock_here(lfm_mutex *mutex) LFM_RELEASES(*mutex);
 LFM_API uint64_t lfm_depth_here(lfm_mutex *mutex);
+LFM_API void lfm_assert_held_here(lfm_mutex *mutex) LFM_ASSERTS(*mutex);
 
 /* Conditions */
 

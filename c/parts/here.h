@@ -40,8 +40,10 @@ lfm_status lfm_try_lock_here(lfm_mutex *mutex) {
   return LIKELY(seat && seat->flags == 0) ? try_plainly(seat) : try_here(mutex);
 }
 
+/* The time begins at the call, though to open the mutex and to take the seat may take long. */
 lfm_status lfm_try_lock_for_here(lfm_mutex *mutex, uint64_t nanoseconds) {
-  RETURN_CALL_HERE(mutex, lfm_try_lock_for(seat, nanoseconds));
+  struct deadline deadline = deadline_after(nanoseconds);
+  RETURN_CALL_HERE(mutex, lock_until(seat, &deadline));
 }
 
 lfm_status lfm_try_lock_until_here(lfm_mutex *mutex, int clock, const struct timespec *time) {

@@ -7,12 +7,12 @@ addresses_checked=(-g '-fsanitize=address,undefined' -fno-sanitize-recover=all)
 races_checked=(-g -fsanitize=thread)
 warnings=(-Wall -Wextra -Werror)
 
-# options_of FILE   the options that this file of c_tests/ is compiled with
+# options_of FILE   the options that this file of c_tests/ is compiled with. `dialect` may be another one of C++ than 17
 options_of() {
   local wraps
   case $1 in
     *.c) printf '%s ' -std=c11 -O2 "${warnings[@]}" ;;
-    *) printf '%s ' -std=c++17 -O2 "${warnings[@]}" ;;
+    *) printf '%s ' "-std=c++${dialect:-17}" -O2 "${warnings[@]}" ;;
   esac
   case $1 in
     no_memory.c)

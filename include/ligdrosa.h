@@ -49,6 +49,8 @@
  *     waited at a condition variable or been in a call of it, the child sets it to zero before it calls it: it has none of
  *     these threads. A child has another pid than the process that opened the mutex. It may have the same in a new namespace
  *     of pids, or if that process has ended and its pid has come again: then the child is not known as one.
+ *   - If the parent of a forked child had other threads, malloc is usable in the child, as that of glibc is. The proved
+ *     calls take memory, so their proof excludes such a child. What it calls after lfm_after_fork rests on this promise.
  *   - While a mutex is opened by lfm_mutex_new or closed, no other call of it begins. See lfm_mutex_close.
  *   - A call that has begun returns: no signal handler jumps out of it, and its thread is not cancelled asynchronously. No
  *     call is a cancellation point.
@@ -208,8 +210,8 @@ LFM_API uint64_t lfm_takes_left(lfm_mutex *mutex);
 /* In a forked child, makes a mutex new that the thread which forked held, or that no seat held: that thread holds it as
  * often as before. `seat` is that thread's seat, or null if it finds its seat by itself. It may get another number, and has
  * all takes of the budget again, less one if it holds. Other seats of it are forgotten: an lfm_seat is set to zero before it
- * is taken anew. The library's memory for seats that threads of the parent found goes back, and that of the old mutex too if
- * no other seat was in hand. In the process that opened the mutex it changes nothing.
+ * is taken anew. What the library had of the parent's mutex stays taken, with 64 seats some 10 kB: a thread that the child
+ * doesn't have may have been changing it. In the process that opened the mutex it changes nothing.
  * Refused: LFM_BLANK, LFM_FOREIGN, LFM_NO_MEMORY, and LFM_BUSY if another thread held the mutex, asked for it or was
  * releasing it when the parent forked, if a timed lock had left the thread's own seat queued, or if the thread has no seat
  * by which it could see that, and all were taken or another thread was just taking or giving one. */

@@ -1,8 +1,8 @@
 /* The place of a seat in the queue: its word, its states, and the steps that the seat's own thread makes. The steps of the
  * thread that wakes the seat are in pass.h. Neither sleeps, except to wait until the seat is passed by.
  *
- * Each seat has a place: a word of the core with the address of the lfm_seat, whether that is memory of the library
- * (IN_LIBRARY), and a state in its low bits. Its own thread makes the steps ──►, and the thread that has to wake it ══►.
+ * Each seat has a place: a word of the core with the address of the lfm_seat, and a state in its low bits. Its own thread
+ * makes the steps ──►, and the thread that has to wake it ══►.
  *
  *             ask               time is over               give               pass
  *     WAITS ──────────► TIMED ──────────────► ABANDONED ──────────► ORPHANED ═══════► 0
@@ -47,15 +47,13 @@ enum place_state {
   ORPHANED,  /* as ABANDONED, but the seat was given back; the lfm_seat is memory of the library */
   SPENT      /* the seat was exchanged; the address is that of its struct spent_seat */
 };
-enum { STATES = 7, IN_LIBRARY = 8 };
-_Static_assert(_Alignof(lfm_seat) > (STATES | IN_LIBRARY), "a state fits below the address of a seat");
+enum { STATES = ALIGNMENT - 1 };
+_Static_assert((int)SPENT <= STATES && _Alignof(lfm_seat) > STATES, "a state fits below the address of a seat");
 
-static uintptr_t place_word(const lfm_seat *seat, enum place_state state) {
-  return (uintptr_t)seat | (seat->is_of_library ? IN_LIBRARY : 0) | state;
-}
+static uintptr_t place_word(const lfm_seat *seat, enum place_state state) { return (uintptr_t)seat | state; }
 static uintptr_t with_state(uintptr_t word, enum place_state state) { return (word & ~(uintptr_t)STATES) | state; }
 static enum place_state state_in(uintptr_t word) { return (enum place_state)(word & STATES); }
-static lfm_seat *seat_at(uintptr_t word) { return (lfm_seat *)(word & ~(uintptr_t)(STATES | IN_LIBRARY)); }
+static lfm_seat *seat_at(uintptr_t word) { return (lfm_seat *)(word & ~(uintptr_t)STATES); }
 static uintptr_t *place_of(const lfm_seat *seat) { return &seat->core->places[seat->number - 1]; }
 
 static enum place_state state_of(const lfm_seat *seat) {

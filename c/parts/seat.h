@@ -67,12 +67,11 @@ static lfm_status take_seat(struct lfm_core *core, lfm_seat *seat, uint32_t flag
   return LFM_DONE;
 }
 
-/* Gives the seat back. A forked child only forgets it: it might wait for a thread of the parent that the child doesn't have.
- * The place is emptied, so that lfm_after_fork doesn't free a seat of the library once more. */
+/* Gives the seat back. A forked child only forgets it: it might wait for a thread of the parent that the child doesn't
+ * have. */
 static lfm_status give_seat(lfm_seat *seat, bool in_hand) {
   struct lfm_core *core = seat->core;
   if (!is_of_process(core)) {
-    core->places[seat->number - 1] = 0;
     seat->core = NULL;
     return LFM_DONE;
   }

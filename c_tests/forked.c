@@ -1,6 +1,7 @@
-/* Forked children. One gives its seats back and closes its mutexes while threads of the parent take and give seats: it doesn't
- * hang. One makes a mutex new that its thread held in the fork, as pthread_atfork has it, or that nobody held. It may have
- * given its seat back before, or make the mutex new by another thread. One whose parent's other thread held it is told so. */
+/* Forked children. One gives its seats back and closes its mutexes while threads of the parent take and give seats: it
+ * doesn't hang. One makes a mutex new that its thread held in the fork, as pthread_atfork has it, or that nobody held. It
+ * may have given its seat back before, or make the mutex new by another thread. One whose parent's other thread held it is
+ * told so. */
 #define _GNU_SOURCE
 #include <signal.h>
 #include <sys/wait.h>
@@ -165,8 +166,8 @@ static void *hold(void *at) {
   return at;
 }
 
-/* Other threads have seats, some are queued, and some have left their place by time. The child makes the mutex new: no seat is
- * queued then. */
+/* Other threads have seats, some are queued, and some have left their place by time. The child makes the mutex new: no seat
+ * is queued then. */
 enum { WAITERS = 20 };
 static lfm_mutex waited_for = LFM_MUTEX_INIT;
 

@@ -1,6 +1,6 @@
-// Children are forked beside four threads that contend, leave their seats queued, and take and give seats. In a child no handle
-// that one of these threads had in a call is given to a proved call: the child makes the mutexes new, or is told that it can't,
-// uses them and closes them.
+// Children are forked beside four threads that contend, leave their seats queued, and take and give seats. In a child no
+// handle that one of these threads had in a call is given to a proved call: the child makes the mutexes new, or is told
+// that it can't, uses them and closes them.
 //
 // The test wraps the proved calls. A thread marks its handles while a call has them, and a child compares.
 #include <sched.h>

@@ -94,7 +94,7 @@ typedef enum lfm_status {
   LFM_TAKEN = 17,        /* the mutex is open, or the seat taken, already */
   LFM_LIMIT = 18,        /* a number is outside its limits */
   LFM_NO_MEMORY = 19,    /* memory was refused */
-  LFM_NO_SEAT = 20,      /* all seats are taken */
+  LFM_NO_SEAT = 20,      /* all seats are taken by threads that have not ended or given them back */
   LFM_NOT_BACK = 21,     /* some seats are not given back */
   LFM_HOLDING = 22,      /* the seat holds the mutex, or for a close: some seat holds it or asks for it */
   LFM_FOREIGN = 23,      /* the seat is of another mutex or thread */
@@ -219,8 +219,9 @@ LFM_NODISCARD lfm_status lfm_after_fork(lfm_mutex *mutex, lfm_seat *seat);
 
 /* Seats in hand */
 
-/* Takes a seat of the mutex: the one that was given back last, or else the next that was never taken. Other threads may take
- * and give back seats at the same time: each may sleep until the other is done.
+/* Takes a seat of the mutex: the one that was given back last, or else the next that was never taken. If none is free, it
+ * adopts one that was given back while queued, with its place in the queue: as if a timed lock of this seat had left it
+ * there. Other threads may take and give back seats at the same time: each may sleep until the other is done.
  * Refused: LFM_BLANK, LFM_TAKEN, LFM_NO_SEAT, and as lfm_mutex_open if it opens the mutex. */
 LFM_API lfm_status lfm_seat_take(lfm_mutex *mutex, lfm_seat *seat);
 LFM_API lfm_status lfm_seat_take_checked(lfm_mutex *mutex, lfm_seat *seat);
@@ -229,9 +230,9 @@ LFM_API lfm_status lfm_seat_take_checked(lfm_mutex *mutex, lfm_seat *seat);
 #endif
 
 /* Gives the seat back. It may sleep until another thread has taken or given one. If a timed lock has left the seat queued,
- * its place is left to the thread that passes it by, with a copy of some 200 bytes, and only then can it be taken anew. If
- * memory for the copy is refused, the call sleeps until the seat's turn comes. A seat of lfm_seat_here is given back as by
- * lfm_seat_give_here.
+ * its place is left, with a copy of some 200 bytes, to the thread that passes it by, or to one that finds no free seat and
+ * adopts it. If memory for the copy is refused, the call sleeps until the seat's turn comes. A seat of lfm_seat_here is
+ * given back as by lfm_seat_give_here.
  * Refused: LFM_BLANK, LFM_HOLDING, LFM_SEAT_ASLEEP, and LFM_FOREIGN if another thread has that seat. */
 LFM_API lfm_status lfm_seat_give(lfm_seat *seat);
 
@@ -284,9 +285,10 @@ LFM_API lfm_status lfm_unlock(lfm_seat *seat);
 
 /* The calling thread's seat of the mutex, or null if it is refused, with the cause. `cause` is not null, and it is to be
  * read only then. A thread takes a seat by its first call of a mutex, which takes some 250 bytes, and gives it back when it
- * ends, unless it holds then, or the system had no thread-specific key left. So as many threads may use a mutex at a time as
- * it has seats. Destructors of thread-specific data may call too. Only a seat that this call takes in the last round of
- * them, the fourth in glibc, is not given back. To find a seat takes about as long however many mutexes there are. */
+ * ends, unless it holds then, or the system had no thread-specific key left. If none is free, it adopts one as
+ * lfm_seat_take does. So as many threads may use a mutex at a time as it has seats. Destructors of thread-specific data may
+ * call too. Only a seat that this call takes in the last round of them, the fourth in glibc, is not given back. To find a
+ * seat takes about as long however many mutexes there are. */
 LFM_API lfm_seat *lfm_seat_here(lfm_mutex *mutex, lfm_status *cause);
 
 /* Gives the calling thread's seat back before the thread ends, so that another thread can take it: as lfm_seat_give, and

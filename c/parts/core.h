@@ -68,20 +68,23 @@ static uint64_t takes_made(lfm_seat *seat) { return seat->takes_at_first - lfm_c
 /* Takes back the orphans that have been passed by. The latch is held. ThreadSanitizer, which sees the memory being freed, is
  * told that this comes after the give. */
 SLOW_PATH void take_back_passed(struct lfm_core *core) {
-  lfm_seat *seat = __atomic_exchange_n(&core->passed, NULL, __ATOMIC_ACQUIRE), *next;
-  for (; seat; seat = next) {
-    next = seat->next_passed;
+  __atomic_store_n(&core->any_passed, false, __ATOMIC_SEQ_CST); /* who passes an orphan that the loads miss sets it again */
+  for (uint32_t i = 0; i < core->highest; i++) {
+    uintptr_t found = __atomic_load_n(&core->places[i], __ATOMIC_SEQ_CST);
+    if (state_in(found) != ORPHAN_PASSED) continue;
+    lfm_seat *seat = seat_at(found);
     core->takes_left -= takes_made(seat);
     lfm_c_give_seat(core->handle, seat->handle);
+    core->places[i] = 0;
     if (__tsan_acquire) __tsan_acquire(seat);
     free(seat);
   }
 }
 
-/* Acquires the latch of the core, to take a seat or to give one back. No orphan is left to be taken back then. */
+/* Acquires the latch of the core, to take a seat or to give one back. Orphans that were passed by before are back then. */
 static void acquire_seats_latch(struct lfm_core *core) {
   acquire_latch(&core->latch);
-  if (UNLIKELY(__atomic_load_n(&core->passed, __ATOMIC_RELAXED))) take_back_passed(core);
+  if (UNLIKELY(__atomic_load_n(&core->any_passed, __ATOMIC_RELAXED))) take_back_passed(core);
 }
 
 /* Gives back the seats that were exchanged. */

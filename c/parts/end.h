@@ -11,7 +11,7 @@ static bool observe_use(struct lfm_core *core) {
   }
   if (seat) return lfm_c_count(seat->handle) != 0;
   temporary.is_of_library = false;
-  if (take_seat(core, &temporary, 0, false) != LFM_DONE) return false;
+  if (take_seat(core, &temporary, 0, false, NULL) != LFM_DONE) return false;
   bool is_used = lfm_c_count(temporary.handle) != 0;
   give_seat(&temporary, false);
   return is_used;
@@ -50,7 +50,7 @@ static lfm_status make_new(lfm_mutex *mutex, lfm_seat *seat, bool is_in_hand) {
     free(listed);
   if (seat) {
     uint64_t depth = lfm_c_depth(seat->handle);
-    take_seat(core, seat, seat->flags, is_in_hand);
+    take_seat(core, seat, seat->flags, is_in_hand, NULL);
     for (uint64_t i = 0; i < depth; i++) lfm_c_try_lock(seat->handle);
   }
   mutex->core = core;

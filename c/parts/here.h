@@ -1,7 +1,7 @@
 /* The calls whose names end in `here`, which find the calling thread's seat. What a lock does by its seat is in lock.h, and
  * the table in which the seat is found in own.h. */
 
-/* The calling thread's seat, or null if it has none. */
+/* The calling thread's seat, or null if it has none. No handle comes by this load: the thread's seat is its own. */
 FAST_PATH lfm_seat *find_of(lfm_mutex *mutex) {
   struct lfm_core *core = mutex ? __atomic_load_n(&mutex->core, __ATOMIC_ACQUIRE) : NULL;
   return core ? find(core) : NULL;

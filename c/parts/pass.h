@@ -1,12 +1,15 @@
 /* How a seat that was granted the mutex is woken, or its place passed by if it was abandoned; and how a seat becomes an
  * orphan, and is adopted. Why each grant is received once, and no wake-up is lost, is argued in place.h. Here is no step by
- * which a seat asks. */
+ * which a seat asks.
+ *
+ * Each compare-and-exchange of a place is sequentially consistent: by it, or by the ring after it, the seat's handle comes to
+ * the thread that passes it by or adopts it, or goes back to the seat's own, or is left to the thread that takes it back. */
 
 /* Leaves an orphan that has been passed by to the next thread that takes a seat or gives one, which takes it back: that may
  * sleep, and the calling thread may not. Whether it has; otherwise another thread has adopted the orphan. */
 static bool leave_orphan(struct lfm_core *core, uintptr_t *place, uintptr_t found) {
   uintptr_t passed = with_state(found, ORPHAN_PASSED);
-  if (!__atomic_compare_exchange_n(place, &found, passed, false, __ATOMIC_ACQ_REL, __ATOMIC_ACQUIRE)) return false;
+  if (!__atomic_compare_exchange_n(place, &found, passed, false, __ATOMIC_SEQ_CST, __ATOMIC_SEQ_CST)) return false;
   __atomic_store_n(&core->any_passed, true, __ATOMIC_SEQ_CST);
   drop_reference(core); /* that of the seat. It is not the last: the calling thread's seat has one */
   return true;
@@ -23,7 +26,7 @@ static uint64_t pass_by(struct lfm_core *core, uintptr_t *place, uintptr_t found
   uint64_t next = lfm_c_unlock(seat->handle) >> 8;
   if (is_orphan && leave_orphan(core, place, found)) return next;
   uintptr_t passing = with_state(found, PASSING), waits = with_state(found, WAITS);
-  if (__atomic_compare_exchange_n(place, &passing, waits, false, __ATOMIC_ACQ_REL, __ATOMIC_ACQUIRE)) return next;
+  if (__atomic_compare_exchange_n(place, &passing, waits, false, __ATOMIC_SEQ_CST, __ATOMIC_SEQ_CST)) return next;
   __atomic_store_n(place, waits, __ATOMIC_RELAXED);
   ring(&seat->bell);
   return next;
@@ -38,7 +41,7 @@ static enum place_state state_of_granted(enum place_state state) {
 SLOW_PATH uint64_t wake_or_pass(struct lfm_core *core, uintptr_t *place, uintptr_t found) {
   for (;;) {
     uintptr_t next = with_state(found, state_of_granted(state_in(found)));
-    if (!__atomic_compare_exchange_n(place, &found, next, false, __ATOMIC_ACQ_REL, __ATOMIC_ACQUIRE)) continue;
+    if (!__atomic_compare_exchange_n(place, &found, next, false, __ATOMIC_SEQ_CST, __ATOMIC_SEQ_CST)) continue;
     if (state_in(next) != WAITS) return pass_by(core, place, next);
     ring(&seat_at(next)->bell);
     return 0;
@@ -102,7 +105,7 @@ SLOW_PATH lfm_seat *adopt(struct lfm_core *core) {
     while (state_in(found) == ORPHANED || state_in(found) == ORPHAN_PASSING) {
       bool is_queued = state_in(found) == ORPHANED;
       uintptr_t next = with_state(found, is_queued ? ABANDONED : PASSING);
-      if (!__atomic_compare_exchange_n(place, &found, next, false, __ATOMIC_ACQ_REL, __ATOMIC_ACQUIRE)) continue;
+      if (!__atomic_compare_exchange_n(place, &found, next, false, __ATOMIC_SEQ_CST, __ATOMIC_SEQ_CST)) continue;
       if (is_queued) __atomic_sub_fetch(&core->orphans, 1, __ATOMIC_RELAXED); /* who passes it by has counted it otherwise */
       if (__tsan_acquire) __tsan_acquire(seat_at(next));
       return seat_at(next);

@@ -63,18 +63,21 @@ static enum place_state state_in(uintptr_t word) { return (enum place_state)(wor
 static lfm_seat *seat_at(uintptr_t word) { return (lfm_seat *)(word & ~(uintptr_t)STATES); }
 static uintptr_t *place_of(const lfm_seat *seat) { return &seat->core->places[seat->number - 1]; }
 
+/* Sequentially consistent: if the seat was passed by, its handle comes back by this load. */
 static enum place_state state_of(const lfm_seat *seat) {
-  return state_in(__atomic_load_n(place_of(seat), __ATOMIC_ACQUIRE));
+  return state_in(__atomic_load_n(place_of(seat), __ATOMIC_SEQ_CST));
 }
 
+/* No handle goes to another thread by this store: one that finds TIMED or WAITS does nothing but ring. */
 static void set_place(const lfm_seat *seat, enum place_state state) {
   __atomic_store_n(place_of(seat), place_word(seat, state), __ATOMIC_RELEASE);
 }
 
-/* Moves the place of a seat in one state to another lfm_seat, in another state, unless it is in a third: whether it has. */
+/* Moves the place of a seat in one state to another lfm_seat, in another state, unless it is in a third: whether it has. It
+ * is sequentially consistent: the seat's handle goes with it to the thread that passes it by or adopts it. */
 static bool move_place(const lfm_seat *seat, enum place_state from, const lfm_seat *as, enum place_state to) {
   uintptr_t found = place_word(seat, from), next = place_word(as, to);
-  return __atomic_compare_exchange_n(place_of(seat), &found, next, false, __ATOMIC_ACQ_REL, __ATOMIC_ACQUIRE);
+  return __atomic_compare_exchange_n(place_of(seat), &found, next, false, __ATOMIC_SEQ_CST, __ATOMIC_SEQ_CST);
 }
 
 static bool change_place(const lfm_seat *seat, enum place_state from, enum place_state to) {

@@ -114,7 +114,7 @@ uint64_t lfm_left(lfm_seat *seat) {
 }
 
 uint64_t lfm_takes_left(lfm_mutex *mutex) {
-  struct lfm_core *core = mutex ? __atomic_load_n(&mutex->core, __ATOMIC_ACQUIRE) : NULL;
+  struct lfm_core *core = mutex ? __atomic_load_n(&mutex->core, __ATOMIC_SEQ_CST) : NULL;
   if (!core) return mutex && mutex->version && mutex->seats <= LFM_MOST_SEATS ? mutex->seats * LFM_MOST_TAKES : 0;
   acquire_seats_latch(core);
   uint64_t left = core->takes_left;

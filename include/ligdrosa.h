@@ -274,10 +274,12 @@ LFM_NODISCARD lfm_status lfm_try_lock(lfm_seat *seat);
 LFM_NODISCARD lfm_status lfm_try_lock_for(lfm_seat *seat, uint64_t nanoseconds);
 LFM_NODISCARD lfm_status lfm_try_lock_until(lfm_seat *seat, int clock, const struct timespec *time);
 
-/* Releases one hold: LFM_STILL if the seat still holds, else LFM_DONE, LFM_POSTED or LFM_GRANTED. It never sleeps. On its
- * way to the next thread that waits, it passes by the seats that timed locks have left queued, and LFM_GRANTED counts these
- * too. No number bounds these: a seat that was passed by may be queued and left again before the unlock ends. The same holds
- * of a lock that wakes another thread.
+/* Releases one hold: LFM_STILL if the seat still holds, else LFM_DONE, LFM_POSTED or LFM_GRANTED. It never sleeps. It makes at
+ * most two calls of the system: one to wake the next thread that asked, and one for threads that wait at condition variables
+ * and that its thread has woken while it held, however many these are. On its way to the next thread that waits, it passes by
+ * the seats that timed locks have left queued, each with one call more at most, and LFM_GRANTED counts these too. No number
+ * bounds these: a seat that was passed by may be queued and left again before the unlock ends. The same holds of a lock that
+ * wakes another thread.
  * Refused: LFM_BLANK, LFM_SEAT_ASLEEP, LFM_NOT_OWNER. */
 LFM_API lfm_status lfm_unlock(lfm_seat *seat);
 
@@ -335,7 +337,8 @@ LFM_NODISCARD lfm_status lfm_wait_until_here(lfm_condvar *condvar, lfm_mutex *mu
 LFM_API lfm_status lfm_wake_one(lfm_condvar *condvar);
 LFM_API lfm_status lfm_wake_all(lfm_condvar *condvar);
 /* The same by a thread with a seat in hand. If that seat holds, threads that wait without a time limit and for its mutex are
- * woken when it releases the mutex, as they are if the holder's seat finds itself. So they don't find it held. */
+ * woken when it releases the mutex, as they are if the holder's seat finds itself. So they don't find it held. The unlock
+ * wakes the first of them. Each that was woken so wakes at most two others, before it locks. */
 LFM_API lfm_status lfm_wake_one_by(lfm_condvar *condvar, lfm_seat *seat);
 LFM_API lfm_status lfm_wake_all_by(lfm_condvar *condvar, lfm_seat *seat);
 

@@ -49,6 +49,8 @@
  *     waited at a condition variable or been in a call of it, the child sets it to zero before it calls it: it has none of
  *     these threads. A child has another pid than the process that opened the mutex. It may have the same in a new namespace
  *     of pids, or if that process has ended and its pid has come again: then the child is not known as one.
+ *   - If the parent of a forked child had other threads, malloc is usable in the child, as that of glibc is. The proved
+ *     calls take memory, so their proof excludes such a child. What it calls after lfm_after_fork rests on this promise.
  *   - While a mutex is opened by lfm_mutex_new or closed, no other call of it begins. See lfm_mutex_close.
  *   - A call that has begun returns: no signal handler jumps out of it, and its thread is not cancelled asynchronously. No
  *     call is a cancellation point.
@@ -92,7 +94,7 @@ typedef enum lfm_status {
   LFM_TAKEN = 17,        /* the mutex is open, or the seat taken, already */
   LFM_LIMIT = 18,        /* a number is outside its limits */
   LFM_NO_MEMORY = 19,    /* memory was refused */
-  LFM_NO_SEAT = 20,      /* all seats are taken */
+  LFM_NO_SEAT = 20,      /* all seats are taken by threads that have not ended or given them back */
   LFM_NOT_BACK = 21,     /* some seats are not given back */
   LFM_HOLDING = 22,      /* the seat holds the mutex, or for a close: some seat holds it or asks for it */
   LFM_FOREIGN = 23,      /* the seat is of another mutex or thread */
@@ -215,8 +217,8 @@ LFM_API uint64_t lfm_takes_left(lfm_mutex *mutex);
 /* In a forked child, makes a mutex new that the thread which forked held, or that no seat held: that thread holds it as
  * often as before. `seat` is that thread's seat, or null if it finds its seat by itself. It may get another number, and has
  * all takes of the budget again, less one if it holds. Other seats of it are forgotten: an lfm_seat is set to zero before it
- * is taken anew. The library's memory for seats that threads of the parent found goes back, and that of the old mutex too if
- * no other seat was in hand. In the process that opened the mutex it changes nothing.
+ * is taken anew. What the library had of the parent's mutex stays taken, with 64 seats some 10 kB: a thread that the child
+ * doesn't have may have been changing it. In the process that opened the mutex it changes nothing.
  * Refused: LFM_BLANK, LFM_FOREIGN, LFM_NO_MEMORY, and LFM_BUSY if another thread held the mutex, asked for it or was
  * releasing it when the parent forked, if a timed lock had left the thread's own seat queued, or if the thread has no seat
  * by which it could see that, and all were taken or another thread was just taking or giving one. */
@@ -224,8 +226,9 @@ LFM_NODISCARD lfm_status lfm_after_fork(lfm_mutex *mutex, lfm_seat *seat);
 
 /* Seats in hand */
 
-/* Takes a seat of the mutex: the one that was given back last, or else the next that was never taken. Other threads may take
- * and give back seats at the same time: each may sleep until the other is done.
+/* Takes a seat of the mutex: the one that was given back last, or else the next that was never taken. If none is free, it
+ * adopts one that was given back while queued, with its place in the queue: as if a timed lock of this seat had left it
+ * there. Other threads may take and give back seats at the same time: each may sleep until the other is done.
  * Refused: LFM_BLANK, LFM_TAKEN, LFM_NO_SEAT, and as lfm_mutex_open if it opens the mutex. */
 LFM_API lfm_status lfm_seat_take(lfm_mutex *mutex, lfm_seat *seat);
 LFM_API lfm_status lfm_seat_take_checked(lfm_mutex *mutex, lfm_seat *seat);
@@ -234,9 +237,9 @@ LFM_API lfm_status lfm_seat_take_checked(lfm_mutex *mutex, lfm_seat *seat);
 #endif
 
 /* Gives the seat back. It may sleep until another thread has taken or given one. If a timed lock has left the seat queued,
- * its place is left to the thread that passes it by, with a copy of some 200 bytes, and only then can it be taken anew. If
- * memory for the copy is refused, the call sleeps until the seat's turn comes: for ever if the calling thread holds the
- * mutex by another seat. A seat of lfm_seat_here is given back as by lfm_seat_give_here.
+ * its place is left, with a copy of some 200 bytes, to the thread that passes it by, or to one that finds no free seat and
+ * adopts it. If memory for the copy is refused, the call sleeps until the seat's turn comes: for ever if the calling thread
+ * holds the mutex by another seat. A seat of lfm_seat_here is given back as by lfm_seat_give_here.
  * Refused: LFM_BLANK, LFM_HOLDING, LFM_SEAT_ASLEEP, and LFM_FOREIGN if another thread has that seat. */
 LFM_API lfm_status lfm_seat_give(lfm_seat *seat);
 
@@ -285,10 +288,12 @@ LFM_NODISCARD lfm_status lfm_try_lock_until(lfm_seat *seat, int clock, const str
 static inline LFM_MUST_TEST bool lfm_acquire(lfm_seat *seat) { return !lfm_is_refused(lfm_lock(seat)); }
 static inline LFM_MUST_TEST bool lfm_try_acquire(lfm_seat *seat) { return !lfm_is_refused(lfm_try_lock(seat)); }
 
-/* Releases one hold: LFM_STILL if the seat still holds, else LFM_DONE, LFM_POSTED or LFM_GRANTED. It never sleeps. On its
- * way to the next thread that waits, it passes by the seats that timed locks have left queued, and LFM_GRANTED counts these
- * too. No number bounds these: a seat that was passed by may be queued and left again before the unlock ends. The same holds
- * of a lock that wakes another thread.
+/* Releases one hold: LFM_STILL if the seat still holds, else LFM_DONE, LFM_POSTED or LFM_GRANTED. It never sleeps. It makes at
+ * most two calls of the system: one to wake the next thread that asked, and one for threads that wait at condition variables
+ * and that its thread has woken while it held, however many these are. On its way to the next thread that waits, it passes by
+ * the seats that timed locks have left queued, each with one call more at most, and LFM_GRANTED counts these too. No number
+ * bounds these: a seat that was passed by may be queued and left again before the unlock ends. The same holds of a lock that
+ * wakes another thread.
  * Refused: LFM_BLANK, LFM_SEAT_ASLEEP, LFM_NOT_OWNER. */
 LFM_API lfm_status lfm_unlock(lfm_seat *seat);
 
@@ -296,9 +301,10 @@ LFM_API lfm_status lfm_unlock(lfm_seat *seat);
 
 /* The calling thread's seat of the mutex, or null if it is refused, with the cause. `cause` is not null, and it is to be
  * read only then. A thread takes a seat by its first call of a mutex, which takes some 250 bytes, and gives it back when it
- * ends, unless it holds then, or the system had no thread-specific key left. So as many threads may use a mutex at a time as
- * it has seats. Destructors of thread-specific data may call too. Only a seat that this call takes in the last round of
- * them, the fourth in glibc, is not given back. To find a seat takes about as long however many mutexes there are. */
+ * ends, unless it holds then, or the system had no thread-specific key left. If none is free, it adopts one as
+ * lfm_seat_take does. So as many threads may use a mutex at a time as it has seats. Destructors of thread-specific data may
+ * call too. Only a seat that this call takes in the last round of them, the fourth in glibc, is not given back. To find a
+ * seat takes about as long however many mutexes there are. */
 LFM_API lfm_seat *lfm_seat_here(lfm_mutex *mutex, lfm_status *cause);
 
 /* Gives the calling thread's seat back before the thread ends, so that another thread can take it: as lfm_seat_give, and
@@ -350,7 +356,8 @@ LFM_NODISCARD lfm_status lfm_wait_until_here(lfm_condvar *condvar, lfm_mutex *mu
 LFM_API lfm_status lfm_wake_one(lfm_condvar *condvar);
 LFM_API lfm_status lfm_wake_all(lfm_condvar *condvar);
 /* The same by a thread with a seat in hand. If that seat holds, threads that wait without a time limit and for its mutex are
- * woken when it releases the mutex, as they are if the holder's seat finds itself. So they don't find it held. */
+ * woken when it releases the mutex, as they are if the holder's seat finds itself. So they don't find it held. The unlock
+ * wakes the first of them. Each that was woken so wakes at most two others, before it locks. */
 LFM_API lfm_status lfm_wake_one_by(lfm_condvar *condvar, lfm_seat *seat);
 LFM_API lfm_status lfm_wake_all_by(lfm_condvar *condvar, lfm_seat *seat);
 

@@ -22,7 +22,11 @@ options_of() {
       ;;
     last_ends.cpp | many_mutexes.cpp) printf '%s' -Wl,--wrap=lfm_c_open,--wrap=lfm_c_close ;;
     forked_child.cpp) printf '%s' -Wl,--wrap=lfm_c_take_seat ;;
-    endings.cpp) printf '%s' -Wl,--wrap=syscall ;;
+    forked_calls.cpp)
+      printf '%s' -Wl
+      printf ',--wrap=lfm_c_%s' blank_seat close take_seat give_seat number depth left count ask receive try_lock unlock
+      ;;
+    endings.cpp | wakes_put_off.cpp) printf '%s' -Wl,--wrap=syscall ;;
     statics.cpp) printf '%s' -std=c++20 ;; # which has constinit
     without_exceptions.cpp) printf '%s' '-fno-exceptions -fno-rtti' ;;
   esac

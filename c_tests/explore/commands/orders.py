@@ -27,7 +27,7 @@ NO_HALF, NO_REASON, RACE = "", "no reason is given", "a race: "
 SECONDS, RUNS = 20, 4000
 SCENARIOS = ("here_wait2 close2 storm2 timed_lock timed_give wake_all3_outside wait_for2 condvar_close2 here_static2 "
              "here_timed here_timed_give close_give2 spent2 timed_give_both takes_left_static2 "
-             "closed_beside_another2").split()
+             "closed_beside_another2 adopt2 adopt_hand2").split()
 OPERATION = re.compile(r"__atomic_(\w+?)(?:_n)?\(")
 ORDER = re.compile(r"__ATOMIC_(ACQ_REL|ACQUIRE|RELEASE|SEQ_CST)")
 FUNCTION = re.compile(r"^[A-Za-z_][^\n]*?\b(\w+)\([^()]*\) \{", re.MULTILINE)

@@ -1,8 +1,8 @@
-//! The ranges of all numbers: nothing wraps.
+//! The ranges of all numbers: nothing wraps. N is the number of seats.
 ghost use Rattle.lfm_laws.specs.laws.Ranges.{NumbersStayInRange, StepsHaveRoom, LimitsStay};
 
-/// With N seats of budget B, the stamp is at most N · B and the count at most N + 1. A seat's depth is at most 65,535, its
-/// takes at most B, and its posts at most its takes.
+/// With a budget of B, the stamp is at most N · B and the count at most N + 1; a seat's depth is at most 65,535, its takes
+/// at most B, and its posts at most its takes.
 ///
 /// Definition: `NumbersStayInRange` in `specs/laws/Ranges.antt`. Proof: `proofs/lawful/states/RangesRead.antt`.
 pub fn numbers_stay_in_range()

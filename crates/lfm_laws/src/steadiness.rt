@@ -28,7 +28,7 @@ pub fn steps_keep_steady()
     ensures { StepsKeepSteady }
 {}
 
-/// A step changes only the word that the table of kinds names for its point, and no word if it is a load. It changes only the
+/// A step changes only the word that the table of kinds names for its point, and none if it is a load. It changes only the
 /// seat that makes it, and the pop list only if it is a link load, an owner store or a wake store. Its answer, and what its
 /// seat becomes, depend only on that word, that seat and the oldest record of the pop list.
 ///
@@ -47,8 +47,8 @@ pub fn begins_touch_one_seat()
 {}
 
 /// A step on a list of packed numbers changes the one number at its place, the seat and the pop list as the step of the core
-/// does, and a ghost fits the state after it. One of its premises, that each seat number read from a word is below 65,536,
-/// holds for every reached state.
+/// does, and a ghost fits the state after it. Its premise that each seat number read from a word is below 65,536 holds for
+/// every reached state.
 ///
 /// Definitions: `StepsAtATable` and `ReachedAreNarrow` in `specs/laws/Steadiness.antt`, with `TableStep` in
 /// `specs/table/Carried.antt`. Proofs: `proofs/table/TableSteps.antt` and `proofs/lawful/runs/KeptSteady.antt`.

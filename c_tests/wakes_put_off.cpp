@@ -1,6 +1,6 @@
-// A holder wakes threads that wait, and their rings are put off until it releases the mutex. Then its unlock makes at most two
-// calls of the system, however many wait: each thread that is woken wakes others. Each is woken, once: by one wake of all, by a
-// wake for each, or at two condition variables.
+// A holder wakes threads that wait, and their rings are put off until it releases the mutex. Then its unlock makes at most
+// two calls of the system, however many wait: each thread that is woken wakes others. Each is woken, once: by one wake of all,
+// by a wake for each, or at two condition variables.
 #include <sys/syscall.h>
 
 #include <cstdarg>

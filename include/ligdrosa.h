@@ -288,12 +288,12 @@ LFM_NODISCARD lfm_status lfm_try_lock_until(lfm_seat *seat, int clock, const str
 static inline LFM_MUST_TEST bool lfm_acquire(lfm_seat *seat) { return !lfm_is_refused(lfm_lock(seat)); }
 static inline LFM_MUST_TEST bool lfm_try_acquire(lfm_seat *seat) { return !lfm_is_refused(lfm_try_lock(seat)); }
 
-/* Releases one hold: LFM_STILL if the seat still holds, else LFM_DONE, LFM_POSTED or LFM_GRANTED. It never sleeps. It makes at
- * most two calls of the system: one to wake the next thread that asked, and one for threads that wait at condition variables
- * and that its thread has woken while it held, however many these are. On its way to the next thread that waits, it passes by
- * the seats that timed locks have left queued, each with one call more at most, and LFM_GRANTED counts these too. No number
- * bounds these: a seat that was passed by may be queued and left again before the unlock ends. The same holds of a lock that
- * wakes another thread.
+/* Releases one hold: LFM_STILL if the seat still holds, else LFM_DONE, LFM_POSTED or LFM_GRANTED. It never sleeps. It makes
+ * at most two calls of the system: one to wake the next thread that asked, and one for the threads at condition variables
+ * that were woken in the hold, however many these are. On its way to the next thread that waits, it passes by the seats
+ * that timed locks have left queued, each with one more call at most, and LFM_GRANTED counts these too. No number bounds
+ * these: a seat that was passed by may be queued and left again before the unlock ends. The same holds of a lock that wakes
+ * another thread.
  * Refused: LFM_BLANK, LFM_SEAT_ASLEEP, LFM_NOT_OWNER. */
 LFM_API lfm_status lfm_unlock(lfm_seat *seat);
 

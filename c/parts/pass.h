@@ -2,8 +2,8 @@
  * orphan, and is adopted. Why each grant is received once, and no wake-up is lost, is argued in place.h. Here is no step by
  * which a seat asks.
  *
- * Each compare-and-exchange of a place is sequentially consistent: by it, or by the ring after it, the seat's handle comes to
- * the thread that passes it by or adopts it, or goes back to the seat's own, or is left to the thread that takes it back. */
+ * Each compare-and-exchange of a place is sequentially consistent: by it, or by the ring after it, the seat's handle comes
+ * to the thread that passes it by or adopts it, goes back to the seat's own, or is left to the thread that takes it back. */
 
 /* Leaves an orphan that has been passed by to the next thread that takes a seat or gives one, which takes it back: that may
  * sleep, and the calling thread may not. Whether it has; otherwise another thread has adopted the orphan. */

@@ -5,10 +5,11 @@ import programs
 import table
 
 MODEL, PROVED = "the model", "the proved calls"
-# The ways: over what, with which options, and which scenarios, or None for all. What each means is said in the table's head.
+# The ways: over what, with which options, and which scenarios, or None for all, without the long ones if the run is short.
 WAYS = [
     (MODEL, "-w", None),
     (PROVED, "-w", None),
+    (MODEL, "-w", "wake_all4"),
     (MODEL, "", "lock2 lock3 order2 order3 try3 deep2 timed2 timed3 timed_both timed_give timed_lock timed_order "
                 "timed_timed timed_try timed_depth give2 here2 here_static2 here_timed here_timed_give here_give_again2 "
                 "close2 close_barging2 close_hand2 close_give2 close_while_held2 spent2 wait2 wait2_inside wait_for2 "
@@ -40,10 +41,9 @@ def listed(program):
 
 def works_of(over, scenarios, is_short):
     """What is to be run, the longest first: over what, with which options, and which scenario."""
-    works = [(of, options, name) for of, options, names in WAYS if of in over
-             for name in (names.split() if names else scenarios)]
-    some = [work for work in works if not (is_short and scenarios[work[2]][2])]
-    return sorted(some, key=lambda work: not scenarios[work[2]][2])
+    some = [name for name, (_, _, is_long) in scenarios.items() if not (is_short and is_long)]
+    works = [(of, options, name) for of, options, names in WAYS if of in over for name in (names.split() if names else some)]
+    return sorted(dict.fromkeys(works), key=lambda work: not scenarios[work[2]][2])
 
 
 def judge(work, status, text, found):

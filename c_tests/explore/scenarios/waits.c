@@ -25,20 +25,16 @@ static void make_two_ready_inside(void) {
   section();
   released(lfm_unlock(mine()));
 }
-/* Three threads wait at once, and the fourth wakes them when the last of them waits. */
+/* Up to three threads wait at once, and the fourth wakes all. */
 static void await_with_others(void) {
   acquired(lfm_lock_in_order(mine()));
-  shared->waiting++;
   while (!shared->ready) acquired(lfm_wait(shared->condvar, mine()));
-  shared->waiting--;
-  section();
   released(lfm_unlock(mine()));
 }
 static void wake_three(void) {
   acquired(lfm_lock_in_order(mine()));
   shared->ready = 1;
   lfm_wake_all_by(shared->condvar, mine());
-  section();
   released(lfm_unlock(mine()));
 }
 /* One that was rung for wakes again while it holds. */
@@ -141,7 +137,7 @@ const struct scenario wait_scenarios[] = {
     {"wake_on3", "two wait, one wakes the first, which wakes the other",
      3, false, open3, {await_and_pass_on, await_and_pass_on, wake_one_of_them}, end},
     {"wake_all4", "three wait, one wakes all",
-     4, false, open4, {await_with_others, await_with_others, await_with_others, wake_three}, end},
+     4, false, open4, {await_with_others, await_with_others, await_with_others, wake_three}, end, true},
     {"wake_all3_outside", "the same after the unlock",
      3, false, open3, {await_ready, await_ready, make_all_ready_outside}, end},
     {"wait_for2", "a wait with a limit beside a wake", 2, true, open2, {wait_counted, wake_counted}, end_counted},

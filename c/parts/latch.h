@@ -7,7 +7,7 @@
  * and so do those of seats that are exchanged. */
 
 SLOW_PATH void acquire_latch_slowly(uint32_t *latch) {
-  for (int loads = 0; loads < SHORT_SPIN; loads++) {
+  for (int loads = 0; loads < LFM_ROUNDS(SHORT_SPIN); loads++) {
     uint32_t found = 0;
     pause_for(PAUSES_PER_LOAD);
     if (__atomic_load_n(latch, __ATOMIC_RELAXED) != 0) continue;

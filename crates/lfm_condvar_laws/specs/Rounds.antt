@@ -1,6 +1,6 @@
--- Rounds of the user mutex in a run of the model, and after how many of them a waiter that was sent holds. In a round, each seat
--- that can go on in the user mutex at its start goes on there. Which calls begin meanwhile, and in which order the seats make
--- their steps, is arbitrary.
+-- Rounds of the user mutex in a run of the model, and after how many of them a waiter that was sent holds. In a round, each
+-- seat that can go on in the user mutex at its start goes on there. Which calls begin meanwhile, and in which order the seats
+-- make their steps, is arbitrary.
 use Rattle.std.specs.Prelude.{◌≡◌, ◌⊎◌, ⊤, ℕ, zero, suc, true, ◌+◌, ◌*◌, ◌++◌, List, [], ◌∷◌, length}
 use Rattle.lfm_protocol.specs.declared.answers.Call.TheVariants.{Receive}
 use Rattle.lfm_protocol.specs.declared.answers.Turn.TheVariants.{Open}
@@ -63,8 +63,9 @@ abbrev pub HoldsIn : CondvarCore → ℕ → ℕ → ℕ → List CondvarEvent �
 HoldsIn k s v ticket [] = IsAboutToEnd k s v ticket
 HoldsIn k s v ticket (e ∷ later) = IsAboutToEnd k s v ticket ⊎ HoldsIn (happens k e) s v ticket later
 
--- a waiter that was sent and is queued, with k records before its own, holds within N + 8k + 12 rounds that begin while no seat
--- owns
+-- A waiter that was sent and is queued, with k records before its own, holds within N + 8k + 12 rounds that begin while no
+-- seat owns. By `sleepers_are_reachable` of lfm_laws, a waiter that sleeps and is no longer WAITING is queued, has its grant, or
+-- is between the claim of a send and its grant
 abbrev pub SentWaitersHoldInRounds : Type 0
 SentWaitersHoldInRounds =
     (r : CondvarRun) (events : List CondvarEvent) (v ticket : ℕ) (first behind : List Record) (x : Record)

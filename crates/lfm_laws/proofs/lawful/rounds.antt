@@ -12,6 +12,7 @@ pub mod Made
 pub mod OtherSteps
 pub mod OwnSteps
 pub mod OwnerSteps
+pub mod QueuedSeats
 pub mod Runs
 pub mod Slack
 pub mod TriedPosts

@@ -32,6 +32,7 @@ use Rattle.lfm_laws.proofs.steady.frames.Seated.{seat_of_queued}
 use Rattle.lfm_laws.proofs.steady.grant.Wakings.{place_of_grant}
 use Rattle.lfm_laws.proofs.steady.queue.Popping.{first_of}
 use Rattle.lfm_laws.proofs.lawful.rounds.GrantedSeats.{rounds_to_hold, has_gained, Comes, awaits, gained, Nearer, owns, nearer, stays, can_come, comes_event}
+use Rattle.lfm_laws.proofs.lawful.rounds.QueuedSeats.{awake_weight, awake_stays, awake_falls, queued_stands}
 use Rattle.lfm_laws.proofs.lawful.rounds.Runs.{queued_seats_are_served_in_rounds}
 
 -- Moments of a run

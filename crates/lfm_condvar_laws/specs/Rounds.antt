@@ -63,14 +63,14 @@ abbrev pub HoldsIn : CondvarCore → ℕ → ℕ → ℕ → List CondvarEvent �
 HoldsIn k s v ticket [] = IsAboutToEnd k s v ticket
 HoldsIn k s v ticket (e ∷ later) = IsAboutToEnd k s v ticket ⊎ HoldsIn (happens k e) s v ticket later
 
--- A waiter that was sent and is queued, with k records before its own, holds within N + 8k + 12 rounds that begin while no
+-- A waiter that was sent and is queued, with k records before its own, holds within N + 8k + 11 rounds that begin while no
 -- seat owns. By `sleepers_are_reachable` of lfm_laws, a waiter that sleeps and is no longer WAITING is queued, has its grant, or
 -- is between the claim of a send and its grant
 abbrev pub SentWaitersHoldInRounds : Type 0
 SentWaitersHoldInRounds =
     (r : CondvarRun) (events : List CondvarEvent) (v ticket : ℕ) (first behind : List Record) (x : Record)
     → (reached_by r).stage x.seat ≡ receiving v ticket → queue_of (reached_by r).mutex ≡ first ++ (x ∷ behind)
-    → HasUnownedRounds (length (reached_by r).mutex.seats + 8 * length first + 12) (reached_by r) events
+    → HasUnownedRounds (length (reached_by r).mutex.seats + 8 * length first + 11) (reached_by r) events
     → HoldsIn (reached_by r) x.seat v ticket events
 
 -- a waiter that has its grant holds within five such rounds

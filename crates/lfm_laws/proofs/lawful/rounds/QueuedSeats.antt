@@ -1,14 +1,13 @@
 -- A queued seat whose `lock` has not ended, one event at a time: its call ends within two rounds, or carries. So a record that
 -- leaves later leaves its seat at most four rounds from the hold.
-use Rattle.std.proofs.Common.{◌≡◌, ◌≢◌, ℕ, zero, suc, Bool, true, false, ◌+◌, ◌-◌, ◌≤◌, ◌<◌, ◌++◌, Option, Some, None, List, [], ◌∷◌, length, nat_eq, refl, sym, ap, subst, ◌∙◌, inl, inr, arith}
+use Rattle.std.proofs.Common.{◌≡◌, ℕ, zero, suc, Bool, true, false, ◌+◌, ◌-◌, ◌≤◌, ◌<◌, ◌++◌, Option, Some, None, List, [], ◌∷◌, length, nat_eq, refl, sym, ap, subst, ◌∙◌, inl, inr, arith}
 use Rattle.std.specs.Prelude.{◌⊎◌, if◌then◌else◌}
 use Rattle.std.proofs.lemmas.Bool.{cases_Bool, cases_eq, false≢true}
 use Rattle.lfm_protocol.specs.declared.answers.Call.{Call}
 use Rattle.lfm_protocol.specs.declared.answers.Call.TheVariants.{Lock, TryLock, Unlock, StartWait, SendLock, Receive}
 use Rattle.lfm_protocol.specs.declared.points.Carrier.{Carrier}
-use Rattle.lfm_protocol.specs.declared.points.Entrant.{Entrant}
 use Rattle.lfm_protocol.specs.declared.points.Point.{Point}
-use Rattle.lfm_protocol.specs.declared.points.Point.TheVariants.{Rest, Asleep, LockOwnerLoad, PushLoad, LinkStore, PushExchange, PushedHandoffLoad, PushedHandoffExchange, TakeClearHead, TakeLinkLoad, GrantWakeStore, EnterOwnerStore, ReceiveWakeLoad, ReceiveWakeStore}
+use Rattle.lfm_protocol.specs.declared.points.Point.TheVariants.{Rest, Asleep, LockOwnerLoad, PushLoad, LinkStore, PushExchange, PushedHandoffLoad, PushedHandoffExchange, TakeClearHead, TakeLinkLoad, GrantWakeStore, EnterOwnerStore, ReceiveWakeLoad}
 use Rattle.lfm_protocol.specs.declared.points.Pusher.{Pusher}
 use Rattle.lfm_protocol.specs.declared.points.Releaser.{Releaser}
 use Rattle.lfm_protocol.specs.declared.points.Sleeper.{Sleeper}
@@ -23,7 +22,7 @@ use Rattle.lfm_protocol.specs.Seats.{seat, link, wake, is_seat, IsSeat}
 use Rattle.lfm_protocol.specs.Step.{made, begin}
 use Rattle.lfm_laws.specs.laws.Rounds.{GoesOnBy}
 use Rattle.lfm_laws.specs.laws.Schedules.{Event, begins, makes, happens, is_call}
-use Rattle.lfm_laws.specs.steady.Ghost.{Standing, apart, asks, queued, Ghost}
+use Rattle.lfm_laws.specs.steady.Ghost.{apart, asks, queued, Ghost}
 use Rattle.lfm_laws.specs.steady.Numbered.{records}
 use Rattle.lfm_laws.specs.steady.Steady.{Fits}
 use Rattle.lfm_laws.proofs.lawful.bounds.Leaving.{own_made, other_made, begun_other, begin_leaves}
@@ -32,7 +31,7 @@ use Rattle.lfm_laws.proofs.lawful.bounds.Served.{begun_view}
 use Rattle.lfm_laws.proofs.lawful.read.QueueRead.{queue_read}
 use Rattle.lfm_laws.proofs.lawful.runs.Reached.{absent_tested}
 use Rattle.lfm_laws.proofs.steady.frames.Seated.{seat_of_point, seat_of_test, test_of_seat}
-use Rattle.lfm_laws.proofs.lawful.rounds.Events.{no_start, not_own_start, is_receive, refused_asleep}
+use Rattle.lfm_laws.proofs.lawful.rounds.Events.{no_start, is_receive, refused_asleep}
 
 -- the rounds until a queued seat at this point has ended its `lock`, unless it takes a post over
 abbrev pub awake_weight : Point → ℕ
@@ -159,6 +158,7 @@ asleep_begins c u call since at =
   where
     refused : IsSeat c.seats u → is_seat c.seats u ≡ true → (call : Call) → is_receive call ≡ false → awake_weight (seat (begin c u call).core.seats u).point ≡ 0
     refused is known call other = rw (begun_view c u call is known ∙ refused_asleep (seat c.seats u) (limits c) call (seat c.seats u).point since at other) (rw at refl)
+
     by_call : IsSeat c.seats u → is_seat c.seats u ≡ true → (call : Call) → awake_weight (seat (begin c u call).core.seats u).point ≡ 0
     by_call is known Receive = rw (begun_view c u Receive is known) (rw at refl)
     by_call is known Lock = refused is known Lock refl

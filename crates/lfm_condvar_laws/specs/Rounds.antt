@@ -80,7 +80,8 @@ GrantedWaitersHoldInRounds =
     → wake (reached_by r).mutex.wakes s ≡ Grant stamp → HasUnownedRounds 5 (reached_by r) events
     → HoldsIn (reached_by r) s v ticket events
 
--- from each state that a run reaches a round can be made, and no call begins in it but receives
+-- From each state that a run reaches a round can be made. Waits and wakes that have begun go on in it, and no other call begins
+-- but receives
 abbrev pub BeginsOnlyReceives : List CondvarEvent → Type 0
 BeginsOnlyReceives [] = ⊤
 BeginsOnlyReceives (makes s ∷ later) = BeginsOnlyReceives later

@@ -3,7 +3,7 @@
  * its list. It is held for a few steps, and no thread waits for another meanwhile. The exchange that releases it is the last
  * access to it, as with a bell.
  *
- * Its operations are sequentially consistent, except a load before one: the handle of the mutex goes with a core's latch,
+ * Its operations are sequentially consistent, except the load before one: the handle of the mutex goes with a core's latch,
  * and so do those of seats that are exchanged. */
 
 SLOW_PATH void acquire_latch_slowly(uint32_t *latch) {

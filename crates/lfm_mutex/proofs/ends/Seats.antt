@@ -26,7 +26,7 @@ use Rattle.lfm_laws.specs.steady.Steady.{Fits}
 use Rattle.lfm_protocol.specs.Step.{start}
 use Rattle.lfm_laws.specs.table.Words.{words}
 use Rattle.lfm_laws.proofs.lawful.runs.LimitsKept.{limits_stay}
-use Rattle.lfm_laws.proofs.steady.Start.{start_steady, few_seats, small_budget}
+use Rattle.lfm_laws.proofs.steady.Start.{start_steady, few_seats}
 use Rattle.lfm_laws.proofs.table.Starts.{start_narrow}
 use Rattle.lfm_laws.proofs.table.Ready.{packs_none, packs_unposted}
 use Rattle.lfm_laws.specs.table.Ready.{IsReady}
@@ -340,7 +340,7 @@ module _ {T : Type 0} (follows : ℕ → T → T → Type 0) (suits : T → ℕ 
 
     loaded_by : RunGoesOnBy (LoadsOwner (id + 1) ∷ []) me.0 Seen
     loaded_by =
-        let opened : h.opened ≡ me.0.limits = sym (limits_stay h.opened (events_of h.actions) h.run.allowed) ∙ (ap limits (sym h.run.here) ∙ sym sits_here.limits_are) in
+        let opened : h.opened ≡ me.0.limits = sym (limits_stay h.opened (events_of h.actions)) ∙ (ap limits (sym h.run.here) ∙ sym sits_here.limits_are) in
         goes_on_by h.opened h.actions h.core s.views h.run (LoadsOwner (id + 1) ∷ []) h.core id me.0 Seen (seen TryOwnerLoad Found) at refl refl load_part (load_by (id + 1)) (load_last (id + 1) (id + 1) refl) refl sits_here.state sits_here.number opened
 
     -- the rule still holds, and the run is extended by this load
@@ -430,7 +430,7 @@ starts {T} follows suits l ws x allowed are none_popped room fit =
     let k : View T = first_view l x.value in
     let few = few_seats l.seats l.budget allowed in
     let some_seat = some_seats l.seats l.budget allowed in
-    let st = start_steady l few (small_budget l.seats l.budget allowed) in
+    let st = start_steady l few in
     let long = length-replicate l.seats absent in
     let none_carries : carries_value k.state ≡ false = refl in
     record {

@@ -41,7 +41,9 @@
 #include "parts/waiter.h"  /* a wait at a condition variable */
 #include "parts/lock.h"    /* lock, try and unlock with a seat in hand */
 #include "parts/own.h"     /* each thread's table of seats */
+#include "parts/hand.h"    /* how seats in hand are taken and given back */
 #include "parts/here.h"    /* the calls that find the thread's seat */
+#include "parts/held.h"    /* the calls that end the program unless a seat holds */
 #include "parts/end.h"     /* closing, and forked children */
 #include "parts/condvar.h" /* condition variables */
 #include "parts/texts.h"   /* the version and the texts of statuses */

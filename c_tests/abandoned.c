@@ -200,7 +200,8 @@ static void other_calls(void) {
   end();
 }
 
-/* A seat is given back while queued, and its memory goes. It is free to be taken anew once it was passed by. */
+/* A seat is given back while queued, and its memory goes. It can be taken anew: from its place, or as any other once it was
+ * passed by. */
 static void given_back(void) {
   lfm_seat d = {0};
   begin();
@@ -214,7 +215,10 @@ static void given_back(void) {
   EXPECT(lfm_depth(gone), 0);
   memset(gone, 0x5A, sizeof *gone);
   free(gone);
-  EXPECT(lfm_seat_take(&mutex, &d), LFM_NO_SEAT);
+  EXPECT(lfm_seat_take(&mutex, &d), LFM_DONE); /* it adopts that seat */
+  EXPECT(lfm_left(&d), TAKES - 1);
+  EXPECT(lfm_unlock(&d), LFM_NOT_OWNER);
+  EXPECT(lfm_seat_give(&d), LFM_DONE);
   EXPECT(lfm_seat_give(&b), LFM_DONE);
   EXPECT(lfm_seat_give(&c), LFM_DONE);
   EXPECT(lfm_mutex_close(&mutex), LFM_NOT_BACK);
@@ -245,9 +249,11 @@ static void thread_ends(void) {
   begin();
   EXPECT(pthread_create(&thread, NULL, time_out_and_end, &a), 0);
   EXPECT(pthread_join(thread, NULL), 0);
-  EXPECT(lfm_seat_take(&mutex, &d), LFM_NO_SEAT);
+  EXPECT(lfm_seat_take(&mutex, &d), LFM_DONE); /* it adopts the thread's seat */
+  times_out(&d);
   unlock_it(&a);
-  EXPECT(lfm_seat_take(&mutex, &d), LFM_DONE);
+  EXPECT(lfm_lock(&d), LFM_DONE);
+  unlock_it(&d);
   EXPECT(lfm_seat_give(&d), LFM_DONE);
   end();
 }

@@ -7,7 +7,10 @@ static lfm_condvar filled;
 static long count __attribute__((guarded_by(mutex)));
 
 bool add(void);
+bool add_or_fail(void);
 bool try_add(void);
+bool try_add_again(void);
+void add_in_hold(void);
 bool try_add_in_time(void);
 bool take_one(void);
 
@@ -22,11 +25,32 @@ bool add(void) {
   return lfm_wake_one(&filled) == LFM_DONE;
 }
 
+bool add_or_fail(void) {
+  if (!lfm_acquire_here(&mutex)) return false;
+  count++;
+  lfm_unlock_here(&mutex);
+  return true;
+}
+
 bool try_add(void) {
   if (lfm_try_lock_here(&mutex)) return false;
   count++;
   lfm_unlock_here(&mutex);
   return true;
+}
+
+bool try_add_again(void) {
+  bool is_acquired = lfm_try_acquire_here(&mutex);
+  if (is_acquired) {
+    count++;
+    lfm_unlock_here(&mutex);
+  }
+  return is_acquired;
+}
+
+void add_in_hold(void) {
+  lfm_assert_held_here(&mutex);
+  count++;
 }
 
 bool try_add_in_time(void) {

@@ -17,6 +17,10 @@ public:
     mutex.unlock();
     return true;
   }
+  void add_in_hold() {
+    mutex.assert_held();
+    count++;
+  }
   void add_in_time() {
     mutex.lock_in_order();
     count++;
@@ -36,6 +40,7 @@ public:
 long use(counter &all);
 long use(counter &all) {
   all.add();
+  all.add_in_hold();
   all.add_in_time();
   return all.try_add() ? all.get() : 0;
 }

@@ -1,12 +1,13 @@
-// Times Ligdrosa's mutex and condition variable from C and C++, and pthread's recursive mutex and std::recursive_mutex, in one
-// process and in turn, so that other load on the machine affects them equally: bench [ROUNDS [MILLISECONDS]]. A line is
+// Times Ligdrosa's mutex and condition variable from C and C++, pthread's recursive mutex and std::recursive_mutex, and
+// those of nsync and absl, in one process and in turn, so that other load on the machine affects them equally: bench [ROUNDS
+// [MILLISECONDS]]. A line is
 //
 //     ROW|LOCK|MEDIAN|LEAST|GREATEST
 //
-// of the rounds: nanoseconds for a lock and an unlock, a round trip, a broadcast or a number through a queue. Rows that end in
-// `most over fewest` are the most acquisitions of a thread, divided by the fewest of a thread.
-// rust/examples/bench.rs has the same rows. The last rows are what a mutex costs by its number of seats: nanoseconds to open
-// and to close it, and bytes.
+// of the rounds: nanoseconds for a lock and an unlock, a round trip, a broadcast or a number through a queue. Rows that end
+// in `most over fewest` are the most acquisitions of a thread, divided by the fewest of a thread. In rows with `in order` our
+// locks queue at once, and the other mutexes, which have no such call, lock as they do. rust/examples/bench/main.rs has the
+// same rows. The last rows are what a mutex costs by its number of seats: nanoseconds to open and to close it, and bytes.
 #include <malloc.h>
 #include <time.h>
 
@@ -31,6 +32,12 @@ static Found found;
 static Posix posix;
 static Standard<lfm::recursive_mutex, lfm::condition_variable> ours;
 static Standard<std::recursive_mutex, std::condition_variable_any> standard;
+#ifdef WITH_NSYNC
+static Nsync nsync_mutex;
+#endif
+#ifdef WITH_ABSL
+static Absl absl_mutex;
+#endif
 static uint64_t total;
 static int rounds = 11, milliseconds = 50;
 
@@ -241,31 +248,54 @@ static void print(const std::string &row, const char *lock, Figures figures) {
   std::fflush(stdout);
 }
 
-// Measures all locks in turn. One measurement gives a figure for each of these rows.
+// Calls the function with the name of each lock and with the lock.
+template <class Function> static void for_each_lock(Function function) {
+  function("C in hand", in_hand);
+  function("C here", found);
+  function("pthread recursive", posix);
+  function("C++", ours);
+  function("std::recursive_mutex", standard);
+#ifdef WITH_NSYNC
+  function("nsync", nsync_mutex);
+#endif
+#ifdef WITH_ABSL
+  function("absl", absl_mutex);
+#endif
+}
+
+// Measures all locks in turn. One measurement gives a figure for each of these rows, or none if the lock cannot do it.
 template <class Measure> static void tell(const std::vector<std::string> &rows, Measure measure) {
   struct Column {
     const char *lock;
-    std::vector<Figures> of_rounds;
+    std::vector<Figures> of_rows;
   };
-  Column columns[]{{"C in hand", {}}, {"C here", {}}, {"pthread recursive", {}}, {"C++", {}}, {"std::recursive_mutex", {}}};
+  std::vector<Column> columns;
+  for_each_lock([&](const char *name, auto &) { columns.push_back({name, std::vector<Figures>(rows.size())}); });
   for (int i = 0; i < rounds; i++) {
-    columns[0].of_rounds.push_back(measure(in_hand));
-    columns[1].of_rounds.push_back(measure(found));
-    columns[2].of_rounds.push_back(measure(posix));
-    columns[3].of_rounds.push_back(measure(ours));
-    columns[4].of_rounds.push_back(measure(standard));
+    size_t at = 0;
+    for_each_lock([&](const char *, auto &lock) {
+      Figures found = measure(lock);
+      for (size_t row = 0; row < found.size(); row++) columns[at].of_rows[row].push_back(found[row]);
+      at++;
+    });
   }
   for (size_t row = 0; row < rows.size(); row++)
-    for (const Column &column : columns) {
-      Figures figures;
-      for (const Figures &of_round : column.of_rounds) figures.push_back(of_round[row]);
-      print(rows[row], column.lock, figures);
-    }
+    for (const Column &column : columns)
+      if (!column.of_rows[row].empty()) print(rows[row], column.lock, column.of_rows[row]);
 }
 
 static void tell_one_thread() {
   tell({"alone: lock, unlock"}, [](auto &lock) { return Figures{alone(lock)}; });
-  tell({"alone: once more, once less"}, [](auto &lock) { return Figures{deeper(lock)}; });
+  tell({"alone, in order"}, [](auto &lock) {
+    InOrder ordered{lock};
+    return Figures{alone(ordered)};
+  });
+  tell({"alone: once more, once less"}, [](auto &lock) {
+    if constexpr (std::decay_t<decltype(lock)>::is_recursive)
+      return Figures{deeper(lock)};
+    else
+      return Figures{};
+  });
   tell({"try_lock that is refused"}, [](auto &lock) { return Figures{refused_try(lock)}; });
   for (size_t count : {64, 4096})
     tell({"one among " + std::to_string(count)},
@@ -279,10 +309,15 @@ static void tell_threads() {
   };
   for (Load load : {Load{"short", 0, 0}, Load{"long", turns_of(500), 0}, Load{"thinking", 0, turns_of(1000)}})
     for (int threads : {2, 4, 8}) {
-      std::string row = std::to_string(threads) + " threads, " + load.name;
-      tell({row, row + ", most over fewest"}, [=](auto &lock) {
+      auto measure = [=](auto &lock) {
         Shares shares = together(lock, threads, load.inside, load.outside);
         return Figures{shares.nanoseconds, shares.most_over_fewest};
+      };
+      std::string row = std::to_string(threads) + " threads, " + load.name, in_order = row + ", in order";
+      tell({row, row + ", most over fewest"}, measure);
+      tell({in_order, in_order + ", most over fewest"}, [=](auto &lock) {
+        InOrder ordered{lock};
+        return measure(ordered);
       });
     }
 }
@@ -336,6 +371,10 @@ static void tell_costs() {
 int main(int argc, char **argv) {
   if (argc > 1) rounds = std::atoi(argv[1]);
   if (argc > 2) milliseconds = std::atoi(argv[2]);
+#ifdef WITH_ABSL
+  // Debian builds absl with a search for deadlocks, which a build for release does not have
+  absl::SetMutexDeadlockDetectionMode(absl::OnDeadlockCycle::kIgnore);
+#endif
   // a second thread runs first: before that the C library makes no atomic steps
   std::thread([] {}).join();
   tell_one_thread();

@@ -1,6 +1,13 @@
 // The mutexes that bench.cpp measures, with one interface. A thread passes its number, from 0 on, with each call. Each mutex
-// has its kind of condition variable, and its form for one thread alone.
+// has its kind of condition variable, and its form for one thread alone. Those of nsync and absl are there if WITH_NSYNC and
+// WITH_ABSL are defined.
 #pragma once
+#ifdef WITH_ABSL
+#include <absl/synchronization/mutex.h>
+#endif
+#ifdef WITH_NSYNC
+#include <nsync.h>
+#endif
 #include <pthread.h>
 
 #include <condition_variable>
@@ -15,6 +22,7 @@ inline void made(lfm_status status) {
 
 // ligdrosa.h, with seats in hand.
 template <int SEATS> struct InHandOf {
+  static constexpr bool is_recursive = true;
   lfm_mutex mutex{};
   lfm_seat seats[SEATS]{};
   InHandOf() {
@@ -27,6 +35,7 @@ template <int SEATS> struct InHandOf {
     lfm_mutex_close(&mutex);
   }
   void lock(int thread) { made(lfm_lock(&seats[thread])); }
+  void lock_in_order(int thread) { made(lfm_lock_in_order(&seats[thread])); }
   bool try_lock(int thread) { return !lfm_is_refused(lfm_try_lock(&seats[thread])); }
   void unlock(int thread) { lfm_unlock(&seats[thread]); }
 
@@ -44,11 +53,13 @@ using InHand = InHandOf<33>;
 
 // ligdrosa.h, with seats that find themselves.
 struct Found {
+  static constexpr bool is_recursive = true;
   lfm_mutex mutex = LFM_MUTEX_INIT;
   Found() = default;
   Found(const Found &) = delete;
   ~Found() { lfm_mutex_close(&mutex); }
   void lock(int) { made(lfm_lock_here(&mutex)); }
+  void lock_in_order(int) { made(lfm_lock_in_order_here(&mutex)); }
   bool try_lock(int) { return !lfm_is_refused(lfm_try_lock_here(&mutex)); }
   void unlock(int) { lfm_unlock_here(&mutex); }
 
@@ -64,6 +75,7 @@ struct Found {
 
 // pthread's, recursive.
 struct Posix {
+  static constexpr bool is_recursive = true;
   pthread_mutex_t mutex;
   Posix() {
     pthread_mutexattr_t attributes;
@@ -87,10 +99,12 @@ struct Posix {
   using OfOneThread = Posix;
 };
 
-// A mutex and a condition variable of C++.
+// A recursive mutex and a condition variable of C++.
 template <class Mutex, class Waits> struct Standard {
+  static constexpr bool is_recursive = true;
   Mutex mutex;
   void lock(int) { mutex.lock(); }
+  void lock_in_order(int) requires requires(Mutex &of) { of.lock_in_order(); } { mutex.lock_in_order(); }
   bool try_lock(int) { return mutex.try_lock(); }
   void unlock(int) { mutex.unlock(); }
 
@@ -106,3 +120,53 @@ template <class Mutex, class Waits> struct Standard {
   };
   using OfOneThread = Standard;
 };
+
+// A mutex of one of the kinds above or below, whose lock queues at once, if the mutex has such a call.
+template <class Kind> struct InOrder {
+  Kind &mutex;
+  void lock(int thread) {
+    if constexpr (requires { mutex.lock_in_order(thread); })
+      mutex.lock_in_order(thread);
+    else
+      mutex.lock(thread);
+  }
+  void unlock(int thread) { mutex.unlock(thread); }
+};
+
+#ifdef WITH_NSYNC
+// nsync's.
+struct Nsync {
+  static constexpr bool is_recursive = false;
+  nsync::nsync_mu mutex = NSYNC_MU_INIT;
+  void lock(int) { nsync::nsync_mu_lock(&mutex); }
+  bool try_lock(int) { return nsync::nsync_mu_trylock(&mutex) != 0; }
+  void unlock(int) { nsync::nsync_mu_unlock(&mutex); }
+
+  struct Condition {
+    nsync::nsync_cv raw = NSYNC_CV_INIT;
+    void wait(Nsync &lock, int) { nsync::nsync_cv_wait(&raw, &lock.mutex); }
+    void wake_one(Nsync &, int) { nsync::nsync_cv_signal(&raw); }
+    void wake_all(Nsync &, int) { nsync::nsync_cv_broadcast(&raw); }
+  };
+  using OfOneThread = Nsync;
+};
+#endif
+
+#ifdef WITH_ABSL
+// absl's.
+struct Absl {
+  static constexpr bool is_recursive = false;
+  absl::Mutex mutex;
+  void lock(int) { mutex.Lock(); }
+  bool try_lock(int) { return mutex.TryLock(); }
+  void unlock(int) { mutex.Unlock(); }
+
+  struct Condition {
+    absl::CondVar raw;
+    void wait(Absl &lock, int) { raw.Wait(&lock.mutex); }
+    void wake_one(Absl &, int) { raw.Signal(); }
+    void wake_all(Absl &, int) { raw.SignalAll(); }
+  };
+  using OfOneThread = Absl;
+};
+#endif

@@ -1,8 +1,8 @@
-/* Forked children. One gives its seats back and closes its mutexes while threads of the parent take and give seats: it doesn't
- * hang. One makes a mutex new that its thread held in the fork, as pthread_atfork has it, or that nobody held. It may have
- * given its seat back before, or make the mutex new by another thread. One whose parent's other thread held it is told so. */
+/* Forked children. One gives its seats back and closes its mutexes while threads of the parent take and give seats: it
+ * doesn't hang. One makes a mutex new that its thread held in the fork, as pthread_atfork has it, or that nobody held. It
+ * may have given its seat back before, or make the mutex new by another thread. One whose parent's other thread held it is
+ * told so. */
 #define _GNU_SOURCE
-#include <malloc.h>
 #include <signal.h>
 #include <sys/wait.h>
 #include <unistd.h>
@@ -166,25 +166,10 @@ static void *hold(void *at) {
   return at;
 }
 
-/* Other threads have seats, some are queued, and one has left its place by time. The child makes the mutex new, and the memory
- * of their seats and of the parent's mutex goes back. */
+/* Other threads have seats, some are queued, and some have left their place by time. The child makes the mutex new: no seat
+ * is queued then. */
 enum { WAITERS = 20 };
 static lfm_mutex waited_for = LFM_MUTEX_INIT;
-
-static long bytes_in_use(void) {
-  struct mallinfo2 all = mallinfo2();
-  return (long)(all.uordblks + all.hblkhd);
-}
-
-static void frees_seats(void) {
-  long before = bytes_in_use();
-  EXPECT(lfm_after_fork(&waited_for, NULL), LFM_DONE);
-  EXPECT(bytes_in_use() <= before, true);
-  EXPECT(lfm_depth_here(&waited_for), 1);
-  unlock(&waited_for);
-  EXPECT(lfm_mutex_close(&waited_for), LFM_DONE);
-  if (before) EXPECT(bytes_in_use() < before - WAITERS * 192, true); /* with a sanitizer it is 0 */
-}
 
 static void *wait_in_queue(void *at) {
   if (*(int *)at % 2) {
@@ -201,6 +186,15 @@ static void *wait_in_queue(void *at) {
   return NULL;
 }
 
+static void make_new_beside_seats(void) {
+  EXPECT(lfm_after_fork(&waited_for, NULL), LFM_DONE);
+  EXPECT(lfm_depth_here(&waited_for), 1);
+  unlock(&waited_for);
+  int number = 0;
+  EXPECT(wait_in_queue(&number) == NULL, true);
+  EXPECT(lfm_mutex_close(&waited_for), LFM_DONE);
+}
+
 static void seats_of_others(void) {
   pthread_t waiters[WAITERS];
   int numbers[WAITERS];
@@ -212,7 +206,7 @@ static void seats_of_others(void) {
   }
   while (__atomic_load_n(&step, __ATOMIC_SEQ_CST) < WAITERS) sched_yield();
   usleep(50000); /* so that most of them sleep in the queue */
-  EXPECT(in_child(frees_seats), 0);
+  EXPECT(in_child(make_new_beside_seats), 0);
   unlock(&waited_for);
   __atomic_store_n(&step, 1000, __ATOMIC_SEQ_CST);
   for (int i = 0; i < WAITERS; i++) EXPECT(pthread_join(waiters[i], NULL), 0);

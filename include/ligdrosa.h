@@ -13,9 +13,9 @@
  *
  * Most programs need only the calls whose names end in `here`, and lfm_wake_one and lfm_wake_all. A status is tested by
  * lfm_is_refused, and not against 0: each one below LFM_BLANK is a success, as LFM_AGAIN of a thread that held before.
- * lfm_status_text has its meaning in words. Null, a mutex that is not open and a seat that is not taken are answered by
- * LFM_BLANK. A call that is refused has changed nothing, unless it says so; but it may have opened an LFM_MUTEX_INIT and
- * taken the thread's seat.
+ * lfm_status_text has its meaning in words. A program that goes on after a refused lock may call lfm_acquire_here, which
+ * answers a bool. Null, a mutex that is not open and a seat that is not taken are answered by LFM_BLANK. A call that is
+ * refused has changed nothing, unless it says so; but it may have opened an LFM_MUTEX_INIT and taken the thread's seat.
  *
  * A thread calls a mutex through a seat. Calls whose names end in `here` find the calling thread's seat by themselves. The
  * others are given a seat (lfm_seat_take), for programs that want to keep nothing in thread-local memory. Then memory is
@@ -43,12 +43,14 @@
  *     share a mutex call one copy of the library, as libligdrosa.so, since each copy finds seats of its own.
  *   - A seat is in one call at a time. It goes from one thread to another by a lock, a thread's start or join, or the like.
  *     If all files of a program are compiled with -DLFM_CHECKED, two threads in one seat of lfm_seat_take end it with a
- *     text. This does not check lfm_depth and lfm_left.
+ *     text. This does not check lfm_depth, lfm_left and lfm_assert_held.
  *   - No call comes from a signal handler. From a forked child come calls of a mutex only after lfm_after_fork, but its
  *     seats may be given back and it may be closed: then the child only forgets it. If other threads of the parent may have
  *     waited at a condition variable or been in a call of it, the child sets it to zero before it calls it: it has none of
  *     these threads. A child has another pid than the process that opened the mutex. It may have the same in a new namespace
  *     of pids, or if that process has ended and its pid has come again: then the child is not known as one.
+ *   - If the parent of a forked child had other threads, malloc is usable in the child, as that of glibc is. The proved
+ *     calls take memory, so their proof excludes such a child. What it calls after lfm_after_fork rests on this promise.
  *   - While a mutex is opened by lfm_mutex_new or closed, no other call of it begins. See lfm_mutex_close.
  *   - A call that has begun returns: no signal handler jumps out of it, and its thread is not cancelled asynchronously. No
  *     call is a cancellation point.
@@ -92,7 +94,7 @@ typedef enum lfm_status {
   LFM_TAKEN = 17,        /* the mutex is open, or the seat taken, already */
   LFM_LIMIT = 18,        /* a number is outside its limits */
   LFM_NO_MEMORY = 19,    /* memory was refused */
-  LFM_NO_SEAT = 20,      /* all seats are taken */
+  LFM_NO_SEAT = 20,      /* all seats are taken by threads that have not ended or given them back */
   LFM_NOT_BACK = 21,     /* some seats are not given back */
   LFM_HOLDING = 22,      /* the seat holds the mutex, or for a close: some seat holds it or asks for it */
   LFM_FOREIGN = 23,      /* the seat is of another mutex or thread */
@@ -117,11 +119,14 @@ static inline bool lfm_is_refused(lfm_status status) { return status >= LFM_BLAN
 #define LFM_API __attribute__((visibility("default"), nothrow))
 /* The compiler warns if the status of such a call is not used. A program that goes on after a refused lock would not
  * hold. */
-#define LFM_NODISCARD __attribute__((warn_unused_result)) LFM_API
+#define LFM_MUST_TEST __attribute__((warn_unused_result))
+#define LFM_NODISCARD LFM_MUST_TEST LFM_API
 
-/* For clang's -Wthread-safety. Calls with a seat are not told: clang can't see of which mutex a seat is. Of the calls that
- * try, it sees in `if (!lfm_try_lock_here(&mutex))` that the mutex is held, but clang 14 not in a test by lfm_is_refused or
- * by `==`. That form takes LFM_AGAIN for a failure, so it is for a thread that doesn't hold yet. */
+/* For clang's -Wthread-safety. Calls with a seat are not annotated: clang can't see of which mutex a seat is. It takes the
+ * mutex to be held after lfm_lock_here, even if that was refused. A program that goes on after a refused lock tests
+ * lfm_acquire_here or lfm_try_acquire_here, whose answers clang understands. Of the other calls that try, it sees in
+ * `if (!lfm_try_lock_here(&mutex))` that the mutex is held, but clang 14 not in a test by lfm_is_refused or by `==`. That
+ * form takes LFM_AGAIN for a failure, so it is for a thread that doesn't hold yet. */
 #if defined(__clang__) && !defined(LFM_NO_THREAD_SAFETY)
 #define LFM_TELLS_CLANG(what) __attribute__((what))
 #else
@@ -132,6 +137,10 @@ static inline bool lfm_is_refused(lfm_status status) { return status >= LFM_BLAN
 #define LFM_TRIES(mutex) LFM_TELLS_CLANG(try_acquire_capability(0, mutex))
 #define LFM_RELEASES(mutex) LFM_TELLS_CLANG(release_capability(mutex))
 #define LFM_NEEDS(mutex) LFM_TELLS_CLANG(requires_capability(mutex))
+#define LFM_ASSERTS(mutex) LFM_TELLS_CLANG(assert_capability(mutex))
+/* Of calls with a body, which clang doesn't follow. */
+#define LFM_UNSEEN LFM_TELLS_CLANG(no_thread_safety_analysis)
+#define LFM_IF_ACQUIRED(mutex) LFM_TELLS_CLANG(try_acquire_capability(1, mutex)) LFM_UNSEEN
 
 /* The clocks that a call with a time limit takes: CLOCK_REALTIME and CLOCK_MONOTONIC of Linux. */
 enum { LFM_REALTIME = 0, LFM_MONOTONIC = 1 };
@@ -208,8 +217,8 @@ LFM_API uint64_t lfm_takes_left(lfm_mutex *mutex);
 /* In a forked child, makes a mutex new that the thread which forked held, or that no seat held: that thread holds it as
  * often as before. `seat` is that thread's seat, or null if it finds its seat by itself. It may get another number, and has
  * all takes of the budget again, less one if it holds. Other seats of it are forgotten: an lfm_seat is set to zero before it
- * is taken anew. The library's memory for seats that threads of the parent found goes back, and that of the old mutex too if
- * no other seat was in hand. In the process that opened the mutex it changes nothing.
+ * is taken anew. What the library had of the parent's mutex stays taken, with 64 seats some 10 kB: a thread that the child
+ * doesn't have may have been changing it. In the process that opened the mutex it changes nothing.
  * Refused: LFM_BLANK, LFM_FOREIGN, LFM_NO_MEMORY, and LFM_BUSY if another thread held the mutex, asked for it or was
  * releasing it when the parent forked, if a timed lock had left the thread's own seat queued, or if the thread has no seat
  * by which it could see that, and all were taken or another thread was just taking or giving one. */
@@ -217,8 +226,9 @@ LFM_NODISCARD lfm_status lfm_after_fork(lfm_mutex *mutex, lfm_seat *seat);
 
 /* Seats in hand */
 
-/* Takes a seat of the mutex: the one that was given back last, or else the next that was never taken. Other threads may take
- * and give back seats at the same time: each may sleep until the other is done.
+/* Takes a seat of the mutex: the one that was given back last, or else the next that was never taken. If none is free, it
+ * adopts one that was given back while queued, with its place in the queue: as if a timed lock of this seat had left it
+ * there. Other threads may take and give back seats at the same time: each may sleep until the other is done.
  * Refused: LFM_BLANK, LFM_TAKEN, LFM_NO_SEAT, and as lfm_mutex_open if it opens the mutex. */
 LFM_API lfm_status lfm_seat_take(lfm_mutex *mutex, lfm_seat *seat);
 LFM_API lfm_status lfm_seat_take_checked(lfm_mutex *mutex, lfm_seat *seat);
@@ -227,9 +237,9 @@ LFM_API lfm_status lfm_seat_take_checked(lfm_mutex *mutex, lfm_seat *seat);
 #endif
 
 /* Gives the seat back. It may sleep until another thread has taken or given one. If a timed lock has left the seat queued,
- * its place is left to the thread that passes it by, with a copy of some 200 bytes, and only then can it be taken anew. If
- * memory for the copy is refused, the call sleeps until the seat's turn comes. A seat of lfm_seat_here is given back as by
- * lfm_seat_give_here.
+ * its place is left, with a copy of some 200 bytes, to the thread that passes it by, or to one that finds no free seat and
+ * adopts it. If memory for the copy is refused, the call sleeps until the seat's turn comes: for ever if the calling thread
+ * holds the mutex by another seat. A seat of lfm_seat_here is given back as by lfm_seat_give_here.
  * Refused: LFM_BLANK, LFM_HOLDING, LFM_SEAT_ASLEEP, and LFM_FOREIGN if another thread has that seat. */
 LFM_API lfm_status lfm_seat_give(lfm_seat *seat);
 
@@ -238,6 +248,8 @@ LFM_API lfm_status lfm_seat_give(lfm_seat *seat);
 LFM_API uint64_t lfm_number(lfm_seat *seat);
 /* How many times the seat holds. */
 LFM_API uint64_t lfm_depth(lfm_seat *seat);
+/* Ends the program with a text unless the seat holds the mutex, and else changes nothing. It never sleeps. */
+LFM_API void lfm_assert_held(lfm_seat *seat);
 /* How many takes the seat has left, or 0 of a seat that is not taken. */
 LFM_API uint64_t lfm_left(lfm_seat *seat);
 
@@ -271,10 +283,17 @@ LFM_NODISCARD lfm_status lfm_try_lock(lfm_seat *seat);
 LFM_NODISCARD lfm_status lfm_try_lock_for(lfm_seat *seat, uint64_t nanoseconds);
 LFM_NODISCARD lfm_status lfm_try_lock_until(lfm_seat *seat, int clock, const struct timespec *time);
 
-/* Releases one hold: LFM_STILL if the seat still holds, else LFM_DONE, LFM_POSTED or LFM_GRANTED. It never sleeps. On its
- * way to the next thread that waits, it passes by the seats that timed locks have left queued, and LFM_GRANTED counts these
- * too. No number bounds these: a seat that was passed by may be queued and left again before the unlock ends. The same holds
- * of a lock that wakes another thread.
+/* The same as lfm_lock and lfm_try_lock, but they answer whether the call was made: then the seat holds. They don't tell why
+ * a call was refused. */
+static inline LFM_MUST_TEST bool lfm_acquire(lfm_seat *seat) { return !lfm_is_refused(lfm_lock(seat)); }
+static inline LFM_MUST_TEST bool lfm_try_acquire(lfm_seat *seat) { return !lfm_is_refused(lfm_try_lock(seat)); }
+
+/* Releases one hold: LFM_STILL if the seat still holds, else LFM_DONE, LFM_POSTED or LFM_GRANTED. It never sleeps. It makes
+ * at most two calls of the system: one to wake the next thread that asked, and one for the threads at condition variables
+ * that were woken in the hold, however many these are. On its way to the next thread that waits, it passes by the seats
+ * that timed locks have left queued, each with one more call at most, and LFM_GRANTED counts these too. No number bounds
+ * these: a seat that was passed by may be queued and left again before the unlock ends. The same holds of a lock that wakes
+ * another thread.
  * Refused: LFM_BLANK, LFM_SEAT_ASLEEP, LFM_NOT_OWNER. */
 LFM_API lfm_status lfm_unlock(lfm_seat *seat);
 
@@ -282,9 +301,10 @@ LFM_API lfm_status lfm_unlock(lfm_seat *seat);
 
 /* The calling thread's seat of the mutex, or null if it is refused, with the cause. `cause` is not null, and it is to be
  * read only then. A thread takes a seat by its first call of a mutex, which takes some 250 bytes, and gives it back when it
- * ends, unless it holds then, or the system had no thread-specific key left. So as many threads may use a mutex at a time as
- * it has seats. Destructors of thread-specific data may call too. Only a seat that this call takes in the last round of
- * them, the fourth in glibc, is not given back. To find a seat takes about as long however many mutexes there are. */
+ * ends, unless it holds then, or the system had no thread-specific key left. If none is free, it adopts one as
+ * lfm_seat_take does. So as many threads may use a mutex at a time as it has seats. Destructors of thread-specific data may
+ * call too. Only a seat that this call takes in the last round of them, the fourth in glibc, is not given back. To find a
+ * seat takes about as long however many mutexes there are. */
 LFM_API lfm_seat *lfm_seat_here(lfm_mutex *mutex, lfm_status *cause);
 
 /* Gives the calling thread's seat back before the thread ends, so that another thread can take it: as lfm_seat_give, and
@@ -299,9 +319,14 @@ LFM_NODISCARD lfm_status lfm_lock_in_order_here(lfm_mutex *mutex) LFM_ACQUIRES(*
 LFM_NODISCARD lfm_status lfm_try_lock_here(lfm_mutex *mutex) LFM_TRIES(*mutex);
 LFM_NODISCARD lfm_status lfm_try_lock_for_here(lfm_mutex *mutex, uint64_t nanoseconds) LFM_TRIES(*mutex);
 LFM_NODISCARD lfm_status lfm_try_lock_until_here(lfm_mutex *mutex, int clock, const struct timespec *time) LFM_TRIES(*mutex);
+static inline LFM_MUST_TEST bool lfm_acquire_here(lfm_mutex *mutex) LFM_IF_ACQUIRED(*mutex);
+static inline LFM_MUST_TEST bool lfm_try_acquire_here(lfm_mutex *mutex) LFM_IF_ACQUIRED(*mutex);
+static inline bool lfm_acquire_here(lfm_mutex *mutex) { return !lfm_is_refused(lfm_lock_here(mutex)); }
+static inline bool lfm_try_acquire_here(lfm_mutex *mutex) { return !lfm_is_refused(lfm_try_lock_here(mutex)); }
 /* These take no seat: a thread that has none doesn't hold. */
 LFM_API lfm_status lfm_unlock_here(lfm_mutex *mutex) LFM_RELEASES(*mutex);
 LFM_API uint64_t lfm_depth_here(lfm_mutex *mutex);
+LFM_API void lfm_assert_held_here(lfm_mutex *mutex) LFM_ASSERTS(*mutex);
 
 /* Conditions */
 
@@ -331,7 +356,8 @@ LFM_NODISCARD lfm_status lfm_wait_until_here(lfm_condvar *condvar, lfm_mutex *mu
 LFM_API lfm_status lfm_wake_one(lfm_condvar *condvar);
 LFM_API lfm_status lfm_wake_all(lfm_condvar *condvar);
 /* The same by a thread with a seat in hand. If that seat holds, threads that wait without a time limit and for its mutex are
- * woken when it releases the mutex, as they are if the holder's seat finds itself. So they don't find it held. */
+ * woken when it releases the mutex, as they are if the holder's seat finds itself. So they don't find it held. The unlock
+ * wakes the first of them. Each that was woken so wakes at most two others, before it locks. */
 LFM_API lfm_status lfm_wake_one_by(lfm_condvar *condvar, lfm_seat *seat);
 LFM_API lfm_status lfm_wake_all_by(lfm_condvar *condvar, lfm_seat *seat);
 

@@ -17,8 +17,8 @@
 // A forked child calls lfm_after_fork(mutex.native_handle(), nullptr) before any other call of a mutex of its parent. It sets
 // *condition.native_handle() to lfm_condvar() if other threads may have waited at that condition variable.
 //
-// A thread that keeps its seat itself uses lfm::mutex, lfm::seat, and lfm::seat_lock, which is the seat as a Lockable. The
-// locks of the standard library take both Lockables, and so does std::condition_variable_any.
+// A thread that keeps its seat itself uses lfm::mutex, lfm::seat, and lfm::seat_lock, which is the seat as a TimedLockable.
+// The locks of the standard library take both Lockables, and so do lfm::condition_variable and std::condition_variable_any.
 #pragma once
 
 #include <dlfcn.h>
@@ -41,7 +41,6 @@
 #define LFM_MUST_USE
 #endif
 // For clang's -Wthread-safety, which doesn't follow the bodies of these calls.
-#define LFM_UNSEEN LFM_TELLS_CLANG(no_thread_safety_analysis)
 #define LFM_CALL(what) LFM_TELLS_CLANG(what) LFM_UNSEEN
 
 // The linker keeps one of the inline functions of one name. So those that throw or abort have another name in each kind of
@@ -141,6 +140,18 @@ inline lfm_status made(lfm_status status) {
 // Whether a try acquired the mutex. Throws if it was refused for another cause than LFM_BUSY.
 inline bool has_acquired(lfm_status status) { return status != LFM_BUSY && !lfm_is_refused(made(status)); }
 
+// Locks until this time by a call of ligdrosa.h, or for a clock that the program defines, by spans of time.
+template <class Lock, class By, class Clock, class Duration>
+bool lock_until(Lock &lock, lfm_status (*call)(By *, int, const timespec *), By *by,
+                const std::chrono::time_point<Clock, Duration> &time) LFM_UNSEEN {
+  const timespec at = timespec_of(time);
+  const int clock = number_of<Clock>();
+  if (clock >= 0) return has_acquired(call(by, clock, &at));
+  while (!lock.try_lock_for(time - Clock::now()))
+    if (time <= Clock::now()) return false;
+  return true;
+}
+
 // A mutex that finds the seat of the calling thread by itself. A thread takes a seat by its first call and gives it back when
 // it ends. So a mutex of N seats serves N threads at a time. One thread more is refused as LFM_NO_SEAT.
 //
@@ -178,6 +189,10 @@ public:
   }
   // How often the calling thread holds the mutex.
   uint64_t depth() noexcept { return lfm_depth_here(&raw); }
+  // Ends the program with a text unless the calling thread holds the mutex.
+  void assert_held() noexcept LFM_CALL(assert_capability(this)) { lfm_assert_held_here(&raw); }
+  // How many takes all seats have left: an upper bound, as lfm_takes_left.
+  uint64_t takes_left() noexcept { return lfm_takes_left(&raw); }
   // Gives the calling thread's seat back before the thread ends, so that another thread can take it. A thread that has none
   // gives none back. A later call of the thread takes a seat anew. Throws LFM_HOLDING if the thread holds.
   void give_seat() {
@@ -200,12 +215,7 @@ public:
   template <class Clock, class Duration>
   LFM_MUST_USE bool try_lock_until(const std::chrono::time_point<Clock, Duration> &time)
       LFM_CALL(try_acquire_capability(true)) {
-    const timespec at = timespec_of(time);
-    const int clock = number_of<Clock>();
-    if (clock >= 0) return has_acquired(lfm_try_lock_until_here(&raw, clock, &at));
-    while (!try_lock_for(time - Clock::now()))
-      if (time <= Clock::now()) return false;
-    return true;
+    return lock_until(*this, lfm_try_lock_until_here, &raw, time);
   }
   // Throws as lfm_unlock_here refuses.
   void unlock() LFM_CALL(release_capability()) { made(lfm_unlock_here(&raw)); }
@@ -223,69 +233,6 @@ public:
   ~guard() LFM_CALL(release_capability()) { of.unlock(); }
 };
 
-// A condition variable for any mutex. A wait returns only after a notify or when its time is over, but another thread may hold
-// the mutex in between: wait in a loop that tests the condition. Only a wait until a time on a clock that the program defines
-// may return early. The condition variable may be destroyed once all waiting threads are notified, even if they have not
-// returned, if no other notify is under way. In static storage its destructor does nothing, so no other may be constructed in
-// its place before they have returned.
-class condition_variable {
-  using unique_lock = std::unique_lock<recursive_mutex>;
-  lfm_condvar raw{};
-
-  static lfm_mutex *mutex_of(const unique_lock &lock) { return lock.mutex()->native_handle(); }
-  static std::cv_status told(lfm_status status) {
-    return made(status) == LFM_TIMED_OUT ? std::cv_status::timeout : std::cv_status::no_timeout;
-  }
-
-public:
-  constexpr condition_variable() noexcept = default;
-  condition_variable(const condition_variable &) = delete;
-  condition_variable &operator=(const condition_variable &) = delete;
-  ~condition_variable() {
-    if (!is_static(this)) lfm_condvar_close(&raw);
-  }
-  // The condition variable for calls of ligdrosa.h.
-  lfm_condvar *native_handle() noexcept { return &raw; }
-
-  // Throws as lfm_wait_here refuses: LFM_NOT_OWNER, and LFM_NESTED if the lock is not the thread's only hold.
-  void wait(unique_lock &lock) LFM_UNSEEN { made(lfm_wait_here(&raw, mutex_of(lock))); }
-  // Waits until the predicate is true.
-  template <class Predicate> void wait(unique_lock &lock, Predicate predicate) {
-    while (!predicate()) wait(lock);
-  }
-
-  // Waits for at most this long, or until this time. Throws as wait does.
-  template <class Rep, class Period>
-  std::cv_status wait_for(unique_lock &lock, const std::chrono::duration<Rep, Period> &span) LFM_UNSEEN {
-    return told(lfm_wait_for_here(&raw, mutex_of(lock), nanoseconds_of(span)));
-  }
-  template <class Clock, class Duration>
-  std::cv_status wait_until(unique_lock &lock, const std::chrono::time_point<Clock, Duration> &time) LFM_UNSEEN {
-    const timespec at = timespec_of(time);
-    const int clock = number_of<Clock>();
-    if (clock >= 0) return told(lfm_wait_until_here(&raw, mutex_of(lock), clock, &at));
-    wait_for(lock, time - Clock::now()); // not in a loop, which could miss a notify between two waits
-    return Clock::now() < time ? std::cv_status::no_timeout : std::cv_status::timeout;
-  }
-
-  // Waits until the predicate is true or the time is over, and returns the predicate.
-  template <class Rep, class Period, class Predicate>
-  bool wait_for(unique_lock &lock, const std::chrono::duration<Rep, Period> &span, Predicate predicate) {
-    const std::chrono::nanoseconds most(static_cast<int64_t>(nanoseconds_of(span)));
-    return wait_until(lock, std::chrono::steady_clock::now() + most, predicate);
-  }
-  template <class Clock, class Duration, class Predicate>
-  bool wait_until(unique_lock &lock, const std::chrono::time_point<Clock, Duration> &time, Predicate predicate) {
-    while (!predicate())
-      if (wait_until(lock, time) == std::cv_status::timeout) return predicate();
-    return true;
-  }
-
-  // Wakes the thread that has waited longest, or all waiting threads.
-  void notify_one() noexcept { lfm_wake_one(&raw); }
-  void notify_all() noexcept { lfm_wake_all(&raw); }
-};
-
 // A mutex whose threads keep their seats themselves. All of its seats are destroyed before it.
 class mutex {
   lfm_mutex raw{};
@@ -298,6 +245,8 @@ public:
   ~mutex() { lfm_mutex_close(&raw); }
   // The mutex for calls of ligdrosa.h.
   lfm_mutex *native_handle() noexcept { return &raw; }
+  // How many takes all seats have left: an upper bound, as lfm_takes_left.
+  uint64_t takes_left() noexcept { return lfm_takes_left(&raw); }
 };
 
 // A seat of a mutex, for one thread at a time. It is destroyed while it doesn't hold. A seat that holds is leaked, and no other
@@ -322,13 +271,17 @@ public:
   uint64_t left() noexcept { return lfm_left(raw.get()); }
 };
 
-// A seat as a Lockable.
+// A seat as a TimedLockable.
 class seat_lock {
   lfm_seat *of;
 
 public:
   explicit seat_lock(seat &taken) noexcept : of(taken.native_handle()) {}
   explicit seat_lock(lfm_seat &taken) noexcept : of(&taken) {}
+  // The seat for calls of ligdrosa.h.
+  lfm_seat *native_handle() noexcept { return of; }
+  // Ends the program with a text unless the seat holds the mutex.
+  void assert_held() noexcept { lfm_assert_held(of); }
   // Throws as lfm_lock refuses.
   void lock() { made(lfm_lock(of)); }
   // Locks, but queues at once.
@@ -336,8 +289,91 @@ public:
   // False if at some moment of the call another seat held the mutex, asked for it or was releasing it. Otherwise throws as
   // lfm_try_lock refuses.
   LFM_MUST_USE bool try_lock() { return has_acquired(lfm_try_lock(of)); }
+  // Locks as lock does, but at most until the time is over. After a false the seat may still be queued: its next lock waits
+  // from the same place, and try_lock is false until then.
+  template <class Rep, class Period> LFM_MUST_USE bool try_lock_for(const std::chrono::duration<Rep, Period> &span) {
+    return has_acquired(lfm_try_lock_for(of, nanoseconds_of(span)));
+  }
+  template <class Clock, class Duration>
+  LFM_MUST_USE bool try_lock_until(const std::chrono::time_point<Clock, Duration> &time) {
+    return lock_until(*this, lfm_try_lock_until, of, time);
+  }
   // Throws as lfm_unlock refuses.
   void unlock() { made(lfm_unlock(of)); }
+};
+
+// A condition variable for any mutex. Its waits take a std::unique_lock of a recursive_mutex or of a seat_lock. A wait
+// returns only after a notify or when its time is over, but another thread may hold the mutex in between: wait in a loop
+// that tests the condition. Only a wait until a time on a clock that the program defines may return early. The condition
+// variable may be destroyed once all waiting threads are notified, even if they have not returned, if no other notify is
+// under way. In static storage its destructor does nothing, so no other may be constructed in its place before they have
+// returned.
+class condition_variable {
+  lfm_condvar raw{};
+
+  lfm_status wait_by(lfm_mutex *mutex) LFM_UNSEEN { return lfm_wait_here(&raw, mutex); }
+  lfm_status wait_by(lfm_seat *seat) { return lfm_wait(&raw, seat); }
+  lfm_status wait_by(lfm_mutex *mutex, uint64_t span) LFM_UNSEEN { return lfm_wait_for_here(&raw, mutex, span); }
+  lfm_status wait_by(lfm_seat *seat, uint64_t span) { return lfm_wait_for(&raw, seat, span); }
+  lfm_status wait_by(lfm_mutex *mutex, int clock, const timespec &at) LFM_UNSEEN {
+    return lfm_wait_until_here(&raw, mutex, clock, &at);
+  }
+  lfm_status wait_by(lfm_seat *seat, int clock, const timespec &at) { return lfm_wait_until(&raw, seat, clock, &at); }
+  static std::cv_status told(lfm_status status) {
+    return made(status) == LFM_TIMED_OUT ? std::cv_status::timeout : std::cv_status::no_timeout;
+  }
+
+public:
+  constexpr condition_variable() noexcept = default;
+  condition_variable(const condition_variable &) = delete;
+  condition_variable &operator=(const condition_variable &) = delete;
+  ~condition_variable() {
+    if (!is_static(this)) lfm_condvar_close(&raw);
+  }
+  // The condition variable for calls of ligdrosa.h.
+  lfm_condvar *native_handle() noexcept { return &raw; }
+
+  // Throws as lfm_wait refuses: LFM_NOT_OWNER, LFM_SPENT, and LFM_NESTED if the lock is not the only hold.
+  template <class Lock> void wait(std::unique_lock<Lock> &lock) { made(wait_by(lock.mutex()->native_handle())); }
+  // Waits until the predicate is true.
+  template <class Predicate, class Lock> void wait(std::unique_lock<Lock> &lock, Predicate predicate) {
+    while (!predicate()) wait(lock);
+  }
+
+  // Waits for at most this long, or until this time. Throws as wait does.
+  template <class Rep, class Period, class Lock>
+  std::cv_status wait_for(std::unique_lock<Lock> &lock, const std::chrono::duration<Rep, Period> &span) {
+    return told(wait_by(lock.mutex()->native_handle(), nanoseconds_of(span)));
+  }
+  template <class Clock, class Duration, class Lock>
+  std::cv_status wait_until(std::unique_lock<Lock> &lock, const std::chrono::time_point<Clock, Duration> &time) {
+    const timespec at = timespec_of(time);
+    const int clock = number_of<Clock>();
+    if (clock >= 0) return told(wait_by(lock.mutex()->native_handle(), clock, at));
+    wait_for(lock, time - Clock::now()); // not in a loop, which could miss a notify between two waits
+    return Clock::now() < time ? std::cv_status::no_timeout : std::cv_status::timeout;
+  }
+
+  // Waits until the predicate is true or the time is over, and returns the predicate.
+  template <class Rep, class Period, class Predicate, class Lock>
+  bool wait_for(std::unique_lock<Lock> &lock, const std::chrono::duration<Rep, Period> &span, Predicate predicate) {
+    const std::chrono::nanoseconds most(static_cast<int64_t>(nanoseconds_of(span)));
+    return wait_until(lock, std::chrono::steady_clock::now() + most, predicate);
+  }
+  template <class Clock, class Duration, class Predicate, class Lock>
+  bool wait_until(std::unique_lock<Lock> &lock, const std::chrono::time_point<Clock, Duration> &time, Predicate predicate) {
+    while (!predicate())
+      if (wait_until(lock, time) == std::cv_status::timeout) return predicate();
+    return true;
+  }
+
+  // Wakes the thread that has waited longest, or all waiting threads, and returns whether one waited.
+  bool notify_one() noexcept { return lfm_wake_one(&raw) == LFM_DONE; }
+  bool notify_all() noexcept { return lfm_wake_all(&raw) == LFM_DONE; }
+  // The same by a thread that holds by this seat. Threads that wait for its mutex without a time limit are woken when the
+  // seat releases it, so they don't find it held. notify_one and notify_all do so if the caller holds a recursive_mutex.
+  bool notify_one_by(seat_lock &holder) noexcept { return lfm_wake_one_by(&raw, holder.native_handle()) == LFM_DONE; }
+  bool notify_all_by(seat_lock &holder) noexcept { return lfm_wake_all_by(&raw, holder.native_handle()) == LFM_DONE; }
 };
 
 } // namespace LFM_KIND

@@ -21,12 +21,13 @@ enum { PAUSES_PER_LOAD = 4, LOADS_PER_TIME = 16 /* between two readings of the c
 /* How many loads a thread makes before it sleeps, if it waits for a few steps of another. */
 enum { SHORT_SPIN = 64 };
 
-static uint32_t bell_of(uint32_t *bell) { return __atomic_load_n(bell, __ATOMIC_ACQUIRE); }
+/* Sequentially consistent, as the ring is: a seat's handle may go with it to the thread that waits. */
+static uint32_t bell_of(uint32_t *bell) { return __atomic_load_n(bell, __ATOMIC_SEQ_CST); }
 
 static void silence(uint32_t *bell) { __atomic_store_n(bell, SILENT, __ATOMIC_RELAXED); }
 
 static void ring(uint32_t *bell) {
-  if (__atomic_exchange_n(bell, RUNG, __ATOMIC_ACQ_REL) == LISTENED) wake_sleeper(bell);
+  if (__atomic_exchange_n(bell, RUNG, __ATOMIC_SEQ_CST) == LISTENED) wake_sleeper(bell);
 }
 
 /* Spins at the bell for this many nanoseconds: whether it has rung. */

@@ -10,7 +10,7 @@
  *
  * A thread that would be woken while the caller holds its mutex could only sleep again, or take the caller's processor. So
  * if the caller's own seat holds it, the ring is put off until that seat releases the mutex: no waiter could go on before.
- * This is not done for a timed wait, for which a close may wait.
+ * Who makes it then is said in waiter.h. This is not done for a timed wait, for which a close may wait.
  *
  * Nothing is touched after its end. A wake reads a waiter's neighbour before it rings for it, and releases the latch before
  * the first ring. A waiter without a deadline touches its condition variable no more once it is listed and has released the
@@ -142,7 +142,7 @@ static lfm_status wait_until(lfm_condvar *condvar, lfm_seat *seat, const struct 
   struct spent_seat *reserved = NULL;
   lfm_status status = prepare_wait(seat, &reserved);
   if (status != LFM_DONE) return status;
-  struct lfm_waiter waiter = {NULL, NULL, seat->core, SILENT, true, deadline != NULL, false};
+  struct lfm_waiter waiter = {.core = seat->core, .bell = SILENT, .is_timed = deadline != NULL};
   hide(condvar, sizeof *condvar);
   hide(&waiter, sizeof waiter);
   acquire_latch(&condvar->latch);
@@ -154,6 +154,7 @@ static lfm_status wait_until(lfm_condvar *condvar, lfm_seat *seat, const struct 
   if (UNLIKELY(reserved)) exchange_seat(seat, reserved);
   bool is_done = (is_alone && spin_for_wake(seat, &waiter.bell)) || await_wake(condvar, &waiter, deadline);
   if (deadline && __atomic_sub_fetch(&condvar->inside, 1, __ATOMIC_ACQ_REL) == IS_CLOSING) wake_sleeper(&condvar->inside);
+  ring_for_others(&waiter);
   /* Of threads that are woken together each would nap while another holds. In order they go on one after another. */
   status = is_done && waiter.is_one_of_many ? tell_if_acquired(seat, queue(seat, NULL)) : lock(seat);
   return is_done || lfm_is_refused(status) ? status : LFM_TIMED_OUT;
@@ -168,12 +169,7 @@ static void ring_for(struct lfm_waiter *waiter, lfm_seat *seat) {
     ring(&waiter->bell);
     return;
   }
-  waiter->newer = NULL;
-  if (seat->unrung)
-    seat->last_unrung->newer = waiter;
-  else
-    seat->unrung = waiter;
-  seat->last_unrung = waiter;
+  put_off_ring(seat, waiter);
 }
 
 static lfm_status wake(lfm_condvar *condvar, lfm_seat *seat, bool all) {

@@ -65,23 +65,27 @@ static void sort_seats(struct lfm_core *core) {
 /* How many takes the seat has made since it was taken. */
 static uint64_t takes_made(lfm_seat *seat) { return seat->takes_at_first - lfm_c_left(seat->handle); }
 
-/* Takes back the orphans that have been passed by. The latch is held. ThreadSanitizer, which sees the memory being freed, is
- * told that this comes after the give. */
+/* Takes back the orphans that have been passed by. The latch is held. An orphan's handle comes by the load of its place,
+ * which is sequentially consistent. ThreadSanitizer, which sees the memory being freed, is told that this comes after the
+ * give. */
 SLOW_PATH void take_back_passed(struct lfm_core *core) {
-  lfm_seat *seat = __atomic_exchange_n(&core->passed, NULL, __ATOMIC_ACQUIRE), *next;
-  for (; seat; seat = next) {
-    next = seat->next_passed;
+  __atomic_store_n(&core->any_passed, false, __ATOMIC_SEQ_CST); /* who passes an orphan that the loads miss sets it again */
+  for (uint32_t i = 0; i < core->highest; i++) {
+    uintptr_t found = __atomic_load_n(&core->places[i], __ATOMIC_SEQ_CST);
+    if (state_in(found) != ORPHAN_PASSED) continue;
+    lfm_seat *seat = seat_at(found);
     core->takes_left -= takes_made(seat);
     lfm_c_give_seat(core->handle, seat->handle);
+    core->places[i] = 0;
     if (__tsan_acquire) __tsan_acquire(seat);
     free(seat);
   }
 }
 
-/* Acquires the latch of the core, to take a seat or to give one back. No orphan is left to be taken back then. */
+/* Acquires the latch of the core, to take a seat or to give one back. Orphans that were passed by before are back then. */
 static void acquire_seats_latch(struct lfm_core *core) {
   acquire_latch(&core->latch);
-  if (UNLIKELY(__atomic_load_n(&core->passed, __ATOMIC_RELAXED))) take_back_passed(core);
+  if (UNLIKELY(__atomic_load_n(&core->any_passed, __ATOMIC_RELAXED))) take_back_passed(core);
 }
 
 /* Gives back the seats that were exchanged. */
@@ -95,11 +99,12 @@ static void give_spent(struct lfm_core *core) {
   }
 }
 
-/* Drops a reference. With the last, all seats are back but those that were exchanged. ThreadSanitizer is told that the last
- * comes after all others: it sees the memory being freed. */
+/* Drops a reference. With the last, all seats are back but those that were exchanged. The handles of the mutex and of these
+ * come to the thread that drops the last, so a drop is sequentially consistent. ThreadSanitizer is told that the last comes
+ * after all others: it sees the memory being freed. */
 static void drop_reference(struct lfm_core *core) {
   if (__tsan_release) __tsan_release(&core->references);
-  if (__atomic_sub_fetch(&core->references, 1, __ATOMIC_ACQ_REL) != 0) return;
+  if (__atomic_sub_fetch(&core->references, 1, __ATOMIC_SEQ_CST) != 0) return;
   if (__tsan_acquire) __tsan_acquire(&core->references);
   take_back_passed(core);
   give_spent(core);
@@ -115,18 +120,19 @@ static void drop_reference(struct lfm_core *core) {
 static bool is_of_process(const struct lfm_core *core) { return core->process == getpid(); }
 
 /* The core of a mutex, which it opens if the mutex was only initialized; or null and the cause. Of threads that open it at
- * the same time one is first, and the others drop what they have made. */
+ * the same time one is first, and the others drop what they have made. The handle of the mutex goes to other threads by the
+ * word with the core's address, so the operations on it are sequentially consistent. */
 static struct lfm_core *open_core_of(lfm_mutex *mutex, lfm_status *cause) {
   *cause = LFM_BLANK;
   if (!mutex) return NULL;
   hide(mutex, sizeof *mutex);
-  struct lfm_core *found = __atomic_load_n(&mutex->core, __ATOMIC_ACQUIRE);
+  struct lfm_core *found = __atomic_load_n(&mutex->core, __ATOMIC_SEQ_CST);
   if (found || mutex->version == 0) return found;
   *cause = LFM_OTHER_HEADER;
   if (mutex->version / 100 != LFM_VERSION / 100) return NULL;
   struct lfm_core *core = new_core(mutex->seats, LFM_MOST_TAKES, cause);
   if (!core) return NULL;
-  if (__atomic_compare_exchange_n(&mutex->core, &found, core, false, __ATOMIC_ACQ_REL, __ATOMIC_ACQUIRE)) return core;
+  if (__atomic_compare_exchange_n(&mutex->core, &found, core, false, __ATOMIC_SEQ_CST, __ATOMIC_SEQ_CST)) return core;
   drop_reference(core);
   return found;
 }
@@ -140,6 +146,6 @@ lfm_status lfm_mutex_open(lfm_mutex *mutex, uint64_t seats, uint64_t budget, int
   if (!core) return cause;
   mutex->seats = (uint32_t)seats;
   mutex->version = LFM_VERSION;
-  __atomic_store_n(&mutex->core, core, __ATOMIC_RELEASE);
+  __atomic_store_n(&mutex->core, core, __ATOMIC_SEQ_CST);
   return LFM_DONE;
 }

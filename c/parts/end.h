@@ -11,7 +11,7 @@ static bool observe_use(struct lfm_core *core) {
   }
   if (seat) return lfm_c_count(seat->handle) != 0;
   temporary.is_of_library = false;
-  if (take_seat(core, &temporary, 0, false) != LFM_DONE) return false;
+  if (take_seat(core, &temporary, 0, false, NULL) != LFM_DONE) return false;
   bool is_used = lfm_c_count(temporary.handle) != 0;
   give_seat(&temporary, false);
   return is_used;
@@ -34,65 +34,31 @@ lfm_status lfm_mutex_close(lfm_mutex *mutex) {
   return LFM_DONE;
 }
 
-/* Whether the calling thread is the one that forked: it has the number of the child. */
-static bool is_forked_thread(void) { return syscall(SYS_gettid) == getpid(); }
-
-/* Frees what the library has of a mutex of the parent: the seats of threads that the child doesn't have, and the core if all
- * seats come back. Seats in hand of other threads may lie in memory that is gone, so the core stays then. It stays too if a
- * thread that the child doesn't have was changing it. The calling thread's seat is back or of the new core. If another
- * thread of the child calls, nothing is freed: the thread that forked may have a seat in its table. */
-static void free_core_of_parent(struct lfm_core *core) {
-  if (!is_forked_thread()) return;
-  bool is_steady = core->latch == 0;
-  if (is_steady) take_back_passed(core);
-  for (uint32_t i = 0; i < core->seats; i++) {
-    if (!(core->places[i] & IN_LIBRARY)) continue;
-    lfm_seat *seat = seat_at(core->places[i]);
-    if (is_steady) lfm_c_give_seat(core->handle, seat->handle);
-    free(seat);
-  }
-  if (!is_steady) return;
-  give_spent(core);
-  if (status_of(lfm_c_close(core->handle)) == LFM_DONE) free(core);
-}
-
-/* Takes the calling thread's seat out of a core of the parent: how deep it held. Seats that were queued behind it are passed
- * by, up to one in hand of a thread that the child doesn't have. */
-static uint64_t leave_core_of_parent(struct lfm_core *core, lfm_seat *seat) {
-  uint64_t depth = lfm_c_depth(seat->handle), next = 0;
-  for (uint64_t i = 0; i < depth; i++) next = lfm_c_unlock(seat->handle) >> 8;
-  while (next && (core->places[next - 1] & IN_LIBRARY)) {
-    lfm_seat *queued = seat_at(core->places[next - 1]);
-    lfm_c_receive(queued->handle);
-    next = lfm_c_unlock(queued->handle) >> 8;
-  }
-  if (core->latch == 0) lfm_c_give_seat(core->handle, seat->handle);
-  core->places[seat->number - 1] = 0;
-  seat->core = NULL;
-  return depth;
-}
-
-/* Makes a new core for this process, with a seat of the calling thread if it has one, as deep as the old seat. */
+/* Makes a new core for this process, with a seat of the calling thread if it has one, as deep as the old seat.
+ *
+ * The core of the parent stays as it is, with the seats of other threads, and none of it is freed. The child doesn't have
+ * these threads, and each may have been in a call that was changing a handle. */
 static lfm_status make_new(lfm_mutex *mutex, lfm_seat *seat, bool is_in_hand) {
   lfm_status cause;
   struct lfm_core *before = mutex->core, *core = new_core(before->seats, before->budget, &cause);
   if (!core) return cause;
+  lfm_seat *listed = find(before);
+  if (listed) empty_slot(slot_of(before));
+  if (listed == seat && seat)
+    add_to_table(core, seat);
+  else
+    free(listed);
   if (seat) {
-    uint64_t depth = leave_core_of_parent(before, seat);
-    take_seat(core, seat, seat->flags, is_in_hand);
+    uint64_t depth = lfm_c_depth(seat->handle);
+    take_seat(core, seat, seat->flags, is_in_hand, NULL);
     for (uint64_t i = 0; i < depth; i++) lfm_c_try_lock(seat->handle);
   }
-  for (size_t at = 0; at <= own.last; at++)
-    if (own.slots[at].core == before) {
-      empty_slot(at);
-      if (!is_in_hand) add_to_table(core, seat);
-      break;
-    }
   mutex->core = core;
-  free_core_of_parent(before);
   return LFM_DONE;
 }
 
+/* Of the parent's handles it uses that of the calling thread's own seat alone, which no other thread had in a call. Without
+ * such a seat it takes one of the mutex, unless a thread of the parent was changing the mutex. */
 lfm_status lfm_after_fork(lfm_mutex *mutex, lfm_seat *seat) {
   if (!mutex || mutex->version == 0 || (seat && !seat->core)) return LFM_BLANK;
   struct lfm_core *core = mutex->core;

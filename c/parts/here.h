@@ -1,7 +1,7 @@
-/* The calls whose names end in `here`, which find the calling thread's seat; and how any seat is given back. What a lock
- * does by its seat is in lock.h, and the table in which the seat is found in own.h. */
+/* The calls whose names end in `here`, which find the calling thread's seat. What a lock does by its seat is in lock.h, and
+ * the table in which the seat is found in own.h. */
 
-/* The calling thread's seat, or null if it has none. */
+/* The calling thread's seat, or null if it has none. No handle comes by this load: the thread's seat is its own. */
 FAST_PATH lfm_seat *find_of(lfm_mutex *mutex) {
   struct lfm_core *core = mutex ? __atomic_load_n(&mutex->core, __ATOMIC_ACQUIRE) : NULL;
   return core ? find(core) : NULL;
@@ -40,8 +40,10 @@ lfm_status lfm_try_lock_here(lfm_mutex *mutex) {
   return LIKELY(seat && seat->flags == 0) ? try_plainly(seat) : try_here(mutex);
 }
 
+/* The time begins at the call, though to open the mutex and to take the seat may take long. */
 lfm_status lfm_try_lock_for_here(lfm_mutex *mutex, uint64_t nanoseconds) {
-  RETURN_CALL_HERE(mutex, lfm_try_lock_for(seat, nanoseconds));
+  struct deadline deadline = deadline_after(nanoseconds);
+  RETURN_CALL_HERE(mutex, lock_until(seat, &deadline));
 }
 
 lfm_status lfm_try_lock_until_here(lfm_mutex *mutex, int clock, const struct timespec *time) {
@@ -62,46 +64,6 @@ lfm_status lfm_unlock_here(lfm_mutex *mutex) {
 }
 
 uint64_t lfm_depth_here(lfm_mutex *mutex) { return lfm_depth(find_of(mutex)); }
-
-/* Gives */
-
-/* Makes an orphan of a seat in hand that has abandoned its place: whether it has. Otherwise the seat is free. The seat lies
- * in memory of the program, so a copy is the orphan. It is made while the place is taken up, so that no other thread changes
- * the seat. The bell is not copied: its ring may come at the same time. Without memory for the copy, the seat waits until it
- * is granted the mutex, and releases it. */
-SLOW_PATH bool orphan_copy(lfm_seat *seat) {
-  if (!resume_place(seat)) return false;
-  lfm_seat *as = (lfm_seat *)new_lines(offsetof(lfm_seat, unused));
-  if (as) {
-    memcpy(as->handle, seat->handle, sizeof as->handle);
-    as->core = seat->core;
-    as->number = seat->number;
-    as->takes_at_first = seat->takes_at_first;
-    as->is_of_library = true;
-    if (orphan(seat, TIMED, as, true)) return true;
-    free(as);
-  }
-  await_grant(seat, NULL);
-  unlock(seat);
-  return false;
-}
-
-/* Gives back a seat of lfm_seat_here, which its thread has in its table. */
-static lfm_status give_own(lfm_seat *seat) {
-  return find(seat->core) == seat ? give_back_slot(slot_of(seat->core)) : LFM_FOREIGN;
-}
-
-/* A seat that was given back is touched no more: its memory may be gone by then, with that of the mutex. In a child a call
- * of the seat may be open for ever, by a thread that the child lacks, so there it is not asked whether one is. */
-lfm_status lfm_seat_give(lfm_seat *seat) {
-  if (!is_taken(seat)) return LFM_BLANK;
-  if (seat->is_of_library) return give_own(seat);
-  bool is_here = is_of_process(seat->core);
-  if (is_here) begin_call(seat);
-  if (has_abandoned(seat) && is_here && orphan_copy(seat)) return LFM_DONE;
-  lfm_status status = give_seat(seat, true);
-  return status == LFM_DONE ? status : end_call(seat, status);
-}
 
 lfm_status lfm_seat_give_here(lfm_mutex *mutex) {
   lfm_seat *seat = find_of(mutex);

@@ -1,23 +1,26 @@
 /* A latch is a futex lock of three states: 0 free, 1 held, 2 held with sleepers. A thread that finds it held spins, then
  * sleeps, so a holder of a lower priority gets to release it. A core has one for its seats, and a condition variable one for
  * its list. It is held for a few steps, and no thread waits for another meanwhile. The exchange that releases it is the last
- * access to it, as with a bell. */
+ * access to it, as with a bell.
+ *
+ * Its operations are sequentially consistent, except a load before one: the handle of the mutex goes with a core's latch,
+ * and so do those of seats that are exchanged. */
 
 SLOW_PATH void acquire_latch_slowly(uint32_t *latch) {
   for (int loads = 0; loads < SHORT_SPIN; loads++) {
     uint32_t found = 0;
     pause_for(PAUSES_PER_LOAD);
     if (__atomic_load_n(latch, __ATOMIC_RELAXED) != 0) continue;
-    if (__atomic_compare_exchange_n(latch, &found, 1, false, __ATOMIC_ACQUIRE, __ATOMIC_RELAXED)) return;
+    if (__atomic_compare_exchange_n(latch, &found, 1, false, __ATOMIC_SEQ_CST, __ATOMIC_RELAXED)) return;
   }
-  while (__atomic_exchange_n(latch, 2, __ATOMIC_ACQUIRE)) sleep_while(latch, 2, NULL);
+  while (__atomic_exchange_n(latch, 2, __ATOMIC_SEQ_CST)) sleep_while(latch, 2, NULL);
 }
 
 static void acquire_latch(uint32_t *latch) {
   uint32_t found = 0;
-  if (!__atomic_compare_exchange_n(latch, &found, 1, false, __ATOMIC_ACQUIRE, __ATOMIC_RELAXED)) acquire_latch_slowly(latch);
+  if (!__atomic_compare_exchange_n(latch, &found, 1, false, __ATOMIC_SEQ_CST, __ATOMIC_RELAXED)) acquire_latch_slowly(latch);
 }
 
 static void release_latch(uint32_t *latch) {
-  if (__atomic_exchange_n(latch, 0, __ATOMIC_RELEASE) == 2) wake_sleeper(latch);
+  if (__atomic_exchange_n(latch, 0, __ATOMIC_SEQ_CST) == 2) wake_sleeper(latch);
 }

@@ -18,10 +18,7 @@ struct lfm_seat {
   unsigned char handle[SEAT_BYTES];
   struct lfm_waiter *last_unrung;
   uint64_t takes_at_first; /* how many takes it had left when it was taken */
-  union {
-    uint64_t takes_left;   /* if HAS_ABANDONED, when no call may ask the handle */
-    lfm_seat *next_passed; /* of an orphan that was passed by: the next of these */
-  };
+  uint64_t takes_left; /* if HAS_ABANDONED, when no call may ask the handle */
   uint32_t bell;       /* rung when the seat was granted the mutex, or its place passed by */
   uint8_t spin_credit; /* 0 if its waits don't spin, unless as a trial: see condvar.h */
   bool is_of_library;  /* its memory is the library's */
@@ -47,10 +44,10 @@ struct lfm_core {
   uint64_t budget : 40;
   uint64_t seats : 12;
   uint64_t highest : 12; /* the greatest number of a seat that was ever taken */
-  lfm_seat *passed;      /* orphans that have been passed by, and are to be taken back */
   pid_t process;         /* in which it was opened */
   int16_t orphans;       /* how many orphans are queued */
   bool is_ended;         /* the lfm_mutex is closed */
+  bool any_passed;       /* orphans have been passed by, and are to be taken back */
   uintptr_t places[];    /* of the seats, from seat 1 on: see place.h */
 } __attribute__((aligned(LINE)));
 

@@ -185,11 +185,12 @@ SLOW_PATH lfm_seat *take_own(lfm_mutex *mutex, lfm_status *cause) {
   lfm_seat *seat = (lfm_seat *)new_lines(offsetof(lfm_seat, unused));
   if (!seat) return NULL;
   seat->is_of_library = true;
-  *cause = take_seat(core, seat, own.is_ending ? IS_LATE : 0, false);
-  if (*cause != LFM_DONE) {
+  lfm_seat *adopted = NULL;
+  *cause = take_seat(core, seat, own.is_ending ? IS_LATE : 0, false, &adopted);
+  if (*cause != LFM_DONE || adopted) {
     free(seat);
-    return NULL;
+    seat = adopted;
   }
-  add_to_table(core, seat);
+  if (seat) add_to_table(core, seat);
   return seat;
 }

@@ -1,5 +1,6 @@
 /* Seats: taken, given back, and exchanged if they have no take left; and how a call of a seat begins and ends. No mutex is
- * acquired or released here. Seats that find themselves are in own.h. */
+ * acquired or released here. Seats that find themselves are in own.h, and the calls by which those in hand are taken and
+ * given back in hand.h. */
 
 static uint32_t watch_flag(void) { return __tsan_acquire || IS_IN_VALGRIND ? IS_WATCHED : 0; }
 
@@ -43,36 +44,49 @@ static lfm_status take_handle(struct lfm_core *core, void *handle) {
   return status;
 }
 
+/* Takes a seat for this handle, or adopts an orphan if none is free and `adopted` is not null. The latch is held. If there
+ * is no orphan any more, those that were there have been passed by, and one of them may be free. */
+static lfm_status take_or_adopt(struct lfm_core *core, void *handle, lfm_seat **adopted) {
+  lfm_status status = take_handle(core, handle);
+  if (LIKELY(status != LFM_NO_SEAT) || !adopted) return status;
+  if ((*adopted = adopt(core))) return LFM_DONE;
+  take_back_passed(core);
+  return take_handle(core, handle);
+}
+
 /* Takes a seat of the core, which has another reference then. The seat waits for grants at a bell of its own. `in_hand`
- * tells that it is one of lfm_seat_take. */
-static lfm_status take_seat(struct lfm_core *core, lfm_seat *seat, uint32_t flags, bool in_hand) {
+ * tells that it is one of lfm_seat_take. If it finds an `adopted` seat in place of this one, that has the flags. */
+static lfm_status take_seat(struct lfm_core *core, lfm_seat *seat, uint32_t flags, bool in_hand, lfm_seat **adopted) {
   hide(seat, offsetof(lfm_seat, unused));
   lfm_c_blank_seat(seat->handle);
   acquire_seats_latch(core);
-  lfm_status status = take_handle(core, seat->handle);
+  lfm_status status = take_or_adopt(core, seat->handle, adopted);
   if (status == LFM_DONE) core->in_hand += in_hand;
   release_latch(&core->latch);
   if (status != LFM_DONE) return status;
   seat->core = core;
   seat->unrung = NULL;
   seat->flags = (uint16_t)(flags | watch_flag());
-  seat->number = (uint16_t)lfm_c_number(seat->handle);
   seat->is_in_call = 0;
-  seat->takes_at_first = lfm_c_left(seat->handle);
   silence(&seat->bell);
   seat->spin_credit = 0;
   seat->waits = 0;
+  if (adopted && *adopted) {
+    (*adopted)->flags = seat->flags | HAS_ABANDONED;
+    return LFM_DONE;
+  }
+  seat->number = (uint16_t)lfm_c_number(seat->handle);
+  seat->takes_at_first = lfm_c_left(seat->handle);
   set_place(seat, WAITS);
   add_reference(core);
   return LFM_DONE;
 }
 
-/* Gives the seat back. A forked child only forgets it: it might wait for a thread of the parent that the child doesn't have.
- * The place is emptied, so that lfm_after_fork doesn't free a seat of the library once more. */
+/* Gives the seat back. A forked child only forgets it: it might wait for a thread of the parent that the child doesn't
+ * have. */
 static lfm_status give_seat(lfm_seat *seat, bool in_hand) {
   struct lfm_core *core = seat->core;
   if (!is_of_process(core)) {
-    core->places[seat->number - 1] = 0;
     seat->core = NULL;
     return LFM_DONE;
   }
@@ -91,19 +105,6 @@ static lfm_status give_seat(lfm_seat *seat, bool in_hand) {
   return status;
 }
 
-static lfm_status take_in_hand(lfm_mutex *mutex, lfm_seat *seat, uint32_t flags) {
-  lfm_status cause;
-  if (!seat) return LFM_BLANK;
-  struct lfm_core *core = open_core_of(mutex, &cause);
-  if (!core) return cause;
-  if (seat->core) return LFM_TAKEN;
-  seat->is_of_library = false;
-  return take_seat(core, seat, flags, true);
-}
-
-lfm_status lfm_seat_take(lfm_mutex *mutex, lfm_seat *seat) { return take_in_hand(mutex, seat, 0); }
-lfm_status lfm_seat_take_checked(lfm_mutex *mutex, lfm_seat *seat) { return take_in_hand(mutex, seat, IS_CHECKED); }
-
 uint64_t lfm_number(lfm_seat *seat) { return is_taken(seat) ? seat->number : 0; }
 uint64_t lfm_depth(lfm_seat *seat) { return is_taken(seat) && reclaim(seat) ? lfm_c_depth(seat->handle) : 0; }
 
@@ -113,7 +114,7 @@ uint64_t lfm_left(lfm_seat *seat) {
 }
 
 uint64_t lfm_takes_left(lfm_mutex *mutex) {
-  struct lfm_core *core = mutex ? __atomic_load_n(&mutex->core, __ATOMIC_ACQUIRE) : NULL;
+  struct lfm_core *core = mutex ? __atomic_load_n(&mutex->core, __ATOMIC_SEQ_CST) : NULL;
   if (!core) return mutex && mutex->version && mutex->seats <= LFM_MOST_SEATS ? mutex->seats * LFM_MOST_TAKES : 0;
   acquire_seats_latch(core);
   uint64_t left = core->takes_left;

@@ -16,7 +16,7 @@ const char *lfm_status_text(lfm_status status) {
     case LFM_TAKEN: return "the mutex is open, or the seat taken, already";
     case LFM_LIMIT: return "a number is outside its limits";
     case LFM_NO_MEMORY: return "memory was refused";
-    case LFM_NO_SEAT: return "all seats of the mutex are taken, and a thread keeps its seat until it ends";
+    case LFM_NO_SEAT: return "all seats of the mutex are taken, and a thread keeps its own until it ends or gives it back";
     case LFM_NOT_BACK: return "some seats are not given back";
     case LFM_HOLDING: return "the mutex is held";
     case LFM_FOREIGN: return "the seat is of another mutex or thread";

@@ -40,8 +40,8 @@ struct scenario {
   bool is_long;      /* it has too many states to be explored to its end in a minute */
 };
 /* The scenarios of one file of scenarios/, which end with one that has no name. */
-extern const struct scenario lock_scenarios[], timed_scenarios[], seat_scenarios[], close_scenarios[], spent_scenarios[],
-    wait_scenarios[], condvar_close_scenarios[];
+extern const struct scenario lock_scenarios[], timed_scenarios[], seat_scenarios[], orphan_scenarios[], close_scenarios[],
+    spent_scenarios[], wait_scenarios[], condvar_close_scenarios[];
 
 /* For scenarios: a point at which others may run; a choice of 0 to count - 1; the number of the fiber; and a test. */
 void explorer_point(void);

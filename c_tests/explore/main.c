@@ -24,8 +24,8 @@ volatile int is_time_over;
 
 static void on_alarm(int signal) { (void)signal; is_time_over = 1; }
 
-static const struct scenario *const files[] = {lock_scenarios,  timed_scenarios, seat_scenarios,         close_scenarios,
-                                               spent_scenarios, wait_scenarios,  condvar_close_scenarios};
+static const struct scenario *const files[] = {lock_scenarios,  timed_scenarios, seat_scenarios, orphan_scenarios,
+                                               close_scenarios, spent_scenarios, wait_scenarios, condvar_close_scenarios};
 enum { FILES = sizeof files / sizeof files[0] };
 
 /* Lists the scenarios, or finds the one of this name. */

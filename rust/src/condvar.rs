@@ -78,6 +78,15 @@ impl Condvar {
         Ok(WaitTimeoutResult(status == TIMED_OUT))
     }
 
+    /// Waits as `wait_timeout`, at most until this moment.
+    pub fn wait_until<T: ?Sized, By: Lock>(
+        &self,
+        guard: &mut Guard<'_, T, By>,
+        end: Instant,
+    ) -> Result<WaitTimeoutResult, Refusal> {
+        self.wait_timeout(guard, end.saturating_duration_since(Instant::now()))
+    }
+
     /// Waits as `wait_while`, at most until the time is over. It has timed out if the function is still true then.
     pub fn wait_timeout_while<T: ?Sized, By: Lock>(
         &self,

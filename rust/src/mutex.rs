@@ -4,6 +4,7 @@ use std::{
     cell::UnsafeCell,
     fmt,
     ops::{Deref, DerefMut},
+    panic::{RefUnwindSafe, UnwindSafe},
     time::{Duration, Instant},
 };
 
@@ -47,6 +48,11 @@ impl Drop for Closing {
 
 // SAFETY: the value is reached through the seat that holds the mutex, of which there is one, or through `&mut` of the mutex.
 unsafe impl<T: ?Sized + Send> Sync for Mutex<T> {}
+
+/// A function that `catch_unwind` runs may lock the mutex, as one of `std::sync`. There is no poisoning: if it panics in a
+/// hold, the next holder finds the value as the panic left it.
+impl<T: ?Sized> UnwindSafe for Mutex<T> {}
+impl<T: ?Sized> RefUnwindSafe for Mutex<T> {}
 
 /// A guard of a [`Mutex`]. It stays with its thread:
 ///
@@ -161,6 +167,33 @@ impl<T: ?Sized> Mutex<T> {
     pub unsafe fn after_fork(&self) -> Result<(), Refusal> {
         // SAFETY: the caller promises it.
         made(unsafe { lfm_after_fork(&self.raw.0, None) }).map(drop)
+    }
+
+    /// Returns if the calling thread holds the mutex by a seat that it found by itself. It never sleeps.
+    ///
+    /// # Panics
+    ///
+    /// If the thread does not hold, or holds only by a [`Seat`](crate::Seat).
+    #[track_caller]
+    pub fn assert_held(&self) {
+        assert!(
+            self.raw.0.depth() > 0,
+            "the calling thread does not hold the mutex"
+        );
+    }
+
+    /// A guard of a hold of the calling thread whose guard was forgotten. It makes no call of the library.
+    ///
+    /// # Safety
+    ///
+    /// There is such a hold, which no other guard releases, and no reference to the value that another guard gave is used
+    /// while this one lives.
+    #[inline]
+    pub unsafe fn make_guard_unchecked(&self) -> MutexGuard<'_, T> {
+        Guard {
+            by: &self.raw.0,
+            mutex: self,
+        }
     }
 
     /// Releases a hold of the calling thread whose guard was forgotten.

@@ -100,7 +100,7 @@ fn a_thread_has_one_guard_of_a_mutex() {
     assert_eq!(*mutex.lock().unwrap(), 8);
 }
 
-/// The seat's place in the queue is passed by, and then the seat can be taken anew.
+/// The seat can be taken anew: with its place in the queue, and as any other after that was passed by.
 #[test]
 fn a_queued_seat_is_dropped() {
     let mut seats = mutex(2, 9, ()).unwrap();
@@ -112,7 +112,9 @@ fn a_queued_seat_is_dropped() {
         assert_eq!(second.try_lock_for(A_WHILE).err(), Some(Refusal::Busy));
     }
     drop(second);
-    assert_eq!(mutex.seat().err(), Some(Refusal::NoSeat));
+    let mut second = mutex.seat().unwrap();
+    assert_eq!((second.left(), second.try_lock().err()), (8, Some(Refusal::Busy)));
+    drop(second);
     drop(guard);
     let mut second = mutex.seat().unwrap();
     assert_eq!(second.lock().unwrap().depth(), 1);

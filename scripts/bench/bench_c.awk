@@ -1,25 +1,34 @@
-# Makes the tables of scripts/bench/bench_c from the lines of its programs, ROW|LOCK|MEDIAN|LEAST|GREATEST: a column for each
-# lock, with the medians, and after each lock of ours its ratio to the other lock of its language. If `form` is `page`, it
-# makes the table of a page, which has only the ratios, with the greatest first; if it is `rows`, the lines of a chart.
+# Makes the tables of scripts/bench/bench_c from the lines of its programs, ROW|LOCK|MEDIAN|LEAST|GREATEST. `form` is
+#   table    for all rows a column for each lock, with the medians, and after most of them the ratio to its base
+#   page     the ratios of some rows, as a table of docs/BENCHMARKS.md, the greatest of ours first
+#   rows     the ratios of all rows, as charts of docs/benchmarks.rows
+#   costs    what a mutex costs by its seats, as a table of docs/BENCHMARKS.md
+#   readme   some ratios of ours, as a table of README.md
 
-# Adds the column of a lock; `other` is the lock that it is compared with, if it is ours.
-function column(lock, heading, other) {
+# Adds the column of a lock; `base` is the lock that it is compared with, if it is.
+function column(lock, heading, base, is_one_of_ours) {
   locks[++count] = lock
   headings[lock] = heading
-  beside[lock] = other
+  bases[lock] = base
+  if (is_one_of_ours) ours[lock]
 }
 
 BEGIN {
-  column("C in hand", "C, in hand", "pthread recursive")
-  column("C here", "C, here", "pthread recursive")
+  column("C in hand", "C, in hand", "pthread recursive", 1)
+  column("C here", "C, here", "pthread recursive", 1)
+  column("nsync", "nsync", "pthread recursive")
   column("pthread recursive", "pthread")
-  column("C++", "C++", "std::recursive_mutex")
+  column("C++", "C++", "std::recursive_mutex", 1)
+  column("absl", "absl", "std::recursive_mutex")
   column("std::recursive_mutex", "std")
-  column("Rust in hand", "Rust, in hand", "std::sync::Mutex")
-  column("Rust", "Rust", "std::sync::Mutex")
+  column("Rust in hand", "Rust, in hand", "std::sync::Mutex", 1)
+  column("Rust", "Rust", "std::sync::Mutex", 1)
+  column("parking_lot", "parking_lot", "std::sync::Mutex")
+  column("parking_lot, fair", "fair", "std::sync::Mutex")
   column("std::sync::Mutex", "std")
-  column("parking_lot", "parking")
-  column("parking_lot, fair", "fair")
+  split("one among 4096|alone: lock, unlock|alone, in order|8 threads, short|8 threads, short, in order|8 threads, long|" \
+    "8 threads, thinking|8 threads, thinking, in order|ping-pong, a round trip|broadcast to 32|queue, 4 to 4", of_page, "|")
+  for (at in of_page) is_of_page[of_page[at]]
 }
 
 # The name of a row of costs is `SEATS seats: WHAT`.
@@ -41,72 +50,64 @@ function figure(value) {
   return value == "" ? "" : sprintf(value < 100 ? "%.1f" : "%.0f", value)
 }
 
-function ratio(value, other) {
-  if (value == "" || !(other > 0)) return ""
-  value /= other
+# The ratio of the lock's median in this row to that of its base, or nothing.
+function ratio(row, lock,    value) {
+  value = median[row, lock]
+  if (value == "" || !(median[row, bases[lock]] > 0)) return ""
+  value /= median[row, bases[lock]]
   return sprintf(value < 10 ? "%.2f" : value < 100 ? "%.1f" : "%.0f", value)
 }
 
-# Prints the table, with ratios, of the rows whose names end in `end`, or of the other rows if it is empty.
-function table(what, end,    at, row, name, line, lock) {
-  line = sprintf("%-25s", what)
+function is_of_shares(row) {
+  return row ~ /, most over fewest$/
+}
+
+# Prints the table, with ratios, of the rows of shares, or of the other rows.
+function table(what, shares,    at, row, name, line, lock) {
+  line = sprintf("%-30s", what)
   for (at = 1; at <= count; at++)
-    if (locks[at] in found) line = line sprintf("  %*s", beside[locks[at]] ? 13 : 7, headings[locks[at]])
+    if (locks[at] in found) line = line sprintf("  %*s", bases[locks[at]] ? 13 : 7, headings[locks[at]])
   print line
   for (row = 1; row <= many; row++) {
+    if (is_of_shares(rows[row]) != shares) continue
     name = rows[row]
-    if (sub(/, most over fewest$/, "", name) != (end != "")) continue
-    line = sprintf("%-25s", name)
+    sub(/, most over fewest$/, "", name)
+    line = sprintf("%-30s", name)
     for (at = 1; at <= count; at++) {
       lock = locks[at]
       if (!(lock in found)) continue
       line = line sprintf("  %7s", figure(median[rows[row], lock]))
-      if (beside[lock]) line = line sprintf(" %5s", end ? "" : ratio(median[rows[row], lock], median[rows[row], beside[lock]]))
+      if (bases[lock]) line = line sprintf(" %5s", shares ? "" : ratio(rows[row], lock))
     }
     sub(/ +$/, "", line)
     print line
   }
 }
 
-# Puts the rows into `order`, those with the greatest ratio first, and returns how many there are.
-function sort_rows(order,    row, j, at, value, worst, lines) {
+# Puts the names of the rows that are not of shares into `order`, those with the greatest ratio of ours first, and returns
+# how many there are.
+function sort_rows(order,    row, j, lock, value, worst, lines) {
   for (row = 1; row <= many; row++) {
-    if (rows[row] ~ /, most over fewest$/) continue
-    for (at = 1; at <= count; at++) {
-      value = ratio(median[rows[row], locks[at]], median[rows[row], beside[locks[at]]]) + 0
-      if (value > worst[row]) worst[row] = value
-    }
-    for (j = ++lines; j > 1 && worst[order[j - 1]] < worst[row]; j--) order[j] = order[j - 1]
-    order[j] = row
+    if (is_of_shares(rows[row])) continue
+    value = 0
+    for (lock in ours) if (ratio(rows[row], lock) + 0 > value) value = ratio(rows[row], lock) + 0
+    worst[rows[row]] = value
+    for (j = ++lines; j > 1 && worst[order[j - 1]] < value; j--) order[j] = order[j - 1]
+    order[j] = rows[row]
   }
   return lines
 }
 
 # The table of a page.
-function page(    at, i, row, line, lines, order) {
+function page(    at, i, line, lines, order) {
   lines = sort_rows(order)
   for (i = 0; i <= lines; i++) {
-    row = rows[order[i]]
-    line = i ? "| " row : "|"
+    if (i && !(order[i] in is_of_page)) continue
+    line = i ? "| " order[i] : "|"
     for (at = 1; at <= count; at++)
-      if (locks[at] in found && beside[locks[at]])
-        line = line " | " (i ? ratio(median[row, locks[at]], median[row, beside[locks[at]]]) : headings[locks[at]])
+      if (locks[at] in found && bases[locks[at]]) line = line " | " (i ? ratio(order[i], locks[at]) : headings[locks[at]])
     print line " |"
     if (i == 0) print rule(line)
-  }
-}
-
-# The lines of a chart.
-function chart(    at, i, row, line, lines, order, ours) {
-  split("C here,C++,Rust", ours, ",")
-  print "chart languages|Time from C, C++ and Rust, divided by that of pthread's or std's mutex||4"
-  print "series *C|C++|Rust"
-  lines = sort_rows(order)
-  for (i = 1; i <= lines; i++) {
-    row = rows[order[i]]
-    line = "row " row
-    for (at = 1; at <= 3; at++) line = line "|" ratio(median[row, ours[at]], median[row, beside[ours[at]]])
-    print line "|"
   }
 }
 
@@ -116,17 +117,77 @@ function rule(line) {
   return line "|"
 }
 
-END {
-  if (form == "page" || form == "rows") {
-    if (form == "page") page()
-    else chart()
-    exit
+# A chart of these locks, with the rows that are in order, or with the others. A bar longer than `longest` is cut off.
+function chart(name, title, longest, locks_of_it, in_order,    at, i, line, lines, order, series, names, has_figures) {
+  series = split(locks_of_it, names, "|")
+  print "chart " name "|" title ", divided by that of pthread's or std's mutex||" longest
+  line = "series *"
+  for (at = 1; at <= series; at++) line = line (at > 1 ? "|" : "") (names[at] == "C here" ? "C" : names[at])
+  print line
+  lines = sort_rows(order)
+  for (i = 1; i <= lines; i++) {
+    if ((order[i] ~ /, in order$/) != in_order) continue
+    line = "row " order[i]
+    has_figures = 0
+    for (at = 1; at <= series; at++) {
+      line = line "|" ratio(order[i], names[at])
+      if (ratio(order[i], names[at]) != "") has_figures = 1
+    }
+    if (has_figures) print line "|"
   }
-  table("nanoseconds; ratio", "")
-  print ""
-  table("most over fewest", "most over fewest")
-  printf "\n%-25s  %13s  %13s  %13s  %13s\n", "seats of a mutex in C", "open, ns", "close, ns", "bytes", "bytes, taken"
-  for (row = 1; row <= kinds; row++)
-    printf "%-25s  %13.0f  %13.0f  %13.0f  %13.0f\n", seats[row], cost[seats[row], "open"], cost[seats[row], "close"],
-      cost[seats[row], "bytes"], cost[seats[row], "bytes with all taken"]
+}
+
+function with_commas(number,    text) {
+  text = sprintf("%d", number)
+  while (match(text, /[0-9][0-9][0-9][0-9]($|,)/)) text = substr(text, 1, RSTART) "," substr(text, RSTART + 1)
+  return text
+}
+
+function microseconds(nanoseconds) {
+  return sprintf(nanoseconds < 10000 ? "%.1f" : "%.0f", nanoseconds / 1000)
+}
+
+# The table of a page of what a mutex costs. A mutex of one seat is left out.
+function costs(    at) {
+  print "| Seats of a mutex in C | open, us | close, us | bytes | bytes with all seats taken |"
+  print "|---|---|---|---|---|"
+  for (at = 2; at <= kinds; at++)
+    print "| " with_commas(seats[at]) " | " microseconds(cost[seats[at], "open"]) " | " \
+      microseconds(cost[seats[at], "close"]) " | " with_commas(cost[seats[at], "bytes"]) " | " \
+      with_commas(cost[seats[at], "bytes with all taken"]) " |"
+}
+
+# A row of README.md's table, with the ratios of these rows for each language, and this mark between them.
+function readme(text, of_rows, mark,    at, i, line, ratios, parts, languages) {
+  split("C here|C++|Rust", languages, "|")
+  ratios = split(of_rows, parts, "|")
+  line = "| " text
+  for (at = 1; at <= 3; at++) {
+    line = line " | "
+    for (i = 1; i <= ratios; i++) line = line (i > 1 ? mark " " : "") ratio(parts[i], languages[at])
+  }
+  print line " |"
+}
+
+END {
+  if (form == "page") page()
+  else if (form == "costs") costs()
+  else if (form == "rows") {
+    chart("languages", "Time from C, C++ and Rust", 4, "C here|C++|Rust", 0)
+    chart("languages_in_order", "Time from C, C++ and Rust, in order", "", "C here|C++|Rust", 1)
+    chart("other_locks", "Time of other locks", 4, "nsync|absl|parking_lot", 0)
+  } else if (form == "readme") {
+    readme("lock and unlock by one thread: of 4,096 mutexes in random order; of one",
+      "one among 4096|alone: lock, unlock", ";")
+    readme("short sections; 8, 4, 2 threads", "8 threads, short|4 threads, short|2 threads, short", ",")
+    readme("ping-pong on a condition variable; a broadcast to 32", "ping-pong, a round trip|broadcast to 32", ";")
+  } else {
+    table("nanoseconds; ratio", 0)
+    print ""
+    table("most over fewest", 1)
+    printf "\n%-30s  %13s  %13s  %13s  %13s\n", "seats of a mutex in C", "open, ns", "close, ns", "bytes", "bytes, taken"
+    for (row = 1; row <= kinds; row++)
+      printf "%-30s  %13.0f  %13.0f  %13.0f  %13.0f\n", seats[row], cost[seats[row], "open"], cost[seats[row], "close"],
+        cost[seats[row], "bytes"], cost[seats[row], "bytes with all taken"]
+  }
 }

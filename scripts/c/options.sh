@@ -7,12 +7,12 @@ addresses_checked=(-g '-fsanitize=address,undefined' -fno-sanitize-recover=all)
 races_checked=(-g -fsanitize=thread)
 warnings=(-Wall -Wextra -Werror)
 
-# options_of FILE   the options that this file of c_tests/ is compiled with
+# options_of FILE   the options that this file of c_tests/ is compiled with. `dialect` may be another one of C++ than 17
 options_of() {
   local wraps
   case $1 in
     *.c) printf '%s ' -std=c11 -O2 "${warnings[@]}" ;;
-    *) printf '%s ' -std=c++17 -O2 "${warnings[@]}" ;;
+    *) printf '%s ' "-std=c++${dialect:-17}" -O2 "${warnings[@]}" ;;
   esac
   case $1 in
     no_memory.c)
@@ -22,7 +22,11 @@ options_of() {
       ;;
     last_ends.cpp | many_mutexes.cpp) printf '%s' -Wl,--wrap=lfm_c_open,--wrap=lfm_c_close ;;
     forked_child.cpp) printf '%s' -Wl,--wrap=lfm_c_take_seat ;;
-    endings.cpp) printf '%s' -Wl,--wrap=syscall ;;
+    forked_calls.cpp)
+      printf '%s' -Wl
+      printf ',--wrap=lfm_c_%s' blank_seat close take_seat give_seat number depth left count ask receive try_lock unlock
+      ;;
+    endings.cpp | wakes_put_off.cpp) printf '%s' -Wl,--wrap=syscall ;;
     statics.cpp) printf '%s' -std=c++20 ;; # which has constinit
     without_exceptions.cpp) printf '%s' '-fno-exceptions -fno-rtti' ;;
   esac

@@ -16,6 +16,42 @@ static void make_all_ready(void) {
   section();
   released(lfm_unlock(mine()));
 }
+/* By two wakes, whose rings are both put off. */
+static void make_two_ready_inside(void) {
+  acquired(lfm_lock_in_order(mine()));
+  shared->ready += 2;
+  lfm_wake_one_by(shared->condvar, mine());
+  lfm_wake_one_by(shared->condvar, mine());
+  section();
+  released(lfm_unlock(mine()));
+}
+/* Up to three threads wait at once, and the fourth wakes all. */
+static void await_with_others(void) {
+  acquired(lfm_lock_in_order(mine()));
+  while (!shared->ready) acquired(lfm_wait(shared->condvar, mine()));
+  released(lfm_unlock(mine()));
+}
+static void wake_three(void) {
+  acquired(lfm_lock_in_order(mine()));
+  shared->ready = 1;
+  lfm_wake_all_by(shared->condvar, mine());
+  released(lfm_unlock(mine()));
+}
+/* One that was rung for wakes again while it holds. */
+static void await_and_pass_on(void) {
+  acquired(lfm_lock_in_order(mine()));
+  while (!shared->ready) acquired(lfm_wait(shared->condvar, mine()));
+  lfm_wake_all_by(shared->condvar, mine());
+  section();
+  released(lfm_unlock(mine()));
+}
+static void wake_one_of_them(void) {
+  acquired(lfm_lock_in_order(mine()));
+  shared->ready = 1;
+  lfm_wake_one_by(shared->condvar, mine());
+  section();
+  released(lfm_unlock(mine()));
+}
 static void make_all_ready_outside(void) {
   acquired(lfm_lock(mine()));
   shared->ready += 2;
@@ -96,6 +132,12 @@ const struct scenario wait_scenarios[] = {
     {"wait3", "two wait, one wakes twice", 3, false, open3, {await_ready, await_ready, make_ready_twice}, end},
     {"wait3_wakers", "one waits for two, which wake", 3, false, open3, {await_ready, make_ready, make_ready_inside}, end},
     {"wake_all3", "two wait, one wakes all", 3, false, open3, {await_ready, await_ready, make_all_ready}, end},
+    {"wakes3_inside", "two wait, one wakes twice while it holds",
+     3, false, open3, {await_ready, await_ready, make_two_ready_inside}, end},
+    {"wake_on3", "two wait, one wakes the first, which wakes the other",
+     3, false, open3, {await_and_pass_on, await_and_pass_on, wake_one_of_them}, end},
+    {"wake_all4", "three wait, one wakes all",
+     4, false, open4, {await_with_others, await_with_others, await_with_others, wake_three}, end, true},
     {"wake_all3_outside", "the same after the unlock",
      3, false, open3, {await_ready, await_ready, make_all_ready_outside}, end},
     {"wait_for2", "a wait with a limit beside a wake", 2, true, open2, {wait_counted, wake_counted}, end_counted},

@@ -12,14 +12,15 @@ pub use lfm_condvar_laws::lists::{
 };
 pub use lfm_condvar_laws::user_mutex::{cores_are_reached, own_calls_are_free};
 pub use lfm_condvar_laws::waits::{
-    waits_are_new, waits_are_sent, waits_can_end, waits_end_holding, waits_sleep_until_sent,
+    sent_waiters_hold_in_rounds, waits_are_new, waits_are_sent, waits_can_end, waits_end_holding,
+    waits_sleep_until_sent,
 };
 pub use lfm_condvar_laws::{claims, lists, user_mutex, waits};
 use lfm_mutex::Kept;
 
-/// The list of a running condvar changes as that of the model does. `enlist` puts an unlisted seat at its end, with the model's
-/// ticket, and refuses only a listed one as Busy. A send of one sends and removes the oldest. A send of all does so until the
-/// list is empty or a send is refused.
+/// The list of a running condvar changes as the model's does. `enlist` appends an unlisted seat with the model's ticket, and
+/// refuses only a listed one as Busy. A send of one sends and removes the oldest. A send of all does so until the list is empty
+/// or a send is refused.
 ///
 /// Definition: `ListsGoAsTheModel` in `specs/Modelled.antt`. Proof: `proofs/Modelled.antt`.
 pub fn lists_go_as_the_model<T: Kept>()
@@ -27,8 +28,8 @@ pub fn lists_go_as_the_model<T: Kept>()
 {}
 
 /// First come, first served, whichever cond seats change the list of a running condvar: waiters leave it in the order of their
-/// tickets. Until it is sent, a waiter keeps its seat and its ticket, and ahead of it are only those that were ahead of it
-/// before. The seat that a wake sends for a ticket is the one whose wait got it.
+/// tickets. Until it is sent, a waiter keeps its seat and ticket, and only those ahead of it before are ahead of it. A wake
+/// sends for a ticket the seat whose wait got it.
 ///
 /// Definition: `WaitersAreSentInOrder` in `specs/Order.antt`. Proof: `proofs/Order.antt`.
 pub fn waiters_are_sent_in_order()

@@ -11,3 +11,4 @@ pub mod LockMoves
 pub mod Pushed
 pub mod Runs
 pub mod reached
+pub mod rounds

@@ -6,3 +6,4 @@ pub mod Stages
 pub mod Claims
 pub mod Pushes
 pub mod Laws
+pub mod Rounds

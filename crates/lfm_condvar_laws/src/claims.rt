@@ -1,8 +1,7 @@
 //! The laws of claims: how the wakes of a condvar claim the waiters, and in which order they push their records.
 ghost use Rattle.lfm_condvar_laws.specs.Laws.{ClaimsNeverFail, TicketsAreClaimedOnce, ClaimsAreInOrder, PushesAreInOrder};
 
-/// The claim of a sender never fails: a seat that is about to make the exchange of a `send_lock` finds its target waiting. So
-/// no wake is refused as NotWaiting.
+/// A seat that is about to make the exchange of a `send_lock` finds its target waiting. So no wake is refused as NotWaiting.
 ///
 /// Definition: `ClaimsNeverFail` in `specs/Laws.antt`. Proof: `proofs/reached/ClaimsFound.antt`.
 pub fn claims_never_fail()
@@ -17,16 +16,15 @@ pub fn tickets_are_claimed_once()
 {}
 
 /// First come, first served: wakes claim the tickets of a condvar in the order in which they were given, from 1 and without
-/// gaps. While the lock is free, the number of claimed tickets is the count of sent ones.
+/// gaps. While the lock is free, as many tickets are claimed as are sent.
 ///
 /// Definition: `ClaimsAreInOrder` in `specs/Laws.antt`. Proof: `proofs/reached/WaitsSent.antt`.
 pub fn claims_are_in_order()
     ensures { ClaimsAreInOrder }
 {}
 
-/// The user mutex keeps the order: the records that the wakes of a condvar push into its push list, for their targets, increase
-/// by ticket, and each is for a seat that was claimed with this ticket. The law does not state that each claimed seat is
-/// pushed.
+/// The user mutex keeps the order: the records that the wakes of a condvar push for their targets increase by ticket, and each
+/// is for a seat that was claimed with this ticket. The law does not state that each claimed seat is pushed.
 ///
 /// Definition: `PushesAreInOrder` in `specs/Laws.antt`. Proof: `proofs/reached/PushOrder.antt`.
 pub fn pushes_are_in_order()

@@ -25,5 +25,6 @@ pub use lists::{
 };
 pub use user_mutex::{cores_are_reached, own_calls_are_free};
 pub use waits::{
-    waits_are_new, waits_are_sent, waits_can_end, waits_end_holding, waits_sleep_until_sent,
+    sent_waiters_hold_in_rounds, waits_are_new, waits_are_sent, waits_can_end, waits_end_holding,
+    waits_sleep_until_sent,
 };

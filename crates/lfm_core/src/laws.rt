@@ -29,13 +29,15 @@ pub use lfm_laws::handoffs::{
     posts_with_records_are_tried, quiescent_states_rest, sleepers_are_reachable,
     takes_find_a_record, won_posts_have_a_record,
 };
+pub use lfm_laws::holding::queued_seats_hold_in_rounds;
 pub use lfm_laws::mutual_exclusion::{
     count_is_zero_if_free, one_has_the_responsibility, one_seat_owns, places_are_read,
 };
 pub use lfm_laws::queue_order::{
-    answers_are_the_records, no_seat_overtakes_twice, queue_is_in_push_order,
-    queued_seats_are_overtaken_once, queued_seats_are_served_in_fair_rounds,
-    queued_seats_are_served_in_rounds, queued_seats_are_served_soon,
+    answers_are_the_records, counted_seats_are_pushed_in_rounds, no_seat_overtakes_twice,
+    queue_is_in_push_order, queued_seats_are_overtaken_once,
+    queued_seats_are_served_in_fair_rounds, queued_seats_are_served_in_rounds,
+    queued_seats_are_served_soon, queued_seats_are_served_whatever_owners_begin,
     queued_seats_wait_for_few_releases, rounds_can_be_made, somebody_can_serve,
     stamps_are_consecutive, steps_serve,
 };
@@ -48,7 +50,7 @@ pub use lfm_laws::refusals::{
     turns_are_refused_for_cause,
 };
 pub use lfm_laws::{
-    bounds, calls, effects, handoffs, mutual_exclusion, queue_order, ranges, refusals,
+    bounds, calls, effects, handoffs, holding, mutual_exclusion, queue_order, ranges, refusals,
 };
 pub use schedules::lines_are_events;
 pub use steadiness::{

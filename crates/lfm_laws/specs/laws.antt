@@ -6,6 +6,9 @@ pub mod Overtaking
 pub mod Service
 pub mod Rounds
 pub mod FairRounds
+pub mod FullRounds
+pub mod BeforePush
+pub mod HoldingInRounds
 pub mod Reading
 pub mod Watched
 pub mod TriedPosts

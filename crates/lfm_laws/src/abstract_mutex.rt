@@ -22,8 +22,8 @@ pub fn runs_are_abstract_runs()
     ensures { RunsAreAbstractRuns }
 {}
 
-/// Each step changes the reading by the case that is named for it, or not at all if none is named. The start of a call does not
-/// change the reading.
+/// Each step changes the reading by the case that is named for it, or not at all if none is named. The start of a call does
+/// not change it.
 ///
 /// Definitions: `EventsAreTheirCases` in `specs/laws/Laws.antt`, and `EventsAreTheirCasesInSchedules` in
 /// `specs/laws/InSchedules.antt`. Proofs: `proofs/lawful/runs/AbstractBridge.antt` and

@@ -1,5 +1,5 @@
 //! Progress: a release, a try and a receive are wait-free, every call is obstruction-free, and all calls together are
-//! lock-free.
+//! lock-free. N is the number of seats.
 ghost use Rattle.lfm_laws.specs.laws.ConstantBounds.{ReceivesAreBounded, TriesAreBounded};
 ghost use Rattle.lfm_laws.specs.laws.InSchedules.{
   UnlocksAreBoundedInSchedules,
@@ -17,7 +17,7 @@ ghost use Rattle.lfm_laws.specs.laws.InSchedules.{
 ghost use Rattle.lfm_laws.specs.laws.Laws.{UnlocksAreBounded, StartWaitsAreBounded, CallsEndAlone, PushesAloneFailOnce, TriesAloneHold};
 ghost use Rattle.lfm_laws.specs.laws.Progress.{CallsEndBesideOthers, CallsChangeThePushWordTwice, CallsShareTheirSteps, SomeCallEnds, NoStateIsStuck};
 
-/// An `unlock` makes at most N + 7 steps, whatever the other seats do in between; N is the number of seats.
+/// An `unlock` makes at most N + 7 steps, whatever the other seats do in between.
 ///
 /// Definitions: `UnlocksAreBounded` in `specs/laws/Laws.antt`, and `UnlocksAreBoundedInSchedules` in
 /// `specs/laws/InSchedules.antt`. Proofs: `proofs/lawful/bounds/ReleaseBounds.antt` and
@@ -27,7 +27,7 @@ pub fn unlocks_are_bounded()
     ensures schedules { UnlocksAreBoundedInSchedules }
 {}
 
-/// A `start_wait` makes at most N + 8 steps, whatever the other seats do in between; N is the number of seats.
+/// A `start_wait` makes at most N + 8 steps, whatever the other seats do in between.
 ///
 /// Definitions: `StartWaitsAreBounded` in `specs/laws/Laws.antt`, and `StartWaitsAreBoundedInSchedules` in
 /// `specs/laws/InSchedules.antt`. Proofs: `proofs/lawful/bounds/ReleaseBounds.antt` and
@@ -37,8 +37,7 @@ pub fn start_waits_are_bounded()
     ensures schedules { StartWaitsAreBoundedInSchedules }
 {}
 
-/// Wait-free tries and receives: a `try_lock` ends within 6 of its own atomic steps and a `receive` within 3, however the other
-/// seats interleave and however many there are.
+/// A `try_lock` ends within 6 of its own atomic steps and a `receive` within 3, however many other seats interleave.
 ///
 /// Definitions: `TriesAreBounded` and `ReceivesAreBounded` in `specs/laws/ConstantBounds.antt`, and
 /// `TriesAndReceivesAreBoundedInSchedules` in `specs/laws/InSchedules.antt`. Proofs:
@@ -49,8 +48,8 @@ pub fn tries_and_receives_are_bounded()
     ensures schedules { TriesAndReceivesAreBoundedInSchedules }
 {}
 
-/// If only its seat makes steps, an open call ends within N + 16 of them, N being the number of seats. So `*` makes no more
-/// than that. `calls_end_beside_others` gives the smaller bound N + 9.
+/// If only its seat makes steps, an open call ends within N + 16 of them, so `*` makes no more. `calls_end_beside_others`
+/// gives N + 9.
 ///
 /// Definitions: `CallsEndAlone` in `specs/laws/Laws.antt`, and `CallsEndAloneInSchedules` in `specs/laws/InSchedules.antt`.
 /// Proofs: `proofs/lawful/bounds/CallsEnd.antt` and `proofs/lawful/runs/InSchedules.antt`.
@@ -79,8 +78,8 @@ pub fn tries_alone_hold()
     ensures schedules { TriesAloneHoldInSchedules }
 {}
 
-/// With N seats, an open call makes at most N + 9 steps, plus two for each time that another seat changes the push word before
-/// the call ends.
+/// An open call makes at most N + 9 steps, plus two for each time that another seat changes the push word before the call
+/// ends.
 ///
 /// Definitions: `CallsEndBesideOthers` in `specs/laws/Progress.antt`, and `CallsEndBesideOthersInSchedules` in
 /// `specs/laws/InSchedules.antt`. Proofs: `proofs/lawful/bounds/Beside.antt` and `proofs/lawful/runs/InSchedules.antt`.
@@ -98,8 +97,7 @@ pub fn calls_change_the_push_word_twice()
     ensures schedules { CallsChangeThePushWordTwiceInSchedules }
 {}
 
-/// In any run of N seats, the calls that were open before it and those that open in it together make at most 5N + 5 steps per
-/// call.
+/// The calls that were open before a run and those that open in it together make at most 5N + 5 steps per call.
 ///
 /// Definitions: `CallsShareTheirSteps` in `specs/laws/Progress.antt`, and `CallsShareTheirStepsInSchedules` in
 /// `specs/laws/InSchedules.antt`. Proofs: `proofs/lawful/bounds/LockFree.antt` and `proofs/lawful/runs/InSchedules.antt`.
@@ -108,7 +106,7 @@ pub fn calls_share_their_steps()
     ensures schedules { CallsShareTheirStepsInSchedules }
 {}
 
-/// Among any 5N(N + 1) + 1 steps of calls, however the N seats interleave, some call ends.
+/// Among any 5N(N + 1) + 1 steps of calls, however the seats interleave, some call ends.
 ///
 /// Definitions: `SomeCallEnds` in `specs/laws/Progress.antt`, and `SomeCallEndsInSchedules` in
 /// `specs/laws/InSchedules.antt`. Proofs: `proofs/lawful/bounds/LockFree.antt` and `proofs/lawful/runs/InSchedules.antt`.
@@ -117,8 +115,8 @@ pub fn some_call_ends()
     ensures schedules { SomeCallEndsInSchedules }
 {}
 
-/// From each state of N seats with k open calls, some sequence of at most (5N + 5)k steps leads to a state without an open
-/// call. Nothing is posted there, and if the count is above 0, a seat owns the mutex or a sleeping seat has its grant.
+/// From each state with k open calls, some sequence of at most (5N + 5)k steps leads to one without. Nothing is posted
+/// there, and if the count is above 0, a seat owns or a sleeping seat has its grant.
 ///
 /// Definitions: `NoStateIsStuck` in `specs/laws/Progress.antt`, and `NoStateIsStuckInSchedules` in
 /// `specs/laws/InSchedules.antt`. Proofs: `proofs/lawful/bounds/Resting.antt` and `proofs/lawful/runs/InSchedules.antt`.

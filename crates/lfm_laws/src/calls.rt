@@ -8,8 +8,8 @@ ghost use Rattle.lfm_laws.specs.laws.Entries.{HoldersTookTheirRecord, ReceiversL
 ghost use Rattle.lfm_laws.specs.laws.InSchedules.{ClaimedSeatsAreQueuedInSchedules};
 ghost use Rattle.lfm_laws.specs.laws.Releases.{ReleasesAnswerWhatTheyDid, ServedRecordsAreTold, WaitsAnswerTheirRelease};
 
-/// A seat's takes rise by one when a `lock` or `try_lock` opens at depth 0, and when a `start_wait` opens. They fall by one at
-/// a step that is refused as Busy. No other event changes them.
+/// A seat's takes rise by one when a `start_wait` opens, or a `lock` or `try_lock` at depth 0. They fall by one at a step
+/// that is refused as Busy. No other event changes them.
 ///
 /// Definition: `TakesChangeByCharges` in `specs/laws/Charges.antt`. Proof: `proofs/lawful/calls/TakesCounted.antt`.
 pub fn takes_change_by_charges()
@@ -23,25 +23,24 @@ pub fn takes_count_charges()
     ensures { TakesCountCharges }
 {}
 
-/// A step that answers a new hold raises the depth from 0 to 1. With Again the depth rises by one, with Still it falls by one,
-/// and both answer the new depth. A release sets the depth to 0 with the store that empties the owner word. Nothing else
-/// changes it.
+/// A step that answers a new hold raises the depth from 0 to 1. With Again it rises by one, with Still it falls by one, and
+/// both answer the new depth. A release sets it to 0 with the store that empties the owner word. Nothing else changes it.
 ///
 /// Definition: `DepthCountsHolds` in `specs/laws/Depths.antt`. Proof: `proofs/lawful/calls/DepthsCounted.antt`.
 pub fn depth_counts_holds()
     ensures { DepthCountsHolds }
 {}
 
-/// A `lock` of a seat that holds makes exactly three steps, and a `try_lock` two, whatever the other seats do in between; one
-/// of the steps loads the owner word.
+/// A `lock` of a seat that holds makes exactly three steps, and a `try_lock` two, whatever the other seats do in between;
+/// one loads the owner word.
 ///
 /// Definition: `RecursiveCallsLoadTheOwner` in `specs/laws/Entries.antt`. Proof: `proofs/lawful/calls/RecursiveCalls.antt`.
 pub fn recursive_calls_load_the_owner()
     ensures { RecursiveCallsLoadTheOwner }
 {}
 
-/// The step by which a `lock` answers Held with a stamp takes the oldest record from the queue; it is the seat's own record and
-/// has that stamp. The step by which a `lock` answers Held as Free, or a `try_lock` answers Held, takes no record.
+/// The step by which a `lock` answers Held with a stamp takes the oldest record from the queue: its seat's own, with that
+/// stamp. The step by which a `lock` answers Held as Free, or a `try_lock` Held, takes none.
 ///
 /// Definition: `HoldersTookTheirRecord` in `specs/laws/Entries.antt`. Proof: `proofs/lawful/calls/HeldTold.antt`.
 pub fn holders_took_their_record()
@@ -65,9 +64,8 @@ pub fn releases_answer_what_they_did()
     ensures { ReleasesAnswerWhatTheyDid }
 {}
 
-/// A step that removes the oldest record from the queue ends a lock, a send or a release. The lock holds by that record if it
-/// is its own, and sleeps if it is another seat's; the send ends with Sent; the release ends with Granted and the record's
-/// seat.
+/// A step that removes the oldest record from the queue ends a lock, a send or a release. The lock holds by that record if
+/// it is its own, and else sleeps; the send ends with Sent, the release with Granted and the record's seat.
 ///
 /// Definition: `ServedRecordsAreTold` in `specs/laws/Releases.antt`. Proof: `proofs/lawful/calls/ReleasesTold.antt`.
 pub fn served_records_are_told()
@@ -81,8 +79,8 @@ pub fn waits_answer_their_release()
     ensures { WaitsAnswerTheirRelease }
 {}
 
-/// A `send_lock` that has claimed its target and finds the count above 0 pushes the target's record once before it ends, and no
-/// other record. The record is then the last of the queue.
+/// A `send_lock` that has claimed its target and finds the count above 0 pushes the target's record once before it ends, and
+/// no other. It is then the last of the queue.
 ///
 /// Definitions: `ClaimedSeatsArePushed` and `ClaimedSeatsAreQueued` in `specs/laws/ClaimedSeats.antt`, and
 /// `ClaimedSeatsAreQueuedInSchedules` in `specs/laws/InSchedules.antt`. Proofs: `proofs/lawful/calls/ClaimedSeats.antt` and

@@ -4,9 +4,9 @@
 ghost use Rattle.lfm_laws.specs.laws.Effects.{CallsTakeEffectOnce, ChangesAreOfOpenCalls, EffectsAreOfCalls, EffectsAreTheCallers, OpenCallsHaveBegun};
 ghost use Rattle.lfm_laws.specs.laws.InSchedules.{CallsTakeEffectOnceInSchedules, EffectsAreOfCallsInSchedules, EffectsAreTheCallersInSchedules};
 
-/// A call has exactly one effect between its start and its end, whatever the other seats do in between: its seat or the target
-/// of its send asks, its seat accepts a post, takes up its grant or releases, or its depth changes and is above 0 before and
-/// after. A refused call has no effect, and neither has a `receive` that finds no grant. An open call has had at most one.
+/// A call has exactly one effect between its start and its end, whatever the other seats do in between: its seat or the
+/// target of its send asks, its seat accepts a post, takes up its grant or releases, or its depth changes and stays above 0.
+/// A refused call has none, nor has a `receive` that finds no grant. An open call has had at most one.
 ///
 /// Definitions: `CallsTakeEffectOnce` in `specs/laws/Effects.antt`, and `CallsTakeEffectOnceInSchedules` in
 /// `specs/laws/InSchedules.antt`. Proofs: `proofs/lawful/calls/EffectsOnce.antt` and `proofs/lawful/runs/InSchedules.antt`.
@@ -43,8 +43,8 @@ pub fn effects_are_the_callers()
     ensures schedules { EffectsAreTheCallersInSchedules }
 {}
 
-/// If a seat is in a call after a schedule, that call began in the schedule and has been open since. So the laws above, which
-/// follow a call from its start, cover every open call.
+/// A call that is open after a schedule began in it and has been open since. So the laws above, which follow a call from its
+/// start, cover every open call.
 ///
 /// Definition: `OpenCallsHaveBegun` in `specs/laws/Effects.antt`. Proof: `proofs/lawful/calls/OpenCalls.antt`.
 pub fn open_calls_have_begun()

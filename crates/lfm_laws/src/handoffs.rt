@@ -33,7 +33,7 @@ pub fn posts_with_records_are_tried()
     ensures { PostsWithRecordsAreTried }
 {}
 
-/// If no call is open, nothing is posted. If then the count is above 0, a seat owns the mutex or a sleeping seat has its grant.
+/// If no call is open, nothing is posted. If then the count is above 0, a seat owns or a sleeping seat has its grant.
 ///
 /// Definitions: `QuiescentStatesRest` in `specs/laws/Laws.antt`, and `QuiescentStatesRestInSchedules` in
 /// `specs/laws/InSchedules.antt`. Proofs: `proofs/lawful/states/StateLaws.antt` and `proofs/lawful/runs/InSchedules.antt`.

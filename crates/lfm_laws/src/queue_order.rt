@@ -1,4 +1,5 @@
-//! First come, first served: the order of the queue, and that a queued seat is served, how soon, whatever calls begin.
+//! First come, first served: the order of the queue, that a counted seat is pushed, and that a queued seat is served, how
+//! soon, whatever calls begin. N is the number of seats.
 ghost use Rattle.lfm_laws.specs.laws.InSchedules.{
   QueueIsInPushOrderInSchedules,
   StampsAreConsecutiveInSchedules,
@@ -11,12 +12,14 @@ ghost use Rattle.lfm_laws.specs.laws.InSchedules.{
 };
 ghost use Rattle.lfm_laws.specs.laws.Laws.{QueueIsInPushOrder, StampsAreConsecutive, AnswersAreTheRecords};
 ghost use Rattle.lfm_laws.specs.laws.Overtaking.{QueuedSeatsAreOvertakenOnce, QueuedSeatsWaitForFewReleases, NoSeatOvertakesTwice};
+ghost use Rattle.lfm_laws.specs.laws.BeforePush.{CountedSeatsArePushedInRounds, CountedSeatsArePushedWithinBudgets};
 ghost use Rattle.lfm_laws.specs.laws.FairRounds.{FairRoundsCanBeMade, QueuedSeatsAreServedInFairRounds};
+ghost use Rattle.lfm_laws.specs.laws.FullRounds.{FullRoundsCanBeMade, QueuedSeatsAreServedWhateverOwnersBegin};
 ghost use Rattle.lfm_laws.specs.laws.Rounds.{QueuedSeatsAreServedInRounds, RoundsCanBeMade};
 ghost use Rattle.lfm_laws.specs.laws.Service.{QueuedSeatsAreServedSoon, StepsServe, SomebodyCanServe};
 
-/// In any run, the queue before it followed by the records that it pushes equals the records that leave in it followed by the
-/// queue after it, in the same order.
+/// In any run, the queue before it followed by the records that it pushes equals, in order, the records that leave in it
+/// followed by the queue after it.
 ///
 /// Definitions: `QueueIsInPushOrder` in `specs/laws/Laws.antt`, and `QueueIsInPushOrderInSchedules` in
 /// `specs/laws/InSchedules.antt`. Proofs: `proofs/lawful/runs/PushOrder.antt` and `proofs/lawful/runs/InSchedules.antt`.
@@ -25,8 +28,8 @@ pub fn queue_is_in_push_order()
     ensures schedules { QueueIsInPushOrderInSchedules }
 {}
 
-/// The stamps of a run's successful pushes are consecutive, and the first is one more than the stamp of the push word before
-/// the run. At the start that stamp is 0.
+/// The stamps of a run's successful pushes are consecutive, and the first is one more than that of the push word before the
+/// run, which is 0 at the start.
 ///
 /// Definitions: `StampsAreConsecutive` in `specs/laws/Laws.antt`, and `StampsAreConsecutiveInSchedules` in
 /// `specs/laws/InSchedules.antt`. Proofs: `proofs/lawful/runs/PushOrder.antt` and `proofs/lawful/runs/InSchedules.antt`.
@@ -53,8 +56,8 @@ pub fn queued_seats_are_overtaken_once()
     ensures schedules { QueuedSeatsAreOvertakenOnceInSchedules }
 {}
 
-/// While a queued record has not left the queue, owners release at most once more than records leave it. So a queued seat with
-/// k records before it waits for at most k + 1 releases.
+/// While a queued record has not left the queue, owners release at most once more than records leave it. So a queued seat
+/// with k before it waits for at most k + 1 releases.
 ///
 /// Definitions: `QueuedSeatsWaitForFewReleases` in `specs/laws/Overtaking.antt`, and
 /// `QueuedSeatsWaitForFewReleasesInSchedules` in `specs/laws/InSchedules.antt`. Proofs:
@@ -73,9 +76,8 @@ pub fn no_seat_overtakes_twice()
     ensures schedules { NoSeatOvertakesTwiceInSchedules }
 {}
 
-/// If the only calls that begin in a run are unlocks, and receives of seats that have their grant, the calls of N seats make at
-/// most (5N + 5)(o + 2k + 2) steps while a queued record with k records before it has not left the queue; o calls were open before
-/// the run.
+/// If only unlocks begin in a run, and receives of seats that have their grant, calls make at most (5N + 5)(o + 2k + 2)
+/// steps while a queued record with k before it has not left the queue; o calls were open before.
 ///
 /// Definitions: `QueuedSeatsAreServedSoon` in `specs/laws/Service.antt`, and `QueuedSeatsAreServedSoonInSchedules` in
 /// `specs/laws/InSchedules.antt`. Proofs: `proofs/lawful/bounds/Served.antt` and `proofs/lawful/runs/InSchedules.antt`.
@@ -104,18 +106,29 @@ pub fn somebody_can_serve()
     ensures schedules { SomebodyCanServeInSchedules }
 {}
 
-/// Starvation freedom from the push on. In a *round*, each seat that can go on at its start makes a step of its open call, or
-/// begins its receive if it sleeps and has its grant. Among N seats, a queued record with k records before it has left the queue
-/// after N + 8k + 7 rounds that begin while no seat owns, whichever calls begin and however long holds last.
+/// A call that has counted a seat and has yet to push it does so within 4p + 6 rounds, if p records are pushed meanwhile,
+/// and within 4NB + 2 with a budget of B. Only others' pushes delay it, and only budgets bound these: it is lock freedom in
+/// rounds.
+///
+/// Definitions: `CountedSeatsArePushedInRounds` and `CountedSeatsArePushedWithinBudgets` in `specs/laws/BeforePush.antt`.
+/// Proof: `proofs/lawful/rounds/BeforePush.antt`.
+pub fn counted_seats_are_pushed_in_rounds()
+    ensures rounds { CountedSeatsArePushedInRounds }
+    ensures budgets { CountedSeatsArePushedWithinBudgets }
+{}
+
+/// Starvation freedom from the push on. In a *round*, each seat that can go on at its start makes a step of its open call,
+/// or begins its receive if it sleeps and has its grant. A queued record with k before it has left the queue after N + 8k +
+/// 7 rounds that begin while no seat owns, whichever calls begin and however long holds last.
 ///
 /// Definition: `QueuedSeatsAreServedInRounds` in `specs/laws/Rounds.antt`. Proof: `proofs/lawful/rounds/Runs.antt`.
 pub fn queued_seats_are_served_in_rounds()
     ensures { QueuedSeatsAreServedInRounds }
 {}
 
-/// Let owners begin no calls but releases. In a *fair round* an owner that is between two calls at its start begins one, too.
-/// Then a queued record with k records before it has left the queue after N + 10k + 9 fair rounds, and as many more as the
-/// present owner needs to release: one for each of its holds, and one.
+/// Let owners begin no calls but releases. In a *fair round* an owner between two calls at its start begins one, too. Then a
+/// queued record with k before it has left the queue after N + 10k + 9 fair rounds, and as many more as the present owner
+/// needs to release: one for each hold, and one.
 ///
 /// Definition: `QueuedSeatsAreServedInFairRounds` in `specs/laws/FairRounds.antt`. Proof:
 /// `proofs/lawful/rounds/FairRounds.antt`.
@@ -123,12 +136,24 @@ pub fn queued_seats_are_served_in_fair_rounds()
     ensures { QueuedSeatsAreServedInFairRounds }
 {}
 
-/// From each state a round can be made in which only receives begin. From each reached state whose owner is between two calls or
-/// has begun its release, a fair one can be made, and then another.
+/// Let owners begin any calls. In a *full round* an owner between two calls at its start begins one that isn't refused. Then
+/// a queued record with k before it has left the queue after 3N + 10k + 12 full rounds, one more for each hold of the
+/// present owner, and five more for each call but releases that owners begin.
 ///
-/// Definitions: `RoundsCanBeMade` in `specs/laws/Rounds.antt`, and `FairRoundsCanBeMade` in `specs/laws/FairRounds.antt`. Proof:
-/// `proofs/lawful/rounds/Made.antt`.
+/// Definition: `QueuedSeatsAreServedWhateverOwnersBegin` in `specs/laws/FullRounds.antt`. Proof:
+/// `proofs/lawful/rounds/FullRounds.antt`.
+pub fn queued_seats_are_served_whatever_owners_begin()
+    ensures { QueuedSeatsAreServedWhateverOwnersBegin }
+{}
+
+/// From each state a round can be made in which only receives begin, and from each reached state a full one in which owners
+/// begin only releases. If the owner is between two calls or has begun its release, a fair one can be made, and then
+/// another.
+///
+/// Definitions: `RoundsCanBeMade` in `specs/laws/Rounds.antt`, `FairRoundsCanBeMade` in `specs/laws/FairRounds.antt`, and
+/// `FullRoundsCanBeMade` in `specs/laws/FullRounds.antt`. Proof: `proofs/lawful/rounds/Made.antt`.
 pub fn rounds_can_be_made()
     ensures rounds { RoundsCanBeMade }
     ensures fair { FairRoundsCanBeMade }
+    ensures full { FullRoundsCanBeMade }
 {}

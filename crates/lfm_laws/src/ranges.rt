@@ -1,8 +1,8 @@
-//! The ranges of all numbers: nothing wraps.
+//! The ranges of all numbers: nothing wraps. N is the number of seats.
 ghost use Rattle.lfm_laws.specs.laws.Ranges.{LimitsStay, NumbersStayInRange, StepsHaveRoom, StepsHaveRoomInLimits};
 
-/// With N seats of budget B, the stamp is at most N · B and the count at most N + 1. A seat's depth is at most 65,535, its
-/// takes at most B, and its posts at most its takes.
+/// With a budget of B, the stamp is at most N · B and the count at most N + 1; a seat's depth is at most 65,535, its takes
+/// at most B, and its posts at most its takes.
 ///
 /// Definition: `NumbersStayInRange` in `specs/laws/Ranges.antt`. Proof: `proofs/lawful/states/RangesRead.antt`.
 pub fn numbers_stay_in_range()
@@ -17,7 +17,7 @@ pub fn steps_have_room()
     ensures { StepsHaveRoom }
 {}
 
-/// Within the limits stamp and posts fit their words, so no step wraps a number.
+/// Within the limits both fit, so no step wraps a number.
 ///
 /// Definition: `StepsHaveRoomInLimits` in `specs/laws/Ranges.antt`. Proof: `proofs/lawful/states/RangesRead.antt`.
 pub fn steps_have_room_in_limits()

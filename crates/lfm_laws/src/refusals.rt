@@ -12,8 +12,8 @@ pub fn refused_begins_change_nothing()
     ensures { RefusedBeginsChangeNothing }
 {}
 
-/// A step of a seat that has no call open, or of a number that no seat has, leaves each word, record and seat unchanged. Only
-/// such a step is refused as Idle or NoSuchSeat. So a run leads to the same state without it.
+/// A step of a seat that has no call open, or of a number that no seat has, changes no word, record or seat, so a run leads to
+/// the same state without it. Only such a step is refused as Idle or NoSuchSeat.
 ///
 /// Definitions: `StepsOutsideOfCallsChangeNothing`, `AnsweredOutside` and `RunsStayWithoutOutsideSteps` in
 /// `specs/laws/OutsideSteps.antt`. Proof: `proofs/lawful/refusals/OutsideSteps.antt`.
@@ -23,16 +23,16 @@ pub fn steps_outside_of_calls_change_nothing()
     ensures runs { RunsStayWithoutOutsideSteps }
 {}
 
-/// The mutex refuses a call exactly if the seat and the state have the cause that is named for this call and this refusal; at
-/// most one cause holds.
+/// The mutex refuses a call exactly if the seat and the state have the cause that is named for this call and refusal; at
+/// most one holds.
 ///
 /// Definition: `BeginsAreRefusedForCause` in `specs/laws/Refusals.antt`. Proof: `proofs/lawful/refusals/RefusedCalls.antt`.
 pub fn begins_are_refused_for_cause()
     ensures { BeginsAreRefusedForCause }
 {}
 
-/// The mutex refuses a step of a call exactly if it has one of two causes. Busy: a `try_lock` loads no post, or finds that the
-/// post that it loaded is gone. NotWaiting: the target of a send does not wait. The call then ends, and only its seat changes;
+/// The mutex refuses a step of a call exactly if it has one of two causes. Busy: a `try_lock` loads no post, or the post
+/// that it loaded is gone. NotWaiting: the target of a send does not wait. The call then ends, and only its seat changes;
 /// Busy gives the take back.
 ///
 /// Definition: `StepsAreRefusedForCause` in `specs/laws/Refusals.antt`. Proof: `proofs/lawful/refusals/RefusedSteps.antt`.
@@ -40,8 +40,8 @@ pub fn steps_are_refused_for_cause()
     ensures { StepsAreRefusedForCause }
 {}
 
-/// A call or step is refused exactly if there is a cause for it. NoSuchSeat: no seat has the number. InCall, for a call: the
-/// seat has another call open. Idle, for a step: the seat has no call open. Any other refusal is one of the call itself.
+/// A call or step is refused exactly if there is a cause for it. NoSuchSeat: no seat has the number. InCall, of a call: the
+/// seat has another open. Idle, of a step: it has none open. Any other refusal is one of the call itself.
 ///
 /// Definition: `TurnsAreRefusedForCause` in `specs/laws/Refusals.antt`. Proof: `proofs/lawful/refusals/RefusedTurns.antt`.
 pub fn turns_are_refused_for_cause()

@@ -28,7 +28,7 @@ pub fn steps_keep_steady()
     ensures { StepsKeepSteady }
 {}
 
-/// A step changes only the word that the table of kinds names for its point, and no word if it is a load. It changes only the
+/// A step changes only the word that the table of kinds names for its point, and none if it is a load. It changes only the
 /// seat that makes it, and the pop list only if it is a link load, an owner store or a wake store. Its answer, and what its
 /// seat becomes, depend only on that word, that seat and the oldest record of the pop list.
 ///

@@ -7,19 +7,15 @@ use Rattle.std.proofs.lemmas.List.Elements.{filter-append}
 use Rattle.std.proofs.lemmas.List.Sums.{sum_by-append}
 use Rattle.lfm_model.specs.Sums.{sum_to}
 use Rattle.lfm_model.specs.declared.answers.How.{How}
-use Rattle.lfm_model.specs.declared.answers.Unlocked.{Unlocked}
+use Rattle.lfm_model.specs.declared.answers.Asked.{Asked}
+use Rattle.lfm_model.specs.declared.answers.Locked.{Locked}
+use Rattle.lfm_protocol.specs.declared.answers.Answer.{Answer}
+use Rattle.lfm_protocol.specs.declared.answers.Turn.{Turn}
 use Rattle.lfm_protocol.specs.declared.answers.Turn.TheVariants.{Ended}
-use Rattle.lfm_protocol.specs.declared.points.Carrier.{Carrier}
-use Rattle.lfm_protocol.specs.declared.points.Entrant.{Entrant}
 use Rattle.lfm_protocol.specs.declared.points.Point.{Point}
-use Rattle.lfm_protocol.specs.declared.points.Point.TheVariants.{TryOwnerLoad, TryHandoffLoad, TryHandoffExchange, TryCountAdd, SendWakeExchange, SendPushRecheck, PushExchange, PushedHandoffLoad, PushedHandoffExchange, ReleaseCountSubtract, ReleasePushRecheck, ReleaseHandoffExchange, GrantWakeStore, EnterOwnerStore, ReceiveWakeLoad}
-use Rattle.lfm_protocol.specs.declared.points.Pusher.{Pusher}
-use Rattle.lfm_protocol.specs.declared.points.Releaser.{Releaser}
-use Rattle.lfm_protocol.specs.declared.points.Releaser.TheVariants.{Unlocker, Waiter}
-use Rattle.lfm_protocol.specs.declared.points.Sleeper.{Sleeper}
+use Rattle.lfm_protocol.specs.declared.points.Point.TheVariants.{TryOwnerLoad, PushExchange, EnterOwnerStore}
 use Rattle.lfm_protocol.specs.declared.seats.SeatState.{SeatState}
-use Rattle.lfm_protocol.specs.After.{same_link, same_handoff, busy, releases, pushed, granted, receives, claims, held, take, carrier_of, found_posted}
-use Rattle.lfm_protocol.specs.Begin.{Stepped, goes_on}
+use Rattle.lfm_protocol.specs.After.{same_link}
 use Rattle.lfm_protocol.specs.Core.{Core}
 use Rattle.lfm_protocol.specs.Limits.{max_budget}
 use Rattle.lfm_protocol.specs.Points.{kind, target, pushed_seat}
@@ -27,17 +23,15 @@ use Rattle.lfm_protocol.specs.Seats.{seat, is_seat}
 use Rattle.lfm_protocol.specs.Step.{start, step}
 use Rattle.lfm_words.specs.declared.links.Link.{Link}
 use Rattle.lfm_words.specs.declared.pop_lists.Record.{Record}
-use Rattle.lfm_words.specs.declared.wakes.Wake.{Wake}
-use Rattle.lfm_words.specs.declared.wakes.Wake.TheVariants.{Waiting, Grant}
 use Rattle.lfm_words.specs.Popped.{oldest}
-use Rattle.lfm_laws.specs.laws.Events.{answered_by, pushed_at_point, pushed_by}
+use Rattle.lfm_laws.specs.laws.Events.{answered_by, answered_got, pushed_at_point, pushed_by}
 use Rattle.lfm_laws.specs.laws.Laws.{IsReached}
 use Rattle.lfm_laws.specs.laws.Overtaking.{enters_at, entries_of_seat}
 use Rattle.lfm_laws.specs.laws.Progress.{stepped_in, steps_of_run}
 use Rattle.lfm_laws.specs.laws.Schedules.{Event, answer_record, answered_in, begins, makes, happens, is_call, run_of}
 use Rattle.lfm_laws.specs.steady.Ghost.{Ghost}
 use Rattle.lfm_laws.specs.steady.Steady.{Fits, Steady}
-use Rattle.lfm_laws.specs.table.Words.{words, handoff_of, index_by, link_of, stepped_by, wake_of, written_by}
+use Rattle.lfm_laws.specs.table.Words.{words, index_by, stepped_by, written_by}
 use Rattle.lfm_laws.proofs.lawful.runs.KeptSteady.{reached_are_narrow}
 use Rattle.lfm_laws.proofs.lawful.runs.LimitsKept.{budget-happens}
 use Rattle.lfm_laws.proofs.lawful.runs.Reached.{absent_tested, run_keeps, steady_reached}
@@ -53,7 +47,8 @@ use Rattle.lfm_table.specs.declared.seat_view.Action.{Action}
 use Rattle.lfm_table.specs.declared.seat_view.Action.TheVariants.{Begins, Makes, LoadsOwner}
 use Rattle.lfm_table.specs.declared.seat_view.Seen.{Seen}
 use Rattle.lfm_table.specs.Actions.{seen, stores, told_of, events_of, after_action, if_own, noted, noted_of, part_of}
-use Rattle.lfm_table.proofs.tables.StepFacts.{made_of}
+use Rattle.lfm_mutex.specs.calls.Runs.{how_held}
+use Rattle.lfm_mutex.proofs.runs.StepResults.{how_at, how_step}
 use Rattle.lfm_mutex.specs.TableRuns.{answer_noted, answers_noted, entries_told, owner_loads, own_push, own_pushes, push_noted, pushes_noted, steps_told}
 
 -- What is noted for one seat
@@ -65,19 +60,18 @@ same_if : {A : Type 0} (b : Bool) (x : A) → x ≡ (if b then x else x)
 same_if true x = refl
 same_if false x = refl
 
+-- a fact about whether seat s is seat t
+by_seat : (P : Bool → Type 0) (s t : ℕ) → (s ≡ t → P true) → P false → P (nat_eq s t)
+by_seat P s t own other = elim (cases_eq s t) [ inl e ↦ subst P (sym (eq-eqb s t e)) (own e) | inr n ↦ subst P (sym (ne_eqb s t n)) other ]
+
 -- Entries
 
 own_entry : (c : Core) (s t : ℕ) → (if nat_eq s t then enters_at (seat c.seats t).point else 0) ≡ entries_told (if_own s t (noted c s))
-own_entry c s t = ⊎_elim
-    (λ (e : s ≡ t). rw (eq-eqb s t e) (ap (λ (m : ℕ). enters_at (seat c.seats m).point) (sym e) ∙ plus_none (enters_at (seat c.seats s).point)))
-    (λ (n : s ≢ t). rw (ne_eqb s t n) refl)
-    (cases_eq s t)
+own_entry c s t = by_seat (λ b. (if b then enters_at (seat c.seats t).point else 0) ≡ entries_told (if b then noted c s ∷ [] else [])) s t
+    (λ e. ap (λ (m : ℕ). enters_at (seat c.seats m).point) (sym e) ∙ plus_none (enters_at (seat c.seats s).point)) refl
 
 owner_load_entry : (s t n : ℕ) → entries_told (if_own s t (seen TryOwnerLoad n)) ≡ 0
-owner_load_entry s t n = ⊎_elim
-    (λ (e : s ≡ t). rw (eq-eqb s t e) refl)
-    (λ (n : s ≢ t). rw (ne_eqb s t n) refl)
-    (cases_eq s t)
+owner_load_entry s t n = by_seat (λ b. entries_told (if b then seen TryOwnerLoad n ∷ [] else []) ≡ 0) s t (λ e. refl) refl
 
 first_entry : (c : Core) (t : ℕ) (d : Action) (later : List Action)
     → entries_of_seat c t (events_of (d ∷ later)) ≡ entries_told (noted_of c t d) + entries_of_seat (after_action c d) t (events_of later)
@@ -116,10 +110,7 @@ sum_of_one n s k above within =
     omega (arith, own, all, none)
 
 own_steps : (s t : ℕ) (x : Seen) → steps_told (if_own s t x) ≡ (if nat_eq s t then step_unit x.point else 0)
-own_steps s t x = ⊎_elim
-    (λ (e : s ≡ t). rw (eq-eqb s t e) (sym (plus_none (step_unit x.point))))
-    (λ (n : s ≢ t). rw (ne_eqb s t n) refl)
-    (cases_eq s t)
+own_steps s t x = by_seat (λ b. steps_told (if b then x ∷ [] else []) ≡ (if b then step_unit x.point else 0)) s t (λ e. sym (plus_none (step_unit x.point))) refl
 
 summed_own : (n s : ℕ) (x : Seen) → 0 < s → s ≤ n → sum_to (λ (t : ℕ). steps_told (if_own s t x)) n ≡ step_unit x.point
 summed_own n s x above within =
@@ -210,18 +201,12 @@ push_told c g s x seats fits (PushExchange pusher old) =
 push_told c g s x seats fits _ = refl
 
 own_told : (c : Core) (g : Ghost) (s t : ℕ) → Fits c g → (if nat_eq s t then pushed_by c s else []) ≡ pushes_noted t (if_own s t (noted c s))
-own_told c g s t fits = ⊎_elim
-    (λ (e : s ≡ t). rw (eq-eqb s t e)
-    (push_told c g s (seat c.seats s) _ fits (seat c.seats s).point
-    ∙ (ap (λ (m : ℕ). push_noted m (seat c.seats s).point (noted c s).found) e ∙ sym (append-nil (push_noted t (seat c.seats s).point (noted c s).found)))))
-    (λ (n : s ≢ t). rw (ne_eqb s t n) refl)
-    (cases_eq s t)
+own_told c g s t fits = by_seat (λ b. (if b then pushed_by c s else []) ≡ pushes_noted t (if b then noted c s ∷ [] else [])) s t
+    (λ e. push_told c g s (seat c.seats s) _ fits (seat c.seats s).point
+    ∙ (ap (λ (m : ℕ). push_noted m (seat c.seats s).point (noted c s).found) e ∙ sym (append-nil (push_noted t (seat c.seats s).point (noted c s).found)))) refl
 
 owner_load_pushes : (s t n : ℕ) → [] ≡ pushes_noted t (if_own s t (seen TryOwnerLoad n))
-owner_load_pushes s t n = ⊎_elim
-    (λ (e : s ≡ t). rw (eq-eqb s t e) refl)
-    (λ (n : s ≢ t). rw (ne_eqb s t n) refl)
-    (cases_eq s t)
+owner_load_pushes s t n = by_seat (λ b. [] ≡ pushes_noted t (if b then seen TryOwnerLoad n ∷ [] else [])) s t (λ e. refl) refl
 
 action_told : (c : Core) (g : Ghost) (t : ℕ) (d : Action) → Fits c g → own_push c t d ≡ pushes_noted t (noted_of c t d)
 action_told c g t (Begins s call) fits = refl
@@ -242,62 +227,18 @@ pushes_told c t (d ∷ later) steady =
 
 -- Answers
 
-module _ (d t ps s n : ℕ) (o : Option Record) where
-  none_if : (b : Bool) (u v : Stepped) → answered_by s u.turn ≡ [] → answered_by s v.turn ≡ [] → answered_by s (if b then u else v).turn ≡ []
-  none_if true u v first second = first
-  none_if false u v first second = second
+-- which record a turn answers depends only on how the seat has acquired the mutex
+answer_by_how : (s : ℕ) (turn : Turn) → answered_by s turn ≡ answered_got s (how_held turn)
+answer_by_how s (Ended (Answer.Asked (Asked.Held how))) = refl
+answer_by_how s (Ended (Answer.Locked (Locked.Held how))) = refl
+answer_by_how s _ = refl
 
-  none_releases : (q : Point) (r : Releaser) (answer : Unlocked) → answered_by s (releases (made_of d t ps q) r answer).turn ≡ []
-  none_releases q Unlocker answer = refl
-  none_releases q Waiter answer = refl
+noted_by_how : (s : ℕ) (q : Point) → answered_got s (how_at q) ≡ answer_noted s q
+noted_by_how s (EnterOwnerStore entrant How.Free) = refl
+noted_by_how s _ = refl
 
-  none_pushed : (q : Point) (pusher : Pusher) → answered_by s (pushed (made_of d t ps q) pusher).turn ≡ []
-  none_pushed q Pusher.Locker = refl
-  none_pushed q (Pusher.Sender u) = refl
-
-  none_granted : (q : Point) (carrier : Carrier) (oldest : Record) → answered_by s (granted (made_of d t ps q) carrier oldest).turn ≡ []
-  none_granted q Carrier.Locker oldest = refl
-  none_granted q (Carrier.Releaser r) oldest = none_releases q r (Unlocked.Granted oldest.seat)
-  none_granted q (Carrier.Reclaimer r) oldest = none_releases q r (Unlocked.Granted oldest.seat)
-  none_granted q Carrier.Sender oldest = refl
-
-  none_receives : (q : Point) (sleeper : Sleeper) (w : Wake) → answered_by s (receives (made_of d t ps q) sleeper w).turn ≡ []
-  none_receives q sleeper (Grant stamp) = refl
-  none_receives q sleeper _ = refl
-
-  none_claims : (q : Point) (u : ℕ) (w : Wake) → answered_by s (claims (made_of d t ps q) u w).turn ≡ []
-  none_claims q u Waiting = refl
-  none_claims q u _ = refl
-
-  entered : (entrant : Entrant) (how : How) → answered_by s (Ended (held entrant how)) ≡ answer_noted s (EnterOwnerStore entrant how)
-  entered Entrant.Locker How.Free = refl
-  entered Entrant.Trier How.Free = refl
-  entered Entrant.Receiver How.Free = refl
-  entered Entrant.Locker (How.Queued stamp) = refl
-  entered Entrant.Trier (How.Queued stamp) = refl
-  entered Entrant.Receiver (How.Queued stamp) = refl
-
-  answer_at : (q : Point) → answered_by s (stepped_by (made_of d t ps q) s n o).turn ≡ answer_noted s q
-  answer_at TryOwnerLoad = none_if (nat_eq n s) _ (goes_on (made_of d t ps TryOwnerLoad) TryHandoffLoad) refl refl
-  answer_at TryHandoffLoad = none_if (nat_eq (handoff_of n).seat 0) (busy (made_of d t ps TryHandoffLoad)) _ refl refl
-  answer_at (TryHandoffExchange old) = none_if (same_handoff (handoff_of n) old) (goes_on (made_of d t ps (TryHandoffExchange old)) TryCountAdd) (busy (made_of d t ps (TryHandoffExchange old))) refl refl
-  answer_at (SendWakeExchange u) = none_claims (SendWakeExchange u) u (wake_of n)
-  answer_at (SendPushRecheck u old) = none_if (nat_eq (link_of n).next 0) _ (goes_on (made_of d t ps (SendPushRecheck u old)) (PushedHandoffExchange (Pusher.Sender u) old)) refl refl
-  answer_at (PushedHandoffLoad pusher) =
-      none_if (nat_eq (handoff_of n).seat 0) (pushed (made_of d t ps (PushedHandoffLoad pusher)) pusher) (goes_on (made_of d t ps (PushedHandoffLoad pusher)) (found_posted pusher (handoff_of n))) (none_pushed (PushedHandoffLoad pusher) pusher) refl
-  answer_at (PushedHandoffExchange pusher old) =
-      none_if (same_handoff (handoff_of n) old) (goes_on (made_of d t ps (PushedHandoffExchange pusher old)) (take (carrier_of pusher) s o)) (pushed (made_of d t ps (PushedHandoffExchange pusher old)) pusher) refl (none_pushed (PushedHandoffExchange pusher old) pusher)
-  answer_at (ReleaseCountSubtract r) =
-      none_if (nat_eq n 1) (releases (made_of d t ps (ReleaseCountSubtract r)) r Unlocked.Free) (goes_on (made_of d t ps (ReleaseCountSubtract r)) (take (Carrier.Releaser r) s o)) (none_releases (ReleaseCountSubtract r) r Unlocked.Free) refl
-  answer_at (ReleasePushRecheck r) =
-      none_if (nat_eq (link_of n).next 0) (releases (made_of d t ps (ReleasePushRecheck r)) r Unlocked.Posted) (goes_on (made_of d t ps (ReleasePushRecheck r)) (ReleaseHandoffExchange r)) (none_releases (ReleasePushRecheck r) r Unlocked.Posted) refl
-  answer_at (ReleaseHandoffExchange r) =
-      none_if (same_handoff (handoff_of n) (record { seat = s; post = ps })) (goes_on (made_of d t ps (ReleaseHandoffExchange r)) (take (Carrier.Reclaimer r) s o)) (releases (made_of d t ps (ReleaseHandoffExchange r)) r Unlocked.TakenOver)
-      refl (none_releases (ReleaseHandoffExchange r) r Unlocked.TakenOver)
-  answer_at (GrantWakeStore carrier oldest) = none_granted (GrantWakeStore carrier oldest) carrier oldest
-  answer_at (EnterOwnerStore entrant how) = entered entrant how
-  answer_at (ReceiveWakeLoad sleeper) = none_receives (ReceiveWakeLoad sleeper) sleeper (wake_of n)
-  answer_at _ = refl
+answer_at : (x : SeatState) (s n : ℕ) (o : Option Record) → answered_by s (stepped_by x s n o).turn ≡ answer_noted s x.point
+answer_at x s n o = answer_by_how s (stepped_by x s n o).turn ∙ (ap (answered_got s) (how_step x s n o) ∙ noted_by_how s x.point)
 
 run_join : (c : Core) (xs ys : List Event) → run_of c (xs ++ ys) ≡ run_of (run_of c xs) ys
 run_join c [] ys = refl
@@ -325,7 +266,7 @@ step_answer c s is = elim (cases_Bool (is_seat c.seats s)) [
       let steady = steady_reached c is.0 in
       let numbers = numbers_fit c steady.ghost_state steady.fits is.1 in
       let x = seat c.seats s in
-      rw here (ap (answered_by s) (turn_of_step c steady.ghost_state s (seat_of_test c.seats s here) steady.fits numbers (reached_are_narrow c is.0 is.1)) ∙ answer_at x.depth x.takes x.posts s _ (oldest c.popped) x.point)
+      rw here (ap (answered_by s) (turn_of_step c steady.ghost_state s (seat_of_test c.seats s here) steady.fits numbers (reached_are_narrow c is.0 is.1)) ∙ answer_at x s _ (oldest c.popped))
   | inr none ↦ rw (none, absent_tested c.seats s none) refl
 ]
 
@@ -339,19 +280,14 @@ answers_of_seat s t (EnterOwnerStore entrant How.Free) = same_if (nat_eq s t) []
 answers_of_seat s t _ = same_if (nat_eq s t) []
 
 answer_of_step : (s t : ℕ) (x : Seen) → (if nat_eq s t then answer_noted s x.point else []) ≡ answers_noted t (if_own s t x)
-answer_of_step s t x = ⊎_elim
-    (λ (e : s ≡ t). rw (eq-eqb s t e) (ap (λ (m : ℕ). answer_noted m x.point) e ∙ sym (append-nil (answer_noted t x.point))))
-    (λ (n : s ≢ t). rw (ne_eqb s t n) refl)
-    (cases_eq s t)
+answer_of_step s t x = by_seat (λ b. (if b then answer_noted s x.point else []) ≡ answers_noted t (if b then x ∷ [] else [])) s t
+    (λ e. ap (λ (m : ℕ). answer_noted m x.point) e ∙ sym (append-nil (answer_noted t x.point))) refl
 
 made_answers : (c : Core) (s t : ℕ) → InLimits c → filter (of_seat t) (answered_in c (makes s)) ≡ answers_noted t (noted_of c t (Makes s))
 made_answers c s t is = ap (filter (of_seat t)) (step_answer c s is) ∙ (answers_of_seat s t (seat c.seats s).point ∙ answer_of_step s t (noted c s))
 
 owner_load_answers : (s t n : ℕ) → [] ≡ answers_noted t (if_own s t (seen TryOwnerLoad n))
-owner_load_answers s t n = ⊎_elim
-    (λ (e : s ≡ t). rw (eq-eqb s t e) refl)
-    (λ (n : s ≢ t). rw (ne_eqb s t n) refl)
-    (cases_eq s t)
+owner_load_answers s t n = by_seat (λ b. [] ≡ answers_noted t (if b then seen TryOwnerLoad n ∷ [] else [])) s t (λ e. refl) refl
 
 answers_join : (t : ℕ) (xs ys : List Seen) → answers_noted t (xs ++ ys) ≡ answers_noted t xs ++ answers_noted t ys
 answers_join t xs ys = flat_map-append (λ (x : Seen). answer_noted t x.point) xs ys

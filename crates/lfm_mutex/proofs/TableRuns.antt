@@ -7,7 +7,7 @@ use Rattle.lfm_protocol.specs.declared.limits.Limits.{Limits}
 use Rattle.lfm_protocol.specs.Core.{Core, put}
 use Rattle.lfm_protocol.specs.Limits.{are_in_limits, max_budget}
 use Rattle.lfm_protocol.specs.Queue.{chain, chain_of, queue_of, unwalked}
-use Rattle.lfm_protocol.specs.Seats.{absent}
+use Rattle.lfm_protocol.specs.Seats.{absent, seat}
 use Rattle.lfm_protocol.specs.Step.{made, start}
 use Rattle.lfm_words.specs.declared.links.Link.{Link}
 use Rattle.lfm_words.specs.declared.pop_lists.Record.{Record}
@@ -17,8 +17,11 @@ use Rattle.lfm_laws.specs.table.Words.{index, written}
 use Rattle.lfm_laws.proofs.lawful.runs.AbstractBridge.{runs_are_abstract_runs}
 use Rattle.lfm_laws.proofs.lawful.runs.InSchedules.{queue_is_in_push_order_in_schedules, stamps_are_consecutive_in_schedules, queued_seats_are_overtaken_once_in_schedules, queued_seats_wait_for_few_releases_in_schedules, no_seat_overtakes_twice_in_schedules, some_call_ends_in_schedules}
 use Rattle.lfm_laws.specs.laws.FairRounds.{HasFairRounds, rounds_to_release}
-use Rattle.lfm_laws.specs.laws.Rounds.{HasUnownedRounds}
+use Rattle.lfm_laws.specs.laws.FullRounds.{HasFullRounds, calls_of_owners}
+use Rattle.lfm_laws.specs.laws.Rounds.{HasRounds, HasUnownedRounds}
+use Rattle.lfm_laws.proofs.lawful.rounds.BeforePush.{counted_seats_are_pushed_in_rounds, counted_seats_are_pushed_within_budgets}
 use Rattle.lfm_laws.proofs.lawful.rounds.FairRounds.{queued_seats_are_served_in_fair_rounds}
+use Rattle.lfm_laws.proofs.lawful.rounds.FullRounds.{queued_seats_are_served_whatever_owners_begin}
 use Rattle.lfm_laws.proofs.lawful.rounds.Runs.{queued_seats_are_served_in_rounds}
 use Rattle.lfm_laws.proofs.lawful.runs.LimitsKept.{limits_stay}
 use Rattle.lfm_laws.proofs.lawful.runs.PushOrder.{answers_are_the_records}
@@ -33,9 +36,11 @@ use Rattle.lfm_table.proofs.tables.Actions.{known_once, led_join, no_part, part_
 use Rattle.lfm_table.proofs.tables.RuleKept.{led_on}
 use Rattle.lfm_mutex.proofs.LawsHeld.{core_of}
 use Rattle.lfm_mutex.proofs.RunTrails.{answers_told, entries_of_part, pushes_told, rest_is_nil, steps_of_parts}
-use Rattle.lfm_mutex.proofs.ends.Seats.{joins, joins_keep, owner_keeps, owner_tells, splits, splits_keep, starts, starts_at}
+use Rattle.lfm_mutex.proofs.ends.OwnerLoads.{owner_keeps, owner_tells}
+use Rattle.lfm_mutex.proofs.ends.SplitsAndJoins.{joins, joins_keep, splits, splits_keep}
+use Rattle.lfm_mutex.proofs.ends.Starts.{starts, starts_at}
 use Rattle.lfm_mutex.specs.Laws.{IsCore}
-use Rattle.lfm_mutex.specs.TableRuns.{HoldsAfter, OtherStepsKeepTheCore, SeatsKnowUpToTheirLastStep, TablesEndCalls, TablesGoOnAsTheCore, TablesGoThroughReachedStates, TablesRunAsTheAbstractMutex, TablesHaveARun, TablesOpenAtTheStart, TablesOvertakeOnce, TablesServeInPushOrder, TablesServeInRounds, TrailsTellThePushes, TrailsTellTheAnswers, answers_noted, late_part, pushes_noted, popped_since, pushed_since, state_after}
+use Rattle.lfm_mutex.specs.TableRuns.{HoldsAfter, OtherStepsKeepTheCore, SeatsKnowUpToTheirLastStep, TablesEndCalls, TablesGoOnAsTheCore, TablesGoThroughReachedStates, TablesRunAsTheAbstractMutex, TablesHaveARun, TablesOpenAtTheStart, TablesOvertakeOnce, TablesPushInRounds, TablesServeInPushOrder, TablesServeInRounds, TrailsTellThePushes, TrailsTellTheAnswers, answers_noted, late_part, pushes_noted, popped_since, pushed_since, state_after}
 
 -- at each moment of a run within the limits, the state is one that a schedule reaches
 reached_after : (l : Limits) (actions : List Action) → are_in_limits l.seats l.budget ≡ true → IsReached (state_after l actions)
@@ -176,6 +181,21 @@ module _ {T : Type 0} (follows : ℕ → T → T → Type 0) (fits : T → ℕ �
         (λ rests release has.
             queued_seats_are_served_in_fair_rounds c (events_of late) k reached rests release queued
             (subst (λ (n : ℕ). HasFairRounds (n + 10 * k + 9 + rounds_to_release c) c (events_of late)) (sym seats) has)),
+        (λ has.
+            queued_seats_are_served_whatever_owners_begin c (events_of late) k reached queued
+            (subst (λ (n : ℕ). HasFullRounds (3 * n + 10 * k + 12 + (seat c.seats c.owner).depth + 5 * calls_of_owners c (events_of late)) c (events_of late)) (sym seats) has)),
+      )
+
+  pub tables_push_in_rounds : TablesPushInRounds follows fits
+  tables_push_in_rounds s l early late t holds asks =
+      let c = state_after l early in
+      let allowed = in_limits s l (early ++ late) holds in
+      let reached = reached_after l early allowed in
+      let size : length c.seats * c.budget ≡ l.seats * l.budget = ap (λ (m : Limits). m.seats * m.budget) (limits_stay l (events_of early)) in (
+        (λ has. counted_seats_are_pushed_in_rounds c (events_of late) t reached asks has),
+        (λ has.
+            counted_seats_are_pushed_within_budgets c (events_of late) t reached asks
+            (subst (λ (n : ℕ). HasRounds (4 * n + 2) c (events_of late)) (sym size) has)),
       )
 
   -- only the seats of the mutex have a part in the late actions

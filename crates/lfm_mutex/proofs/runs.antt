@@ -1,9 +1,11 @@
 -- The steps of a call, one after another: that they end, what they add to the trail, and how a call changes the sight of its
 -- seat.
 pub mod BusyFacts
+pub mod CallStarts
+pub mod Conclusions
 pub mod Courses
 pub mod DueFalls
-pub mod FirstPoints
+pub mod EndSights
 pub mod GoesOn
 pub mod Granted
 pub mod MadeCalls
@@ -11,20 +13,23 @@ pub mod OneStep
 pub mod PlainCourses
 pub mod PushPoints
 pub mod ReceivePoints
-pub mod RunFacts
 pub mod RunGoesOn
 pub mod Running
 pub mod SameSeats
+pub mod SeatCalls
 pub mod SendCounts
 pub mod SendEnds
 pub mod SendFacts
 pub mod SendPoints
 pub mod ServePoints
 pub mod ShortCalls
-pub mod SightFacts
-pub mod Sights
+pub mod SightParts
 pub mod Spending
 pub mod FastPathPoints
+pub mod StartSights
+pub mod StepResults
+pub mod Tests
 pub mod TryEnds
 pub mod WakeUps
+pub mod WeightFalls
 pub mod Woken

@@ -13,6 +13,7 @@ use Rattle.lfm_protocol.specs.declared.points.Point.{Point}
 use Rattle.lfm_protocol.specs.declared.points.Point.TheVariants.{EnterOwnerStore, PushExchange, Rest}
 use Rattle.lfm_protocol.specs.declared.seats.SeatState.{SeatState}
 use Rattle.lfm_protocol.specs.Limits.{are_in_limits, max_budget}
+use Rattle.lfm_protocol.specs.Seats.{seat}
 use Rattle.lfm_protocol.specs.After.{same_link}
 use Rattle.lfm_protocol.specs.Core.{Core, put}
 use Rattle.lfm_protocol.specs.Points.{pushed_seat}
@@ -25,8 +26,11 @@ use Rattle.lfm_laws.specs.laws.Laws.{IsReached}
 use Rattle.lfm_laws.specs.laws.Overtaking.{enters_at, entries_of_run, releases_of_run, entries_of_seat}
 use Rattle.lfm_laws.specs.laws.Progress.{steps_of_run, ended_in_run}
 use Rattle.lfm_laws.specs.laws.Reading.{Reads}
+use Rattle.lfm_laws.specs.laws.BeforePush.{PushesIn}
+use Rattle.lfm_laws.specs.laws.Errands.{asks_for}
 use Rattle.lfm_laws.specs.laws.FairRounds.{HasFairRounds, OwnerRestsOrReleases, OwnersOnlyRelease, rounds_to_release}
-use Rattle.lfm_laws.specs.laws.Rounds.{HasUnownedRounds}
+use Rattle.lfm_laws.specs.laws.FullRounds.{HasFullRounds, calls_of_owners}
+use Rattle.lfm_laws.specs.laws.Rounds.{HasRounds, HasUnownedRounds}
 use Rattle.lfm_laws.specs.laws.Schedules.{is_call, reached, run_of, push_record, popped_record, answer_record}
 use Rattle.lfm_laws.specs.table.Words.{index, link_of, written}
 use Rattle.lfm_mutex.specs.Laws.{IsCore}
@@ -192,10 +196,11 @@ module _ {T : Type 0} (follows : ℕ → T → T → Type 0) (fits : T → ℕ �
       × (releases_of_run (state_after l early) (events_of late) ≤ length (popped_since l early late) + 1)
       × ((t : ℕ) → (entries_of_seat (state_after l early) t (events_of late) ≤ 1) × (entries_told (late_part l early late t) ≤ 1))
 
-  -- Starvation freedom. Take a record that was queued at an earlier moment, with k before it. It has left the queue if the actions
-  -- since then have N + 8k + 7 rounds that begin while no seat owns. It also has if owners have begun no calls but releases since,
-  -- and the actions have N + 10k + 9 fair rounds, and as many more as the owner of that moment needed to release. A load for
-  -- `owner` is no step of a round.
+  -- Starvation freedom. Take a record that was queued at an earlier moment, with k before it. It has left the queue if the
+  -- actions since then have N + 8k + 7 rounds that begin while no seat owns. It also has if owners have begun no calls but
+  -- releases since, and the actions have N + 10k + 9 fair rounds, and as many more as the owner of that moment needed to
+  -- release. Whichever calls owners have begun, it has if the actions have 3N + 10k + 12 full rounds, one more for each hold
+  -- of that owner, and five more for each of these calls that isn't a release. A load for `owner` is no step of a round.
   abbrev pub TablesServeInRounds : Type 0
   TablesServeInRounds =
       (s : State (Option (Moving T)) (View T)) (l : Limits) (early late : List Action) (k : ℕ) → HoldsAfter l (early ++ late) s
@@ -204,6 +209,19 @@ module _ {T : Type 0} (follows : ℕ → T → T → Type 0) (fits : T → ℕ �
       × (OwnerRestsOrReleases (state_after l early) → OwnersOnlyRelease (state_after l early) (events_of late)
       → HasFairRounds (l.seats + 10 * k + 9 + rounds_to_release (state_after l early)) (state_after l early) (events_of late)
       → k < length (popped_since l early late))
+      × (HasFullRounds
+      (3 * l.seats + 10 * k + 12 + (seat (state_after l early).seats (state_after l early).owner).depth + 5 * calls_of_owners (state_after l early) (events_of late))
+      (state_after l early) (events_of late)
+      → k < length (popped_since l early late))
+
+  -- Before the push. A call that at an earlier moment had counted a seat, and had yet to push it, has pushed it if the
+  -- actions since then have 4p + 6 rounds, p being the number of records that were pushed since, or 4NB + 2 rounds.
+  abbrev pub TablesPushInRounds : Type 0
+  TablesPushInRounds =
+      (s : State (Option (Moving T)) (View T)) (l : Limits) (early late : List Action) (t : ℕ) → HoldsAfter l (early ++ late) s
+      → 0 < asks_for (seat (state_after l early).seats t) t
+      → (HasRounds (4 * length (pushed_since l early late) + 6) (state_after l early) (events_of late) → PushesIn (state_after l early) t (events_of late))
+      × (HasRounds (4 * (l.seats * l.budget) + 2) (state_after l early) (events_of late) → PushesIn (state_after l early) t (events_of late))
 
   -- Lock freedom. Since an earlier moment calls have made at most (5N + 5)(N + k) steps, k being the number of calls that have
   -- ended since. The trails of the N seats have grown by exactly these steps and the loads for `owner`.

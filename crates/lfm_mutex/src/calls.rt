@@ -9,10 +9,10 @@ ghost use Rattle.lfm_mutex.specs.calls.Runs.{nothing, errand, errand_of, is_rele
 ghost use Rattle.lfm_mutex.specs.Belongs.{OfMutex};
 ghost use Rattle.lfm_mutex.specs.calls.Trails.{Made, MakesAtMost};
 ghost use Rattle.lfm_mutex.specs.calls.Sight.{sight, is_asleep, Concludes, MayRelease, Turned};
-ghost use Rattle.lfm_mutex.specs.calls.WakeUps.{Wakes, first_of, may_grant};
+ghost use Rattle.lfm_mutex.specs.calls.WakeUps.{first_of, may_grant};
 ghost use Rattle.lfm_table.specs.Steps.{MayBeLeft};
 ghost use Rattle.lfm_mutex.specs.calls.OpenCalls.{AtTableOf, WithinDue, WithinWeight, OwesWakeUp, FinishesAs, KeepsSeat, EndsHold};
-ghost use Rattle.lfm_mutex.specs.calls.Acts.{ActsWakingNobody};
+ghost use Rattle.lfm_mutex.specs.calls.Acts.{ActsOwing};
 
 use crate::mutex::Mutex;
 use crate::seat::Seat;
@@ -68,12 +68,11 @@ pub fn begin_and_finish<T: Kept>(
 ) -> (Turn, Option<WakeUp>)
     requires belongs { OfMutex seat.old mutex.now }
     requires keeps { is_releasing (errand_of call) ≡ false }
-    ensures acts { ActsWakingNobody seat.old seat.new }
+    ensures acts { ActsOwing mutex.now.limits.seats result.1 seat.old seat.new }
     ensures answers { Answers (errand_of call) result.0 }
     ensures turned { Turned T.follows T.fits mutex.now.limits call (sight seat.old) (sight seat.new) result.0 }
     ensures made { Made mutex.now.limits call (sight seat.old) (sight seat.new) result.0 }
     ensures bounded { MakesBesideFailures (mutex.now.limits.seats + 9) (sight seat.old) (sight seat.new) }
-    ensures wakes { Wakes mutex.now.limits.seats result.1 (sight seat.old).trail (sight seat.new).trail }
     ensures none { may_grant (errand_of call) ≡ false → result.1 ≡ None }
 {
     match begin_call(mutex, seat, call) {
@@ -92,12 +91,11 @@ pub fn begin_and_release<T: Kept>(
     requires belongs { OfMutex seat.old mutex.now }
     requires gives { is_releasing (errand_of call) ≡ true }
     requires leaves { MayRelease T.follows T.fits (sight seat.old) }
-    ensures acts { ActsWakingNobody seat.old seat.new }
+    ensures acts { ActsOwing mutex.now.limits.seats result.1 seat.old seat.new }
     ensures answers { Answers (errand_of call) result.0 }
     ensures turned { Turned T.follows T.fits mutex.now.limits call (sight seat.old) (sight seat.new) result.0 }
     ensures made { Made mutex.now.limits call (sight seat.old) (sight seat.new) result.0 }
     ensures bounded { MakesAtMost (release_steps mutex.now.limits.seats call) (sight seat.old) (sight seat.new) }
-    ensures wakes { Wakes mutex.now.limits.seats result.1 (sight seat.old).trail (sight seat.new).trail }
 {
     match begin_call(mutex, seat, call) {
         Turn::Open => finish_from_owner_store(mutex, seat),

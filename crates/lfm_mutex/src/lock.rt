@@ -4,19 +4,18 @@ ghost use Rattle.std.specs.Prelude.{◌≡◌, ◌+◌, ◌<◌};
 ghost use Rattle.lfm_protocol.specs.declared.answers.Answer.TheVariants as Answered;
 ghost use Rattle.lfm_protocol.specs.declared.answers.Call.{Call as CallNow};
 ghost use Rattle.lfm_protocol.specs.declared.answers.Turn.TheVariants.{Ended};
-ghost use Rattle.lfm_protocol.specs.declared.points.Point.TheVariants.{Rest, LockOwnerLoad};
-ghost use Rattle.lfm_protocol.specs.Limits.{max_depth};
+ghost use Rattle.lfm_protocol.specs.declared.points.Point.TheVariants.{LockOwnerLoad};
 ghost use Rattle.lfm_mutex.specs.Belongs.{Beside, OfMutex, limits_of};
 ghost use Rattle.lfm_mutex.specs.calls.FailedPushes.{MakesBesideFailures};
 ghost use Rattle.lfm_mutex.specs.calls.RunGoesOn.{RunGoesOnFrom};
 ghost use Rattle.lfm_mutex.specs.calls.Runs.{errand, locking};
 ghost use Rattle.lfm_mutex.specs.calls.Sight.{sight, Asks, LocksWaiting};
-ghost use Rattle.lfm_mutex.specs.calls.FastPath.{ComesTo};
+ghost use Rattle.lfm_mutex.specs.calls.FastPath.{ComesTo, MayAcquire, MayDeepen};
 ghost use Rattle.lfm_mutex.specs.calls.Trails.{MakesCall, LocksBy};
 ghost use Rattle.lfm_mutex.specs.calls.WakeUps.{Wakes};
 ghost use Rattle.lfm_mutex.specs.calls.Woken.{LooksAndWakesAsGranted, WakesNobody, WokenAsGranted};
 ghost use Rattle.lfm_mutex.specs.calls.OpenCalls.{AtTableOf, WithinDue, FinishesAs};
-ghost use Rattle.lfm_mutex.specs.calls.Acts.{ActsWakingNobody};
+ghost use Rattle.lfm_mutex.specs.calls.Acts.{ActsOwing};
 
 use crate::calls::{asleep, begin_and_finish, finish};
 use crate::mutex::Mutex;
@@ -120,13 +119,10 @@ impl<T: Kept> Mutex<T> {
 #[inline(always)]
 pub fn ask_without_hold<T: Kept>(mutex: &Mutex<T>, seat: &mut Seat<T>) -> (Asked, Option<WakeUp>)
     requires belongs { OfMutex seat.old mutex.now }
-    requires rests { seat.old.state.point ≡ Rest }
-    requires flat { seat.old.state.depth ≡ 0 }
-    requires charged { seat.old.state.takes < seat.old.table_seat.limits.budget }
-    ensures acts { ActsWakingNobody seat.old seat.new }
+    requires may { MayAcquire seat.old }
+    ensures acts { ActsOwing (limits_of mutex.now).seats result.1 seat.old seat.new }
     ensures made { ComesTo T.follows T.fits (limits_of mutex.now) CallNow.Lock (sight seat.old) (sight seat.new) (Ended (Answered.Asked result.0)) }
     ensures bounded { MakesBesideFailures ((limits_of mutex.now).seats + 9) (sight seat.old) (sight seat.new) }
-    ensures wakes { Wakes (limits_of mutex.now).seats result.1 (sight seat.old).trail (sight seat.new).trail }
 {
     let _budget = seat.table_seat.limits.budget;
     let table = &mutex.table;
@@ -155,13 +151,10 @@ pub fn ask_without_hold<T: Kept>(mutex: &Mutex<T>, seat: &mut Seat<T>) -> (Asked
 #[inline(always)]
 pub fn ask_with_hold<T: Kept>(mutex: &Mutex<T>, seat: &mut Seat<T>) -> (Asked, Option<WakeUp>)
     requires belongs { OfMutex seat.old mutex.now }
-    requires rests { seat.old.state.point ≡ Rest }
-    requires held { 0 < seat.old.state.depth }
-    requires room { seat.old.state.depth < max_depth }
-    ensures acts { ActsWakingNobody seat.old seat.new }
+    requires may { MayDeepen seat.old }
+    ensures acts { ActsOwing (limits_of mutex.now).seats result.1 seat.old seat.new }
     ensures made { ComesTo T.follows T.fits (limits_of mutex.now) CallNow.Lock (sight seat.old) (sight seat.new) (Ended (Answered.Asked result.0)) }
     ensures bounded { MakesBesideFailures ((limits_of mutex.now).seats + 9) (sight seat.old) (sight seat.new) }
-    ensures wakes { Wakes (limits_of mutex.now).seats result.1 (sight seat.old).trail (sight seat.new).trail }
 {
     let table = &mutex.table;
     let number = seat.table_seat.number;
@@ -239,11 +232,10 @@ fn ask_slow<T: Kept>(
     seat: &mut Seat<T>,
 ) -> (Result<Asked, Refusal>, Option<WakeUp>)
     requires belongs { OfMutex seat.old mutex.now }
-    ensures acts { ActsWakingNobody seat.old seat.new }
+    ensures acts { ActsOwing (limits_of mutex.now).seats result.1 seat.old seat.new }
     ensures asks { Asks T.follows T.fits (limits_of mutex.now).budget (sight seat.old) (sight seat.new) result.0 }
     ensures steps { MakesCall (limits_of mutex.now) (λ x. Answered.Asked x) CallNow.Lock (sight seat.old) (sight seat.new) result.0 }
     ensures bounded { MakesBesideFailures ((limits_of mutex.now).seats + 9) (sight seat.old) (sight seat.new) }
-    ensures wakes { Wakes (limits_of mutex.now).seats result.1 (sight seat.old).trail (sight seat.new).trail }
 {
     let (turn, wake_up) = begin_and_finish(mutex, seat, Call::Lock);
     match turn {

@@ -8,6 +8,7 @@ ghost use Rattle.lfm_mutex.specs.TableRuns.{
   TablesGoThroughReachedStates,
   TablesHaveARun,
   TablesOvertakeOnce,
+  TablesPushInRounds,
   TablesRunAsTheAbstractMutex,
   TablesServeInPushOrder,
   TablesServeInRounds,
@@ -27,9 +28,8 @@ pub fn tables_have_a_run<T: Kept>()
     ensures { TablesHaveARun T.follows T.fits }
 {}
 
-/// What a seat knows of its table's run is determined: it is exactly the run up to the seat's own last step or load for
-/// `owner`, or nothing if the seat has made none. If its trail has not grown between two views of it, it knows no more than
-/// before.
+/// A seat knows exactly its table's run up to its own last step or load for `owner`, or nothing if it has made none. If its
+/// trail has not grown between two views of it, it knows no more than before.
 ///
 /// Definitions: `SeatsKnowUpToTheirLastStep` in `specs/TableRuns.antt`, and `SameTrailsKnowTheSame` in
 /// `specs/calls/RunGoesOn.antt`. Proofs: `proofs/TableRuns.antt` and `proofs/runs/RunGoesOn.antt`.
@@ -53,9 +53,8 @@ pub fn tables_run_as_the_abstract_mutex<T: Kept>()
     ensures { TablesRunAsTheAbstractMutex T.follows T.fits }
 {}
 
-/// First come, first served: `queue_is_in_push_order` holds of a table's run from each moment on. Over the whole run, the
-/// stamps are 1, 2, 3 and so on, and the answers `Held Queued` are the records that left the queue, or all of these except the
-/// last.
+/// From each moment of a table's run on, `queue_is_in_push_order` holds. Over the whole run, the stamps are 1, 2, 3 and so
+/// on, and the answers `Held Queued` are the records that left the queue, or all of these except the last.
 ///
 /// Definition: `TablesServeInPushOrder` in `specs/TableRuns.antt`. Proof: `proofs/TableRuns.antt`.
 pub fn tables_serve_in_push_order<T: Kept>()
@@ -70,15 +69,23 @@ pub fn tables_overtake_once<T: Kept>()
     ensures { TablesOvertakeOnce T.follows T.fits }
 {}
 
-/// From each moment of a table's run on, `queued_seats_are_served_in_rounds` and `queued_seats_are_served_in_fair_rounds` hold. So
-/// a queued thread with k before it waits for at most k + 1 releases, and for N + 8k + 7 rounds between holds.
+/// From each moment of a table's run on, `queued_seats_are_served_in_rounds`, `queued_seats_are_served_in_fair_rounds` and
+/// `queued_seats_are_served_whatever_owners_begin` hold. So a queued thread with k before it waits for at most k + 1
+/// releases, and N + 8k + 7 rounds between holds.
 ///
 /// Definition: `TablesServeInRounds` in `specs/TableRuns.antt`. Proof: `proofs/TableRuns.antt`.
 pub fn tables_serve_in_rounds<T: Kept>()
     ensures { TablesServeInRounds T.follows T.fits }
 {}
 
-/// If k calls have ended since some moment of a table's run, at most (5N + 5)(N + k) steps of calls were made since then. The
+/// From each moment of a table's run on, `counted_seats_are_pushed_in_rounds` holds.
+///
+/// Definition: `TablesPushInRounds` in `specs/TableRuns.antt`. Proof: `proofs/TableRuns.antt`.
+pub fn tables_push_in_rounds<T: Kept>()
+    ensures { TablesPushInRounds T.follows T.fits }
+{}
+
+/// If k calls have ended since some moment of a table's run, at most (5N + 5)(N + k) steps of calls were made since. The
 /// trails record exactly these steps, and the loads for `owner`.
 ///
 /// Definition: `TablesEndCalls` in `specs/TableRuns.antt`. Proof: `proofs/TableRuns.antt`.

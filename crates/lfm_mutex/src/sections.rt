@@ -38,11 +38,11 @@ impl<T: Kept> Mutex<T> {
     ) -> Result<U, Refusal>
         requires belongs { OfMutex seat.old self.now }
         requires callable { F.IsAlwaysCallable f }
-        requires keeps { SectionKeeps T.follows T.fits (limits_of self.now) (BargesFrom T.follows T.fits self.now seat.old) (λ v u w. FnOnceReturnsAtMut F.FnOnce f v u w) }
+        requires keeps { SectionKeeps T.follows T.fits (limits_of self.now) (BargesFrom T.follows T.fits self.now seat.old) (FnOnceReturnsAtMut F.FnOnce f) }
         ensures belongs { Beside seat.old seat.new }
         ensures woken { LooksAndWakesAsGranted seat.old seat.new }
         ensures run { RunGoesOnFrom seat.old seat.new }
-        ensures section { SectionEnds T.follows T.fits (limits_of self.now) (BargesFrom T.follows T.fits self.now seat.old) (λ v u w. FnOnceReturnsAtMut F.FnOnce f v u w) (sight seat.new) result }
+        ensures section { SectionEnds T.follows T.fits (limits_of self.now) (BargesFrom T.follows T.fits self.now seat.old) (FnOnceReturnsAtMut F.FnOnce f) (sight seat.new) result }
         ensures same { StandsAs (sight seat.old) (sight seat.new) }
     {
         let _locked = self.lock_barging(rt, seat)?;
@@ -72,11 +72,11 @@ impl<T: Kept> Mutex<T> {
     ) -> Result<U, Refusal>
         requires belongs { OfMutex seat.old self.now }
         requires callable { F.IsAlwaysCallable f }
-        requires keeps { SectionKeeps T.follows T.fits (limits_of self.now) (TriesFrom T.follows T.fits self.now seat.old) (λ v u w. FnOnceReturnsAtMut F.FnOnce f v u w) }
+        requires keeps { SectionKeeps T.follows T.fits (limits_of self.now) (TriesFrom T.follows T.fits self.now seat.old) (FnOnceReturnsAtMut F.FnOnce f) }
         ensures belongs { Beside seat.old seat.new }
         ensures woken { WokenAsGranted seat.old seat.new }
         ensures run { RunGoesOnFrom seat.old seat.new }
-        ensures section { SectionEnds T.follows T.fits (limits_of self.now) (TriesFrom T.follows T.fits self.now seat.old) (λ v u w. FnOnceReturnsAtMut F.FnOnce f v u w) (sight seat.new) result }
+        ensures section { SectionEnds T.follows T.fits (limits_of self.now) (TriesFrom T.follows T.fits self.now seat.old) (FnOnceReturnsAtMut F.FnOnce f) (sight seat.new) result }
         ensures same { StandsAs (sight seat.old) (sight seat.new) }
         ensures bounded { MakesAtMost ((limits_of self.now).seats + 13) (sight seat.old) (sight seat.new) }
     {
@@ -95,7 +95,7 @@ fn change<T: Kept, U, F: FnOnce(&mut T) -> U>(seat: &mut Seat<T>, f: F) -> U
     requires holds { 0 < (sight seat.old).depth }
     requires callable { F.IsAlwaysCallable f }
     ensures acts { ActsWakingNobody seat.old seat.new }
-    ensures changes { Changes (λ v u w. FnOnceReturnsAtMut F.FnOnce f v u w) (sight seat.old) result (sight seat.new) }
+    ensures changes { Changes (FnOnceReturnsAtMut F.FnOnce f) (sight seat.old) result (sight seat.new) }
 {
     let Some(value) = seat.value_mut() else {
         unreachable!()

@@ -15,7 +15,7 @@ ghost use Rattle.lfm_mutex.specs.calls.WakeUps.{Wakes};
 ghost use Rattle.lfm_mutex.specs.calls.Sight.{sight, Sends};
 ghost use Rattle.lfm_mutex.specs.calls.Woken.{WakesNobody, WokenAsGranted};
 ghost use Rattle.lfm_mutex.specs.calls.OpenCalls.{AtTableOf, WithinDue, FinishesAs};
-ghost use Rattle.lfm_mutex.specs.calls.Acts.{ActsWakingNobody};
+ghost use Rattle.lfm_mutex.specs.calls.Acts.{ActsOwing};
 
 use crate::calls::{asleep, begin_and_finish, finish};
 use crate::mutex::Mutex;
@@ -92,10 +92,9 @@ pub fn send_awake<T: Kept>(
     requires rests { seat.old.state.point ≡ Rest }
     requires above { 0 < target }
     requires within { target ≤ seat.old.table_seat.limits.seats }
-    ensures acts { ActsWakingNobody seat.old seat.new }
+    ensures acts { ActsOwing (limits_of mutex.now).seats result.1 seat.old seat.new }
     ensures made { ComesTo T.follows T.fits (limits_of mutex.now) (CallNow.SendLock target) (sight seat.old) (sight seat.new) (send_turn result.0) }
     ensures bounded { MakesBesideFailures ((limits_of mutex.now).seats + 9) (sight seat.old) (sight seat.new) }
-    ensures wakes { Wakes (limits_of mutex.now).seats result.1 (sight seat.old).trail (sight seat.new).trail }
 {
     let table = &mutex.table;
     let state = SeatState {
@@ -236,11 +235,10 @@ fn send_slow<T: Kept>(
     target: SeatNo,
 ) -> (Result<(), Refusal>, Option<WakeUp>)
     requires belongs { OfMutex seat.old mutex.now }
-    ensures acts { ActsWakingNobody seat.old seat.new }
+    ensures acts { ActsOwing (limits_of mutex.now).seats result.1 seat.old seat.new }
     ensures sends { Sends (limits_of mutex.now).seats (sight seat.old) target (sight seat.new) result.0 }
     ensures steps { MakesCall (limits_of mutex.now) (λ x. Answered.Sent) (CallNow.SendLock target) (sight seat.old) (sight seat.new) result.0 }
     ensures bounded { MakesBesideFailures ((limits_of mutex.now).seats + 9) (sight seat.old) (sight seat.new) }
-    ensures wakes { Wakes (limits_of mutex.now).seats result.1 (sight seat.old).trail (sight seat.new).trail }
 {
     let (turn, wake_up) = begin_and_finish(mutex, seat, Call::SendLock(target.get()));
     match turn {

@@ -2,13 +2,11 @@
 //! Everything else is the slow path (`calls::finish`).
 ghost use Rattle.std.specs.Prelude.{◌≡◌, ◌<◌};
 ghost use Rattle.lfm_protocol.specs.declared.answers.Call.{Call as CallNow};
-ghost use Rattle.lfm_protocol.specs.declared.points.Point.TheVariants.{Rest};
-ghost use Rattle.lfm_protocol.specs.Limits.{max_depth};
 ghost use Rattle.lfm_mutex.specs.Belongs.{Beside, OfMutex, limits_of};
 ghost use Rattle.lfm_mutex.specs.calls.RunGoesOn.{RunGoesOnFrom};
 ghost use Rattle.lfm_mutex.specs.calls.Runs.{errand, trying, Ends};
 ghost use Rattle.lfm_mutex.specs.calls.Sight.{sight, Locks};
-ghost use Rattle.lfm_mutex.specs.calls.FastPath.{ComesTo, try_turn};
+ghost use Rattle.lfm_mutex.specs.calls.FastPath.{ComesTo, MayAcquire, MayDeepen, try_turn};
 ghost use Rattle.lfm_protocol.specs.declared.answers.Answer.TheVariants as Answered;
 ghost use Rattle.lfm_mutex.specs.calls.Trails.{MakesAtMost, MakesCall};
 ghost use Rattle.lfm_mutex.specs.calls.Woken.{WokenAsGranted};
@@ -66,9 +64,7 @@ impl<T: Kept> Mutex<T> {
 #[inline(always)]
 pub fn try_without_hold<T: Kept>(mutex: &Mutex<T>, seat: &mut Seat<T>) -> Result<Locked, Refusal>
     requires belongs { OfMutex seat.old mutex.now }
-    requires rests { seat.old.state.point ≡ Rest }
-    requires flat { seat.old.state.depth ≡ 0 }
-    requires charged { seat.old.state.takes < seat.old.table_seat.limits.budget }
+    requires may { MayAcquire seat.old }
     ensures acts { ActsWakingNobody seat.old seat.new }
     ensures made { ComesTo T.follows T.fits (limits_of mutex.now) CallNow.TryLock (sight seat.old) (sight seat.new) (try_turn result) }
 {
@@ -106,9 +102,7 @@ pub fn try_without_hold<T: Kept>(mutex: &Mutex<T>, seat: &mut Seat<T>) -> Result
 #[inline(always)]
 pub fn try_with_hold<T: Kept>(mutex: &Mutex<T>, seat: &mut Seat<T>) -> Result<Locked, Refusal>
     requires belongs { OfMutex seat.old mutex.now }
-    requires rests { seat.old.state.point ≡ Rest }
-    requires held { 0 < seat.old.state.depth }
-    requires room { seat.old.state.depth < max_depth }
+    requires may { MayDeepen seat.old }
     ensures acts { ActsWakingNobody seat.old seat.new }
     ensures made { ComesTo T.follows T.fits (limits_of mutex.now) CallNow.TryLock (sight seat.old) (sight seat.new) (try_turn result) }
 {

@@ -12,7 +12,7 @@ ghost use Rattle.lfm_mutex.specs.calls.FastPath.{ComesTo};
 ghost use Rattle.lfm_mutex.specs.calls.Trails.{MakesAtMost, MakesCall};
 ghost use Rattle.lfm_mutex.specs.calls.WakeUps.{Wakes};
 ghost use Rattle.lfm_mutex.specs.calls.Woken.{WakesNobody, WokenAsGranted};
-ghost use Rattle.lfm_mutex.specs.calls.Acts.{ActsWakingNobody};
+ghost use Rattle.lfm_mutex.specs.calls.Acts.{ActsOwing, ActsWakingNobody};
 
 use crate::calls::{asleep, begin_and_release};
 use crate::mutex::Mutex;
@@ -87,10 +87,9 @@ pub fn unlock_last_hold<T: Kept>(mutex: &Mutex<T>, seat: &mut Seat<T>) -> (Unloc
     requires rests { seat.old.state.point ≡ Rest }
     requires one { seat.old.state.depth ≡ 1 }
     requires leaves { MayLeave T.follows T.fits (sight seat.old) }
-    ensures acts { ActsWakingNobody seat.old seat.new }
+    ensures acts { ActsOwing (limits_of mutex.now).seats result.1 seat.old seat.new }
     ensures made { ComesTo T.follows T.fits (limits_of mutex.now) CallNow.Unlock (sight seat.old) (sight seat.new) (Ended (Answered.Unlocked result.0)) }
     ensures bounded { MakesAtMost ((limits_of mutex.now).seats + 7) (sight seat.old) (sight seat.new) }
-    ensures wakes { Wakes (limits_of mutex.now).seats result.1 (sight seat.old).trail (sight seat.new).trail }
 {
     let table = &mutex.table;
     let mut state = SeatState {
@@ -134,11 +133,10 @@ fn unlock_slow<T: Kept>(
 ) -> (Result<Unlocked, Refusal>, Option<WakeUp>)
     requires belongs { OfMutex seat.old mutex.now }
     requires leaves { MayRelease T.follows T.fits (sight seat.old) }
-    ensures acts { ActsWakingNobody seat.old seat.new }
+    ensures acts { ActsOwing (limits_of mutex.now).seats result.1 seat.old seat.new }
     ensures unlocks { Unlocks (sight seat.old) (sight seat.new) result.0 }
     ensures steps { MakesCall (limits_of mutex.now) (λ x. Answered.Unlocked x) CallNow.Unlock (sight seat.old) (sight seat.new) result.0 }
     ensures bounded { MakesAtMost ((limits_of mutex.now).seats + 7) (sight seat.old) (sight seat.new) }
-    ensures wakes { Wakes (limits_of mutex.now).seats result.1 (sight seat.old).trail (sight seat.new).trail }
 {
     let (turn, wake_up) = begin_and_release(mutex, seat, Call::Unlock);
     match turn {

@@ -12,7 +12,7 @@ ghost use Rattle.lfm_mutex.specs.calls.Trails.{MakesCall, MakesAtMost};
 ghost use Rattle.lfm_mutex.specs.calls.WakeUps.{Wakes};
 ghost use Rattle.lfm_mutex.specs.calls.Sight.{sight, MayLeave, MayRelease, StartsWait};
 ghost use Rattle.lfm_mutex.specs.calls.Woken.{WakesNobody, WokenAsGranted};
-ghost use Rattle.lfm_mutex.specs.calls.Acts.{ActsWakingNobody};
+ghost use Rattle.lfm_mutex.specs.calls.Acts.{ActsOwing};
 
 use crate::calls::{asleep, begin_and_release};
 use crate::mutex::Mutex;
@@ -86,10 +86,9 @@ pub fn wait_last_hold<T: Kept>(mutex: &Mutex<T>, seat: &mut Seat<T>) -> (Unlocke
     requires one { seat.old.state.depth ≡ 1 }
     requires charged { seat.old.state.takes < seat.old.table_seat.limits.budget }
     requires leaves { MayLeave T.follows T.fits (sight seat.old) }
-    ensures acts { ActsWakingNobody seat.old seat.new }
+    ensures acts { ActsOwing (limits_of mutex.now).seats result.1 seat.old seat.new }
     ensures made { ComesTo T.follows T.fits (limits_of mutex.now) CallNow.StartWait (sight seat.old) (sight seat.new) (Ended (Answered.Waiting result.0)) }
     ensures bounded { MakesAtMost ((limits_of mutex.now).seats + 8) (sight seat.old) (sight seat.new) }
-    ensures wakes { Wakes (limits_of mutex.now).seats result.1 (sight seat.old).trail (sight seat.new).trail }
 {
     let _budget = seat.table_seat.limits.budget;
     let table = &mutex.table;
@@ -125,11 +124,10 @@ fn wait_slow<T: Kept>(
 ) -> (Result<Unlocked, Refusal>, Option<WakeUp>)
     requires belongs { OfMutex seat.old mutex.now }
     requires leaves { MayRelease T.follows T.fits (sight seat.old) }
-    ensures acts { ActsWakingNobody seat.old seat.new }
+    ensures acts { ActsOwing (limits_of mutex.now).seats result.1 seat.old seat.new }
     ensures waits { StartsWait (limits_of mutex.now).budget (sight seat.old) (sight seat.new) result.0 }
     ensures steps { MakesCall (limits_of mutex.now) (λ x. Answered.Waiting x) CallNow.StartWait (sight seat.old) (sight seat.new) result.0 }
     ensures bounded { MakesAtMost ((limits_of mutex.now).seats + 8) (sight seat.old) (sight seat.new) }
-    ensures wakes { Wakes (limits_of mutex.now).seats result.1 (sight seat.old).trail (sight seat.new).trail }
 {
     let (turn, wake_up) = begin_and_release(mutex, seat, Call::StartWait);
     match turn {

@@ -8,7 +8,6 @@ pub mod kept;
 pub mod laws;
 pub mod layout;
 pub mod moving_box;
-pub mod off_trail;
 pub mod operations;
 pub mod rule;
 pub mod seat_view;
@@ -21,7 +20,7 @@ mod value_mut;
 pub mod wake_up;
 
 pub use kept::Kept;
-pub use off_trail::OffTrail;
+pub use shared_table::off_trail::OffTrail;
 pub use shared_table::parking;
 pub use table_seat::TableSeat;
 pub use wake_up::WakeUp;

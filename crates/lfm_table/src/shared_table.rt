@@ -3,6 +3,7 @@
 //! - `operate` makes the step of a call, and its contract adds the step to the seat's trail;
 //! - `looks` loads a word outside the steps, and adds a load for `owner` to the trail;
 //! - `parking` lets a thread sleep on a wake word, and wakes it;
+//! - `off_trail` records the looks, and the seats that were woken;
 //! - `opening` and `closing` split seats off and join them, which loads a word;
 //! - `slot_exchange` touches no word.
 ghost use Rattle.std.specs.Prelude.{◌≡◌, ◌+◌, ◌-◌, ◌%◌, ◌^◌, ◌<◌, ◌==◌, bit_and};
@@ -13,6 +14,7 @@ ghost use Rattle.lfm_table.specs.Rule.{Held};
 
 pub mod closing;
 pub mod looks;
+pub mod off_trail;
 pub mod opening;
 pub(crate) mod operate;
 pub mod parking;

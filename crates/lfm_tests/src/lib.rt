@@ -15,6 +15,8 @@ mod refused_memory;
 #[cfg(test)]
 mod replaying;
 #[cfg(test)]
+mod rounds;
+#[cfg(test)]
 mod running;
 #[cfg(test)]
 mod scripts;

@@ -12,7 +12,11 @@
 //! COUNT.lock().set(count.get() + 1);
 //! assert_eq!(count.get(), 1);
 //! ```
+mod condvar;
+
+pub use condvar::Condvar;
 use ligdrosa::Refusal;
+pub use ligdrosa::WaitTimeoutResult;
 use lock_api::{GetThreadId, GuardNoSend, RawMutexTimed};
 use std::{
     mem,
@@ -21,8 +25,10 @@ use std::{
     time::{Duration, Instant},
 };
 
-/// A [`ligdrosa::Mutex`] without a value, whose guards are forgotten. A call that is refused panics, except a try of a mutex
-/// that is busy or that the thread holds. A lock by a thread that holds panics too.
+/// A [`ligdrosa::Mutex`] without a value, whose guards are forgotten. A lock that is refused panics, also by a thread that
+/// holds. A `try_lock` that is refused is false, for whatever cause: if all seats are taken, the thread can't see whether
+/// the mutex is held, so `is_locked` is true and `Debug` shows it as locked. A try with a time limit is false if the time is
+/// over, or at once if the thread holds. If it is refused for another cause, it panics.
 pub struct RawMutex(ligdrosa::Mutex<()>);
 
 /// A mutex like parking_lot's.
@@ -30,12 +36,19 @@ pub type Mutex<T> = lock_api::Mutex<RawMutex, T>;
 /// A mutex that a thread may lock again while it holds, and whose guards give `&T`.
 pub type ReentrantMutex<T> = lock_api::ReentrantMutex<RawMutex, ThreadId, T>;
 
+/// A guard of a [`Mutex`].
+pub type MutexGuard<'a, T> = lock_api::MutexGuard<'a, RawMutex, T>;
+
+fn panic_as_refused(refusal: Refusal) -> ! {
+    panic!("ligdrosa refuses a call: {refusal}")
+}
+
 /// Whether a call acquired the mutex.
 fn has_acquired(call: Result<ligdrosa::MutexGuard<'_, ()>, Refusal>) -> bool {
     match call.map(mem::forget) {
         Ok(()) => true,
         Err(Refusal::Busy | Refusal::Holding) => false,
-        Err(refusal) => panic!("ligdrosa refuses a call: {refusal}"),
+        Err(refusal) => panic_as_refused(refusal),
     }
 }
 
@@ -53,7 +66,7 @@ unsafe impl lock_api::RawMutex for RawMutex {
     }
 
     fn try_lock(&self) -> bool {
-        has_acquired(self.0.try_lock())
+        self.0.try_lock().map(mem::forget).is_ok()
     }
 
     unsafe fn unlock(&self) {

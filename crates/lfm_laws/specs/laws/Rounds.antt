@@ -40,6 +40,15 @@ GoesOnIn c s (e ∷ later) = GoesOnBy c s e ⊎ GoesOnIn (happens c e).core s la
 abbrev pub IsRound : Core → List Event → Type 0
 IsRound c events = (s : ℕ) → CanGoOn c s → GoesOnIn c s events
 
+-- these events contain n rounds, one after another, whether or not a seat owns
+abbrev pub HasRounds : ℕ → Core → List Event → Type 0
+HasRounds zero c events = ⊤
+HasRounds (suc n) c events =
+    (before : List Event) × (round : List Event) × (later : List Event)
+    × (events ≡ before ++ (round ++ later))
+    × IsRound (run_of c before) round
+    × HasRounds n (run_of (run_of c before) round) later
+
 -- these events contain n rounds, one after another, each of which begins while no seat owns
 abbrev pub HasUnownedRounds : ℕ → Core → List Event → Type 0
 HasUnownedRounds zero c events = ⊤

@@ -10,13 +10,10 @@ use native.Mathlib.Decide.{ℕ_discrete}
 use Rattle.lfm_table.specs.Table.{State, Me, Final, Seen}
 use Rattle.lfm_table.proofs.Lists.{at_last, at_longer, at_index}
 use Rattle.lfm_protocol.specs.declared.answers.Call.{Call}
-use Rattle.lfm_protocol.specs.declared.answers.Call.TheVariants.{Receive}
 use Rattle.lfm_protocol.specs.declared.limits.Limits.{Limits}
 use Rattle.lfm_protocol.specs.declared.points.Point.{Point}
-use Rattle.lfm_protocol.specs.declared.points.Point.TheVariants.{Rest, Asleep}
-use Rattle.lfm_protocol.specs.declared.points.Sleeper.{Sleeper}
+use Rattle.lfm_protocol.specs.declared.points.Point.TheVariants.{Rest}
 use Rattle.lfm_protocol.specs.declared.seats.SeatState.{SeatState}
-use Rattle.lfm_protocol.specs.Begin as Begin
 use Rattle.lfm_laws.specs.table.Carried.{carries_value}
 use Rattle.lfm_protocol.specs.Core.{limits}
 use Rattle.lfm_protocol.specs.Limits.{are_in_limits}
@@ -38,6 +35,7 @@ use Rattle.lfm_table.specs.declared.seat_view.View.{View}
 use Rattle.lfm_table.specs.declared.rule.Moving.{Moving}
 use Rattle.lfm_mutex.specs.Close.{Hinders, Hindered, named, AreFree, IsFree}
 use Rattle.lfm_mutex.proofs.ends.FreeWords.{free_core}
+use Rattle.lfm_mutex.proofs.runs.CallStarts.{begin_rests}
 use Rattle.lfm_table.specs.Reach.{Reached}
 use Rattle.lfm_mutex.specs.calls.Sight.{Sight, is_asleep, by_depth}
 use Rattle.lfm_table.specs.Rule.{sum_over, retired, retired_at, in_hand, Held, NoneEnded, LeftIn, joined_of}
@@ -60,18 +58,9 @@ total_two f (x ∷ xs) (suc i) (suc j) a b e h n = let t = total_two f xs i j a 
 
 -- A seat that rests after the start of a call rested before it
 
-asleep_rests : (x : SeatState) (sleeper : Sleeper) (call : Call) → x.point ≡ Asleep sleeper → (Begin.begin_asleep x sleeper call).seat.point ≡ Rest → x.point ≡ Rest
-asleep_rests x sleeper Receive at e = absurd (cc)
-asleep_rests x sleeper _ at e = e
-
-begin_rests : (x : SeatState) (l : Limits) (call : Call) (q : Point) → x.point ≡ q → (Begin.begin_at x l call q).seat.point ≡ Rest → x.point ≡ Rest
-begin_rests x l call Rest at e = at
-begin_rests x l call (Asleep sleeper) at e = asleep_rests x sleeper call at e
-begin_rests x l call _ at e = e
-
 begun_rests : (x : SeatState) (l : Limits) (calls : List Call) → (begun x l calls).point ≡ Rest → x.point ≡ Rest
 begun_rests x l [] e = e
-begun_rests x l (call ∷ calls) e = begun_rests x l calls (begin_rests (begun x l calls) l call (begun x l calls).point refl e)
+begun_rests x l (call ∷ calls) e = begun_rests x l calls (begin_rests (begun x l calls) l call e)
 
 pub became_rests : (x : SeatState) (l : Limits) (p : SeatState) → Became x l p → p.point ≡ Rest → x.point ≡ Rest
 became_rests x l p b e = begun_rests x l (calls_to x p) (ap (λ y. y.point) (sym b.leads) ∙ e)

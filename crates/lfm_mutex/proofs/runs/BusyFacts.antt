@@ -14,7 +14,7 @@ use Rattle.lfm_table.specs.Rule.{seen}
 use Rattle.lfm_model.specs.declared.refusals.Refusal.{Refusal}
 use Rattle.lfm_model.specs.declared.answers.Locked.{Locked}
 use Rattle.lfm_protocol.specs.After.{deepens}
-use Rattle.lfm_mutex.proofs.runs.SightFacts.{not_s, is_s}
+use Rattle.lfm_mutex.proofs.runs.StepResults.{not_s, is_s}
 use Rattle.lfm_mutex.specs.calls.Sight.{BusySeen}
 use Rattle.lfm_protocol.specs.declared.answers.Answer.{Answer}
 use Rattle.lfm_protocol.specs.declared.answers.Turn.{Turn}

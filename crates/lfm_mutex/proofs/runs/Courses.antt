@@ -26,7 +26,9 @@ use Rattle.lfm_mutex.specs.calls.FastPath.{Course, ComesTo}
 use Rattle.lfm_mutex.proofs.runs.MadeCalls.{makes}
 use Rattle.lfm_mutex.proofs.runs.Running.{called_at_once, ran_one, last_one, ran_none, ran_more, ran_join, last_more, holds_now}
 use Rattle.lfm_mutex.proofs.runs.FastPathPoints.{event_there}
-use Rattle.lfm_mutex.proofs.runs.Sights.{turned_at_once, first_concludes, turned_by_release, concludes_now, concludes_join, stays_now, stays_join, stays_none, begun, turned_by_steps}
+use Rattle.lfm_mutex.proofs.runs.StartSights.{turned_at_once, begun}
+use Rattle.lfm_mutex.proofs.runs.Conclusions.{first_concludes, concludes_now, concludes_join, stays_now, stays_join, stays_none}
+use Rattle.lfm_mutex.proofs.runs.EndSights.{turned_by_release, turned_by_steps}
 
 none_held : (how : How) → ◌≡◌ {A = Option How} None (Some how) → ⊥
 none_held how e = cc
@@ -86,6 +88,17 @@ module _ {T : Type 0} (follows : ℕ → T → T → Type 0) (suits : T → ℕ 
 
 -- A release
 
+-- the whole contract of a release, from what its steps add up to
+pub released : {T : Type 0} (follows : ℕ → T → T → Type 0) (suits : T → ℕ → Type 0) (s n : ℕ) (l all : Limits) (call : Call) (p p0 q : SeatState) (v w : View T) (a b : Option (Moving T)) (turn : Turn) → l ≡ all → n ≡ s → is_releasing (errand_of call) ≡ true
+    → Begin.begin p l call ≡ opens p0 → Ends (errand_of call) turn → Concludes (record p0 { depth = 0 }) turn q → last_hold w ≡ (value_in a, v.found, v.limits, v.holds_ended + 1) → Ran s (opens p0) v turn q w
+    → ComesTo follows suits all call (sight_of s p v (value_in a)) (sight_of n q w (value_in b)) turn
+released follows suits s n l all call p p0 q v w a b turn same named gives begins ends concludes left ran =
+    subst (λ (k : Limits). ComesTo follows suits k call (sight_of s p v (value_in a)) (sight_of n q w (value_in b)) turn) same (record {
+      turned = turned_by_release follows suits s n l p p0 q v w a b named call turn gives
+          (begun follows suits s l v (value_in a) p p0 call (ap (λ (z : Stepped). z.turn) (sym begins)) (ap (λ (z : Stepped). z.seat) (sym begins))) ends concludes left ran;
+      made = makes l call s n p q v w (value_in a) (value_in b) turn named (subst (λ (z : Stepped). CalledBy z.turn s (errand_of call) z.seat v turn q w) (sym begins) (ends, ran));
+    })
+
 module _ {T : Type 0} (follows : ℕ → T → T → Type 0) (suits : T → ℕ → Type 0) (s words id words' id' n k : ℕ) (l : Limits) (p0 p1 : SeatState) (m0 m1 : Me (Option (Moving T)) (View T)) (a a1 : Option (Moving T)) (fit : Fit s words id l p0 m0 a) (u : Releaser) (at : p0.point ≡ ReleaseOwnerStore u)
     (did : MadeStep follows suits s words' id' l p0 k m0 a m1 a1) (is : stepped_by p0 s k (oldest_in a1) ≡ opens p1) where
   first : Event follows suits p0 a m0.0 Open p1 a1 m1.0
@@ -95,23 +108,17 @@ module _ {T : Type 0} (follows : ℕ → T → T → Type 0) (suits : T → ℕ 
   pub gives_up : (call : Call) (all : Limits) (p q : SeatState) (turn : Turn) (b : Option (Moving T)) (w : View T) → is_releasing (errand_of call) ≡ true → l ≡ all → n ≡ s → Begin.begin p l call ≡ opens p0 → Ends (errand_of call) turn → Course follows suits s p1 a1 m1.0 turn q b w
       → ComesTo follows suits all call (sight_of s p m0.0 (value_in a)) (sight_of n q w (value_in b)) turn
   gives_up call all p q turn b w gives same named begins ends so =
-      let ran : Ran s (opens p0) m0.0 turn q w = ran_join s p0 p1 q m0.0 m1.0 w turn (ran_one follows suits s p0 p1 m0.0 m1.0 a a1 Open fit.seated.named first) so.ran in
-      let left : last_hold w ≡ (value_in a, m0.0.found, m0.0.limits, m0.0.holds_ended + 1) = so.last ∙ last_one follows suits s p0 p1 m0.0 m1.0 a a1 Open fit.seated.named first u at in
-      subst (λ (k : Limits). ComesTo follows suits k call (sight_of s p m0.0 (value_in a)) (sight_of n q w (value_in b)) turn) same (record {
-        turned = turned_by_release follows suits s n l p p0 q m0.0 w a b named call turn gives
-            (begun follows suits s l m0.0 (value_in a) p p0 call (ap (λ (z : Stepped). z.turn) (sym begins)) (ap (λ (z : Stepped). z.seat) (sym begins)))
-            ends (concludes_join (record p0 { depth = 0 }) p1 q turn (first_concludes follows suits p0 p1 m0.0 m1.0 a a1 Open first u at) so.concludes) left ran;
-        made = makes l call s n p q m0.0 w (value_in a) (value_in b) turn named (subst (λ (z : Stepped). CalledBy z.turn s (errand_of call) z.seat m0.0 turn q w) (sym begins) (ends, ran));
-      })
+      released follows suits s n l all call p p0 q m0.0 w a b turn same named gives begins ends (concludes_join (record p0 { depth = 0 }) p1 q turn (first_concludes follows suits p0 p1 m0.0 m1.0 a a1 Open first u at) so.concludes)
+      (so.last ∙ last_one follows suits s p0 p1 m0.0 m1.0 a a1 Open fit.seated.named first u at) (ran_join s p0 p1 q m0.0 m1.0 w turn (ran_one follows suits s p0 p1 m0.0 m1.0 a a1 Open fit.seated.named first) so.ran)
 
--- An unlock that makes no step
+-- A call that makes no step
 
-pub unlocks_once : {T : Type 0} (follows : ℕ → T → T → Type 0) (suits : T → ℕ → Type 0) (s : ℕ) (l all : Limits) (p q : SeatState) (v : View T) (a : Option (Moving T)) (turn : Turn) → l ≡ all → turn ≢ Open → Begin.begin p l Call.Unlock ≡ record { seat = q; turn = turn }
-    → ComesTo follows suits all Call.Unlock (sight_of s p v (value_in a)) (sight_of s q v (value_in a)) turn
-unlocks_once follows suits s l all p q v a turn same some begins =
-    let t : turn ≡ (Begin.begin p l Call.Unlock).turn = ap (λ (z : Stepped). z.turn) (sym begins) in
-    let x : q ≡ (Begin.begin p l Call.Unlock).seat = ap (λ (z : Stepped). z.seat) (sym begins) in
-    subst (λ (k : Limits). ComesTo follows suits k Call.Unlock (sight_of s p v (value_in a)) (sight_of s q v (value_in a)) turn) same (record {
-      turned = turned_at_once follows suits s l v (value_in a) p q Call.Unlock turn some t x;
-      made = makes l Call.Unlock s s p q v v (value_in a) (value_in a) turn refl (called_at_once s l Call.Unlock p q v v turn some t x refl).0;
+pub ends_at_once : {T : Type 0} (follows : ℕ → T → T → Type 0) (suits : T → ℕ → Type 0) (s : ℕ) (l all : Limits) (call : Call) (p q : SeatState) (v : View T) (a : Option (Moving T)) (turn : Turn) → l ≡ all → turn ≢ Open → Begin.begin p l call ≡ record { seat = q; turn = turn }
+    → ComesTo follows suits all call (sight_of s p v (value_in a)) (sight_of s q v (value_in a)) turn
+ends_at_once follows suits s l all call p q v a turn same some begins =
+    let t : turn ≡ (Begin.begin p l call).turn = ap (λ (z : Stepped). z.turn) (sym begins) in
+    let x : q ≡ (Begin.begin p l call).seat = ap (λ (z : Stepped). z.seat) (sym begins) in
+    subst (λ (k : Limits). ComesTo follows suits k call (sight_of s p v (value_in a)) (sight_of s q v (value_in a)) turn) same (record {
+      turned = turned_at_once follows suits s l v (value_in a) p q call turn some t x;
+      made = makes l call s s p q v v (value_in a) (value_in a) turn refl (called_at_once s l call p q v v turn some t x refl).0;
     })

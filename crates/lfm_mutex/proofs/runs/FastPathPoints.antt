@@ -1,6 +1,6 @@
 -- The seat's own methods at the points of the fast paths, as equations.
-use Rattle.std.proofs.Common.{◌≡◌, ◌≢◌, ℕ, ◌+◌, ◌-◌, ◌<◌, ◌≤◌, if◌then◌else◌, nat_eq, nat_lt, sym, refl, ap, ◌∙◌, subst, arith, tests, Option}
-use Rattle.std.specs.Prelude.{Bool, true, false}
+use Rattle.std.proofs.Common.{◌≡◌, ◌≢◌, ℕ, ◌+◌, ◌-◌, ◌<◌, ◌≤◌, nat_eq, nat_lt, sym, refl, ap, ◌∙◌, subst, arith, tests, Option}
+use Rattle.std.specs.Prelude.{true, false}
 use Rattle.std.proofs.lemmas.Bool.{ne_eqb, eq-eqb, false≢true, not-true, not-false}
 use Rattle.lfm_table.specs.Table.{Me}
 use Rattle.lfm_model.specs.declared.answers.How.{How}
@@ -19,9 +19,6 @@ use Rattle.lfm_protocol.specs.declared.answers.Why.{Why}
 use Rattle.lfm_model.specs.declared.refusals.Refusal.{Refusal}
 use Rattle.lfm_model.specs.declared.answers.Locked.{Locked}
 use Rattle.lfm_model.specs.declared.answers.Unlocked.{Unlocked}
-use Rattle.lfm_protocol.specs.After.{busy}
-use Rattle.lfm_protocol.specs.Place.{carries}
-use Rattle.lfm_laws.specs.table.Carried.{carries_value}
 use Rattle.lfm_protocol.specs.declared.seats.SeatState.{SeatState}
 use Rattle.lfm_protocol.specs.Limits.{max_depth}
 use Rattle.lfm_protocol.specs.Begin as Begin
@@ -93,9 +90,6 @@ begins_still p l rests deep =
 
 -- Steps
 
-pub held_carries : (d t ps : ℕ) (q : Point) → 0 < d → carries_value (made_of d t ps q) ≡ true
-held_carries d t ps q held = let k = ne_eqb d 0 (λ e. omega (arith, e, held)) in rw k refl
-
 pub owned : (d t ps s n : ℕ) (o : Option Record) → n ≡ s → stepped_by (made_of d t ps LockOwnerLoad) s n o ≡ opens (made_of d t ps LockCountSubtract)
 owned d t ps s n o e = let h = eq-eqb n s e in rw h refl
 
@@ -114,21 +108,11 @@ try_owned d t ps s n o e = let h = eq-eqb n s e in rw h refl
 pub try_not_owned : (d t ps s n : ℕ) (o : Option Record) → n ≢ s → stepped_by (made_of d t ps TryOwnerLoad) s n o ≡ opens (made_of d t ps TryHandoffLoad)
 try_not_owned d t ps s n o e = let h = ne_eqb n s e in rw h refl
 
-pub try_idles : (t ps s n : ℕ) (o : Option Record) → n ≢ s → carries_value (stepped_by (made_of 0 t ps TryOwnerLoad) s n o).seat ≡ false
-try_idles t ps s n o e = let h = ne_eqb n s e in rw h refl
-
 pub unposted : (d t ps s n : ℕ) (o : Option Record) → is_posted_word n ≡ false → stepped_by (made_of d t ps TryHandoffLoad) s n o ≡ record { seat = made_of d (t - 1) ps Rest; turn = Refused (Why.By Refusal.Busy) }
 unposted d t ps s n o e = let h = not-false (nat_eq (handoff_of n).seat 0) e in rw h refl
 
 pub posted : (d t ps s n : ℕ) (o : Option Record) → is_posted_word n ≡ true → stepped_by (made_of d t ps TryHandoffLoad) s n o ≡ opens (made_of d t ps (TryHandoffExchange (handoff_of n)))
 posted d t ps s n o e = let h = not-true (nat_eq (handoff_of n).seat 0) e in rw h refl
-
-handoff_idles_if : (b : Bool) (t ps : ℕ) (q : Point) → carries q ≡ false → carries_value (if b then busy (made_of 0 t ps TryHandoffLoad) else Begin.goes_on (made_of 0 t ps TryHandoffLoad) q).seat ≡ false
-handoff_idles_if true t ps q e = refl
-handoff_idles_if false t ps q e = e
-
-pub handoff_idles : (t ps s n : ℕ) (o : Option Record) → carries_value (stepped_by (made_of 0 t ps TryHandoffLoad) s n o).seat ≡ false
-handoff_idles t ps s n o = handoff_idles_if (nat_eq (handoff_of n).seat 0) t ps (TryHandoffExchange (handoff_of n)) refl
 
 pub added_none : (d t ps s n : ℕ) (o : Option Record) → n ≡ 0 → stepped_by (made_of d t ps LockCountAdd) s n o ≡ opens (made_of d t ps (EnterOwnerStore Entrant.Locker How.Free))
 added_none d t ps s n o e = rw e refl

@@ -1,8 +1,7 @@
 -- The grant of an unlock is its last step, and its answer names the seat.
-use Rattle.std.proofs.Common.{◌≡◌, ℕ, Bool, true, false, Option, Some, None, Ok, Err, nat_eq, refl, sym, ap, ◌∙◌, subst, if◌then◌else◌, List, [], ◌∷◌, ◌++◌, append-nil}
+use Rattle.std.proofs.Common.{◌≡◌, ℕ, Option, Some, None, Ok, Err, nat_eq, refl, sym, ap, ◌∙◌, subst, List, [], ◌∷◌, ◌++◌, append-nil}
 use Rattle.std.proofs.lemmas.List.{append_cancel_left}
 use Rattle.lfm_model.specs.declared.answers.Unlocked.{Unlocked}
-use Rattle.lfm_model.specs.declared.refusals.Refusal.{Refusal}
 use Rattle.lfm_words.specs.declared.pop_lists.Record.{Record}
 use Rattle.lfm_protocol.specs.declared.answers.Answer.{Answer}
 use Rattle.lfm_protocol.specs.declared.answers.Call.{Call}
@@ -13,12 +12,12 @@ use Rattle.lfm_protocol.specs.declared.limits.Limits.{Limits}
 use Rattle.lfm_protocol.specs.declared.points.Carrier.{Carrier}
 use Rattle.lfm_protocol.specs.declared.points.Entrant.{Entrant}
 use Rattle.lfm_protocol.specs.declared.points.Point.{Point}
-use Rattle.lfm_protocol.specs.declared.points.Point.TheVariants.{Rest, PushLoad, LinkStore, PushExchange, PushedHandoffLoad, PushedHandoffExchange, ReleaseOwnerStore, ReleaseCountSubtract, ReleaseHandoffStore, ReleasePushRecheck, ReleaseHandoffExchange, TakeClearHead, TakeLinkLoad, GrantWakeStore, EnterOwnerStore}
+use Rattle.lfm_protocol.specs.declared.points.Point.TheVariants.{PushLoad, LinkStore, PushExchange, PushedHandoffLoad, PushedHandoffExchange, ReleaseOwnerStore, ReleaseCountSubtract, ReleaseHandoffStore, ReleasePushRecheck, ReleaseHandoffExchange, TakeClearHead, TakeLinkLoad, GrantWakeStore, EnterOwnerStore}
 use Rattle.lfm_protocol.specs.declared.points.Pusher.{Pusher}
 use Rattle.lfm_protocol.specs.declared.points.Releaser.TheVariants.{Unlocker}
 use Rattle.lfm_protocol.specs.declared.seats.SeatState.{SeatState}
 use Rattle.lfm_protocol.specs.After.{same_handoff, take}
-use Rattle.lfm_protocol.specs.Begin.{Stepped, begin, begin_at, goes_on, refuses}
+use Rattle.lfm_protocol.specs.Begin.{Stepped, begin, goes_on}
 use Rattle.lfm_protocol.specs.Points.{kind}
 use Rattle.lfm_laws.specs.table.Words.{stepped_by, handoff_of, link_of}
 use Rattle.lfm_table.specs.declared.seat_view.Seen.{Seen}
@@ -28,7 +27,9 @@ use Rattle.lfm_mutex.specs.calls.Granted.{granted_of, GrantsAreTold, WakeUpsAreT
 use Rattle.lfm_mutex.specs.calls.Runs.{releasing, errand, IsTurn, end_of, trail_of}
 use Rattle.lfm_mutex.specs.calls.Trails.{CallEnds}
 use Rattle.lfm_mutex.specs.calls.WakeUps.{as_list, grants_of}
-use Rattle.lfm_mutex.proofs.runs.RunFacts.{open_point, turns_step}
+use Rattle.lfm_mutex.proofs.runs.StepResults.{open_point, turns_step}
+use Rattle.lfm_mutex.proofs.runs.CallStarts.{start_at}
+use Rattle.lfm_mutex.proofs.runs.Tests.{if_both}
 use Rattle.lfm_mutex.proofs.runs.ShortCalls.{idle_run, idle_step}
 use Rattle.lfm_mutex.proofs.runs.WakeUps.{grants_join}
 
@@ -43,17 +44,16 @@ Tells g Open q = g ≡ None
 Tells g (Ended answer) q = (g ≡ granted_in (Ended answer)) × (kind q ≡ None)
 Tells g (Refused why) q = ⊥
 
-tells_if : (g : Option ℕ) (b : Bool) (u v : Stepped) → Tells g u.turn u.seat.point → Tells g v.turn v.seat.point → Tells g (if b then u else v).turn (if b then u else v).seat.point
-tells_if g true u v first second = first
-tells_if g false u v first second = second
+abbrev TellsNone : Stepped → Type 0
+TellsNone st = Tells None st.turn st.seat.point
 
 tells_at : (d t ps s n : ℕ) (o : Option Record) (q : Point) → errand q ≡ releasing Unlocker → let st = stepped_by (made_of d t ps q) s n o in Tells (granted_at q) st.turn st.seat.point
 tells_at d t ps s n o (ReleaseOwnerStore r) is = refl
-tells_at d t ps s n o (ReleaseCountSubtract Unlocker) is = tells_if None (nat_eq n 1) _ (goes_on (made_of d t ps (ReleaseCountSubtract Unlocker)) (take (Carrier.Releaser Unlocker) s o)) (refl, refl) refl
+tells_at d t ps s n o (ReleaseCountSubtract Unlocker) is = if_both TellsNone (nat_eq n 1) _ (goes_on (made_of d t ps (ReleaseCountSubtract Unlocker)) (take (Carrier.Releaser Unlocker) s o)) (refl, refl) refl
 tells_at d t ps s n o (ReleaseHandoffStore r) is = refl
-tells_at d t ps s n o (ReleasePushRecheck Unlocker) is = tells_if None (nat_eq (link_of n).next 0) _ (goes_on (made_of d t ps (ReleasePushRecheck Unlocker)) (ReleaseHandoffExchange Unlocker)) (refl, refl) refl
+tells_at d t ps s n o (ReleasePushRecheck Unlocker) is = if_both TellsNone (nat_eq (link_of n).next 0) _ (goes_on (made_of d t ps (ReleasePushRecheck Unlocker)) (ReleaseHandoffExchange Unlocker)) (refl, refl) refl
 tells_at d t ps s n o (ReleaseHandoffExchange Unlocker) is =
-    tells_if None (same_handoff (handoff_of n) (record { seat = s; post = ps })) (goes_on (made_of d t ps (ReleaseHandoffExchange Unlocker)) (take (Carrier.Reclaimer Unlocker) s o)) _ refl (refl, refl)
+    if_both TellsNone (same_handoff (handoff_of n) (record { seat = s; post = ps })) (goes_on (made_of d t ps (ReleaseHandoffExchange Unlocker)) (take (Carrier.Reclaimer Unlocker) s o)) _ refl (refl, refl)
 tells_at d t ps s n o (TakeClearHead carrier) is = refl
 tells_at d t ps s n o (TakeLinkLoad carrier next) is = refl
 tells_at d t ps s n o (GrantWakeStore (Carrier.Releaser Unlocker) oldest) is = (refl, refl)
@@ -90,13 +90,8 @@ Starts Open q = errand q ≡ releasing Unlocker
 Starts (Ended answer) q = granted_in (Ended answer) ≡ None
 Starts (Refused why) q = Unit {0}
 
-starts_if : (b : Bool) (u v : Stepped) → Starts u.turn u.seat.point → Starts v.turn v.seat.point → Starts (if b then u else v).turn (if b then u else v).seat.point
-starts_if true u v first second = first
-starts_if false u v first second = second
-
-starts_at : (x : SeatState) (l : Limits) (q : Point) → let st = begin_at x l Call.Unlock q in Starts st.turn st.seat.point
-starts_at x l Rest = starts_if (nat_eq x.depth 0) (refuses x Refusal.NotOwner) _ tt (starts_if (nat_eq x.depth 1) (goes_on x (ReleaseOwnerStore Unlocker)) _ refl refl)
-starts_at x l _ = tt
+starts : (x : SeatState) (l : Limits) → let st = begin x l Call.Unlock in Starts st.turn st.seat.point
+starts x l = start_at (λ (st : Stepped). Starts st.turn st.seat.point) x l Call.Unlock x.point (λ why. tt) (λ q is. ap errand is) (λ d is. refl)
 
 ends_tell : (first : Turn) (n : ℕ) (q y : SeatState) (trail trail' : List Seen) (u : Unlocked) → Starts first q.point → CallEnds first n q trail (Ended (Answer.Unlocked u)) y trail' → grants_of trail' ≡ grants_of trail ++ as_list (granted_of (Ok u))
 ends_tell Open n q y trail trail' u starts leads =
@@ -107,7 +102,7 @@ ends_tell (Refused why) n q y trail trail' u starts leads = absurd (cc)
 
 pub grants_are_told : (T : Type 0) → GrantsAreTold T
 grants_are_told T l s t (Ok u) by = let x = by.1.0 in
-    ends_tell (begin x l Call.Unlock).turn s.number (begin x l Call.Unlock).seat by.1.1 s.trail t.trail u (starts_at x l x.point) by.1.4
+    ends_tell (begin x l Call.Unlock).turn s.number (begin x l Call.Unlock).seat by.1.1 s.trail t.trail u (starts x l) by.1.4
 grants_are_told T l s t (Err r) by = ap (λ z. grants_of z.trail) by.0.1 ∙ sym (append-nil (grants_of s.trail))
 
 abbrev first : List ℕ → Option ℕ

@@ -9,7 +9,7 @@ use Rattle.lfm_model.specs.declared.refusals.Refusal.{Refusal}
 use Rattle.lfm_words.specs.Popped.{oldest}
 use Rattle.lfm_protocol.specs.declared.answers.Answer.{Answer}
 use Rattle.lfm_protocol.specs.declared.answers.Turn.{Turn}
-use Rattle.lfm_protocol.specs.declared.answers.Turn.TheVariants.{Open, Ended, Refused}
+use Rattle.lfm_protocol.specs.declared.answers.Turn.TheVariants.{Ended, Refused}
 use Rattle.lfm_protocol.specs.declared.answers.Why.{Why}
 use Rattle.lfm_protocol.specs.declared.kinds.Kind.{Kind}
 use Rattle.lfm_protocol.specs.declared.limits.Limits.{Limits}
@@ -30,10 +30,12 @@ use Rattle.lfm_table.specs.Steps.{Event, StepLeadsTo, MayBeLeft}
 use Rattle.lfm_mutex.specs.calls.Runs.{how_held, is_release}
 use Rattle.lfm_mutex.specs.calls.Sight.{Sight, sight_of, is_asleep, is_in_call, sends_of, Concludes, Finds, MayLeave}
 use Rattle.lfm_mutex.specs.calls.SeatSteps.{Steps, KeepsValue, StepsOn, stores_owner}
-use Rattle.lfm_mutex.proofs.ends.Seats.{depth_seen}
-use Rattle.lfm_mutex.proofs.runs.RunFacts.{how_enters}
+use Rattle.lfm_mutex.proofs.ends.OwnerLoads.{depth_seen}
+use Rattle.lfm_mutex.proofs.runs.StepResults.{how_enters}
 use Rattle.lfm_mutex.proofs.runs.Running.{holds_now, last_one, last_more, ran_none}
-use Rattle.lfm_mutex.proofs.runs.Sights.{concludes_now, stays_now, stays_none, same_but, finds, first_concludes, deep_by, flat_by, may_leave}
+use Rattle.lfm_mutex.proofs.runs.Conclusions.{concludes_now, stays_now, stays_none, first_concludes}
+use Rattle.lfm_mutex.proofs.runs.SightParts.{same_but, deep_by, flat_by, may_leave}
+use Rattle.lfm_mutex.proofs.runs.EndSights.{finds}
 
 abbrev Both : ℕ → ℕ → Type 0
 Both d k = ((d ≡ 0) × (k ≡ 0)) ⊎ ((0 < d) × (0 < k))
@@ -43,20 +45,16 @@ both_same d k same = elim (cases_eq d 0) [ inl z ↦ inl (z, same ∙ z) | inr s
 
 -- By cases on the turn: after a step by which the seat acquires nothing, it holds exactly if it held before.
 both : (x p : SeatState) (turn : Turn) → Concludes x turn p → how_held turn ≡ None → Both x.depth p.depth
-both x p Open c none = both_same x.depth p.depth c.0
 both x p (Ended (Answer.Asked (Asked.Held how))) c none = absurd (cc)
 both x p (Ended (Answer.Asked (Asked.Again d))) c none = let e = c.0 in let f = c.1 in let g = c.2 in inr (e, omega (arith, e, f, g))
 both x p (Ended (Answer.Asked Asked.Asleep)) c none = inl (c.0, c.1)
 both x p (Ended (Answer.Locked (Locked.Held how))) c none = absurd (cc)
 both x p (Ended (Answer.Locked (Locked.Again d))) c none = let e = c.0 in let f = c.1 in let g = c.2 in inr (e, omega (arith, e, f, g))
-both x p (Ended (Answer.Unlocked u)) c none = both_same x.depth p.depth c.0
-both x p (Ended (Answer.Waiting u)) c none = both_same x.depth p.depth c.0
 both x p (Ended (Answer.Got (Some how))) c none = absurd (cc)
-both x p (Ended (Answer.Got None)) c none = both_same x.depth p.depth c.0
-both x p (Ended Answer.Sent) c none = both_same x.depth p.depth c.0
 both x p (Refused (Why.By Refusal.Busy)) c none = inl (c.0, c.1)
 both x p (Refused (Why.By Refusal.NotWaiting)) c none = both_same x.depth p.depth c.0
 both x p (Refused _) c none = absurd c
+both x p _ c none = both_same x.depth p.depth c.0
 
 release_of : (q : Point) → is_release q ≡ true → (r : Releaser) × (q ≡ ReleaseOwnerStore r)
 release_of (ReleaseOwnerStore r) e = (r, refl)

@@ -14,8 +14,6 @@ use Rattle.lfm_protocol.specs.declared.points.Sleeper.{Sleeper}
 use Rattle.lfm_protocol.specs.declared.seats.SeatState.{SeatState}
 use Rattle.lfm_protocol.specs.After.{after_wake_load, how_granted}
 use Rattle.lfm_protocol.specs.Begin as Begin
-use Rattle.lfm_protocol.specs.Begin.{Stepped}
-use Rattle.lfm_laws.specs.table.Carried.{carries_value}
 use Rattle.lfm_laws.specs.table.Words.{stepped_by}
 use Rattle.lfm_mutex.specs.calls.Runs.{opens}
 use Rattle.lfm_table.proofs.tables.StepFacts.{made_of}
@@ -41,12 +39,6 @@ differs n m e f = false≢true (sym e ∙ eq-eqb n m f)
 
 pub not_granted : (t ps s n : ℕ) (o : Option Record) (w : Sleeper) → n ≤ 2 → stepped_by (made_of 0 t ps (ReceiveWakeLoad w)) s n o ≡ record { seat = made_of 0 t ps (Asleep w); turn = Ended (Answer.Got None) }
 not_granted t ps s n o w b = small t ps ((n - 3) / 4) w (nat_eq n 0) (nat_eq n 1) (nat_eq n 2) (λ e f. let x = differs n 0 e in let y = differs n 1 f in eq-eqb n 2 (omega (arith, x, y, b)))
-
-pub grant_carries : (t ps s n : ℕ) (o : Option Record) (w : Sleeper) → 2 < n → carries_value (stepped_by (made_of 0 t ps (ReceiveWakeLoad w)) s n o).seat ≡ true
-grant_carries t ps s n o w b = ap (λ (z : Stepped). carries_value z.seat) (granted t ps s n o w b)
-
-pub sleep_carries : (t ps s n : ℕ) (o : Option Record) (w : Sleeper) → n ≤ 2 → carries_value (stepped_by (made_of 0 t ps (ReceiveWakeLoad w)) s n o).seat ≡ false
-sleep_carries t ps s n o w b = ap (λ (z : Stepped). carries_value z.seat) (not_granted t ps s n o w b)
 
 pub quieted : (t ps k s n : ℕ) (o : Option Record) → stepped_by (made_of 0 t ps (ReceiveWakeStore k)) s n o ≡ opens (made_of 0 t ps (EnterOwnerStore Entrant.Receiver (how_granted k)))
 quieted t ps k s n o = refl

@@ -1,16 +1,10 @@
 -- A run of a call, with one more step.
-use Rattle.std.proofs.Common.{◌≡◌, ◌≢◌, ◌⊎◌, ℕ, ◌+◌, ◌-◌, ◌<◌, ◌≤◌, nat_eq, if◌then◌else◌, Bool, true, false, Option, Some, None, List, [], ◌∷◌, ◌++◌, length, refl, sym, ap, subst, ◌∙◌, arith, inl, inr, append_assoc, append-nil, length-append}
-use Rattle.std.specs.Prelude.{⊤, nat_lt, ◌&&◌, Result, Ok}
+use Rattle.std.proofs.Common.{◌≡◌, ◌≢◌, ◌⊎◌, ℕ, ◌+◌, ◌<◌, ◌≤◌, nat_eq, if◌then◌else◌, Bool, true, false, Option, Some, None, List, [], ◌∷◌, ◌++◌, length, refl, sym, ap, subst, ◌∙◌, arith, inl, inr, append_assoc, append-nil, length-append}
 use Rattle.std.proofs.lemmas.Bool.{false≢true}
-use Rattle.lfm_model.specs.declared.answers.Unlocked.{Unlocked}
-use Rattle.lfm_model.specs.declared.refusals.Refusal.{Refusal}
-use Rattle.lfm_protocol.specs.declared.answers.Answer.{Answer}
 use Rattle.lfm_protocol.specs.declared.answers.Call.{Call}
 use Rattle.lfm_protocol.specs.declared.limits.Limits.{Limits}
 use Rattle.lfm_protocol.specs.declared.points.Carrier.{Carrier}
 use Rattle.lfm_protocol.specs.declared.points.Releaser.{Releaser}
-use Rattle.lfm_protocol.specs.declared.points.Releaser.TheVariants.{Unlocker, Waiter}
-use Rattle.lfm_protocol.specs.declared.points.Sleeper.{Sleeper}
 use Rattle.lfm_protocol.specs.Begin as Begin
 use Rattle.lfm_table.specs.Table.{Me}
 use Rattle.lfm_words.specs.declared.pop_lists.Record.{Record}
@@ -19,9 +13,9 @@ use Rattle.lfm_protocol.specs.declared.answers.Turn.{Turn}
 use Rattle.lfm_protocol.specs.declared.answers.Turn.TheVariants.{Open, Ended, Refused}
 use Rattle.lfm_protocol.specs.declared.kinds.Kind.{Kind}
 use Rattle.lfm_protocol.specs.declared.points.Point.{Point}
-use Rattle.lfm_protocol.specs.declared.points.Point.TheVariants.{Rest, Asleep, LockCountAdd, TryCountExchange, SendWakeExchange, ReleaseOwnerStore, EnterOwnerStore, TakeLinkLoad}
+use Rattle.lfm_protocol.specs.declared.points.Point.TheVariants.{Rest, ReleaseOwnerStore, EnterOwnerStore, TakeLinkLoad}
 use Rattle.lfm_protocol.specs.declared.seats.SeatState.{SeatState}
-use Rattle.lfm_protocol.specs.Begin.{Stepped, goes_on, refuses, charges}
+use Rattle.lfm_protocol.specs.Begin.{Stepped}
 use Rattle.lfm_laws.specs.table.Carried.{carries_value}
 use Rattle.lfm_protocol.specs.Place.{carries}
 use Rattle.lfm_protocol.specs.Points.{kind, target}
@@ -38,14 +32,16 @@ use Rattle.lfm_table.specs.declared.seat_view.Seen.{Seen}
 use Rattle.lfm_table.specs.declared.seat_view.View.{View}
 use Rattle.lfm_table.specs.declared.rule.Moving.{Moving}
 use Rattle.lfm_table.specs.Rule.{seen, value_in, LastHold, last_hold, is_carried, Hands, CollectsWithin}
-use Rattle.lfm_mutex.specs.calls.Runs.{Errand, nothing, errand, IsTurn, Ends, weight, end_of, trail_of, Ran, opens, is_release, locking, trying, releasing, sending, answers_for, errand_of, is_releasing, release_steps, Answers, CalledBy, Called, how_held, Counts, Holds}
+use Rattle.lfm_mutex.specs.calls.Runs.{Errand, errand, IsTurn, Ends, weight, end_of, trail_of, Ran, opens, is_release, errand_of, Answers, CalledBy, Called, how_held, Counts, Holds}
 use Rattle.lfm_table.specs.Reach.{Reached}
 use Rattle.lfm_table.specs.Seats.{Seated}
 use Rattle.lfm_table.specs.Steps.{Event, StepLeadsTo, ValueGoes}
 use Rattle.lfm_table.proofs.tables.Actions.{run_next, run_same}
 use Rattle.lfm_table.proofs.tables.RuleKept.{some_same}
 use Rattle.lfm_mutex.proofs.runs.RunGoesOn.{run_stepped}
-use Rattle.lfm_mutex.proofs.runs.RunFacts.{turns_step, falls, no_release, no_leaves, how_enters}
+use Rattle.lfm_mutex.proofs.runs.StepResults.{turns_step, no_release, no_leaves, how_enters}
+use Rattle.lfm_mutex.proofs.runs.WeightFalls.{falls}
+use Rattle.lfm_mutex.proofs.runs.CallStarts.{BeginTold, begin_told}
 use Rattle.lfm_table.proofs.tables.StepFacts.{left_same, left_new, carrying}
 
 end_more : (s : ℕ) (st : Stepped) (finds : List (ℕ × Option Record)) (n : ℕ) (o : Option Record) → end_of s st (finds ++ (n, o) ∷ []) ≡ stepped_by (end_of s st finds).seat s n o
@@ -101,22 +97,7 @@ module _ {T : Type 0} (follows : ℕ → T → T → Type 0) (suits : T → ℕ 
 
 link_grows : (x : SeatState) (t n : ℕ) (l : List Record) (k : Option Kind) → ((k ≡ Some Kind.LinkLoad) × (length (popped_of x t n l k) ≡ length l + 1)) ⊎ (k ≢ Some Kind.LinkLoad)
 link_grows x t n l (Some Kind.LinkLoad) = inl (refl, omega arith)
-link_grows x t n l None = inr (λ e. cc)
-link_grows x t n l (Some Kind.CountExchange) = inr (λ e. cc)
-link_grows x t n l (Some Kind.CountAdd) = inr (λ e. cc)
-link_grows x t n l (Some Kind.CountSubtract) = inr (λ e. cc)
-link_grows x t n l (Some Kind.OwnerLoad) = inr (λ e. cc)
-link_grows x t n l (Some Kind.OwnerStore) = inr (λ e. cc)
-link_grows x t n l (Some Kind.PushLoad) = inr (λ e. cc)
-link_grows x t n l (Some Kind.PushExchange) = inr (λ e. cc)
-link_grows x t n l (Some Kind.ClearHead) = inr (λ e. cc)
-link_grows x t n l (Some Kind.LinkStore) = inr (λ e. cc)
-link_grows x t n l (Some Kind.HandoffLoad) = inr (λ e. cc)
-link_grows x t n l (Some Kind.HandoffStore) = inr (λ e. cc)
-link_grows x t n l (Some Kind.HandoffExchange) = inr (λ e. cc)
-link_grows x t n l (Some Kind.WakeLoad) = inr (λ e. cc)
-link_grows x t n l (Some Kind.WakeStore) = inr (λ e. cc)
-link_grows x t n l (Some Kind.WakeExchange) = inr (λ e. cc)
+link_grows x t n l _ = inr (λ e. cc)
 
 loads_carry : (q : Point) → kind q ≡ Some Kind.LinkLoad → carries q ≡ true
 loads_carry (TakeLinkLoad carrier next) e = refl
@@ -180,75 +161,9 @@ ends_of e d Open q some same is = absurd (some refl)
 ends_of e d (Ended answer) q some same is = is ∙ same
 ends_of e d (Refused why) q some same is = is.0 ∙ same
 
--- Starts of calls
+-- Calls
 
-abbrev pub BeginTold : Errand → Turn → Point → Type 0
-BeginTold e Open q = errand q ≡ e
-BeginTold e (Ended answer) q = answers_for answer ≡ e
-BeginTold e (Refused why) q = ⊤
-
-abbrev Begins : Errand → Stepped → Type 0
-Begins e st = BeginTold e st.turn st.seat.point
-
-begins_if : (e : Errand) (b : Bool) (u v : Stepped) → Begins e u → Begins e v → Begins e (if b then u else v)
-begins_if e true u v first second = first
-begins_if e false u v first second = second
-
-begins_charges : (e : Errand) (p : SeatState) (budget : ℕ) (q : Point) → errand q ≡ e → Begins e (charges p budget q)
-begins_charges e p budget q is = begins_if e (nat_lt p.takes budget) (record { seat = record p { point = q; takes = p.takes + 1 }; turn = Open }) (refuses p Refusal.Spent) is tt
-
-begins_entry : (e : Errand) (p : SeatState) (budget : ℕ) (q : Point) → errand q ≡ e → Begins e (Begin.begin_entry p budget q)
-begins_entry e p budget q is =
-    begins_if e (nat_lt 65534 p.depth) (refuses p Refusal.DepthFull) (if nat_eq p.depth 0 then charges p budget q else goes_on p q) tt
-    (begins_if e (nat_eq p.depth 0) (charges p budget q) (goes_on p q) (begins_charges e p budget q is) is)
-
-begins_awake : (p : SeatState) (l : Limits) (call : Call) → Begins (errand_of call) (Begin.begin_awake p l call)
-begins_awake p l Call.Lock = begins_entry locking p l.budget LockCountAdd refl
-begins_awake p l Call.TryLock = begins_entry trying p l.budget TryCountExchange refl
-begins_awake p l Call.Unlock =
-    begins_if (releasing Unlocker) (nat_eq p.depth 0) (refuses p Refusal.NotOwner) _ tt
-    (begins_if (releasing Unlocker) (nat_eq p.depth 1) (goes_on p (ReleaseOwnerStore Unlocker)) (record { seat = record p { depth = p.depth - 1 }; turn = Ended (Answer.Unlocked (Unlocked.Still (p.depth - 1))) }) refl refl)
-begins_awake p l Call.StartWait =
-    begins_if (releasing Waiter) (nat_eq p.depth 0) (refuses p Refusal.NotOwner) _ tt
-    (begins_if (releasing Waiter) (nat_lt 1 p.depth) (refuses p Refusal.Nested) (charges p l.budget (ReleaseOwnerStore Waiter)) tt (begins_charges (releasing Waiter) p l.budget (ReleaseOwnerStore Waiter) refl))
-begins_awake p l (Call.SendLock t) = begins_if sending (nat_lt 0 t && nat_lt t (l.seats + 1)) (goes_on p (SendWakeExchange t)) (refuses p Refusal.NoSuchSeat) refl tt
-begins_awake p l Call.Receive = tt
-
-begins_asleep : (p : SeatState) (sleeper : Sleeper) (call : Call) → Begins (errand_of call) (Begin.begin_asleep p sleeper call)
-begins_asleep p sleeper Call.Receive = refl
-begins_asleep p sleeper _ = tt
-
-begins_at : (p : SeatState) (l : Limits) (call : Call) (q : Point) → Begins (errand_of call) (Begin.begin_at p l call q)
-begins_at p l call Rest = begins_awake p l call
-begins_at p l call (Asleep sleeper) = begins_asleep p sleeper call
-begins_at p l call _ = tt
-
-pub begin_told : (p : SeatState) (l : Limits) (call : Call) → BeginTold (errand_of call) (Begin.begin p l call).turn (Begin.begin p l call).seat.point
-begin_told p l call = begins_at p l call p.point
-
-some_errand : (call : Call) → errand_of call ≢ nothing
-some_errand Call.Lock e = cc
-some_errand Call.TryLock e = cc
-some_errand Call.Unlock e = cc
-some_errand Call.StartWait e = cc
-some_errand (Call.SendLock t) e = cc
-some_errand Call.Receive e = cc
-
-not_releasing : (e : Errand) (q : Point) → errand q ≡ e → is_releasing e ≡ false → is_release q ≡ false
-not_releasing e (ReleaseOwnerStore r) is other = absurd (false≢true (sym other ∙ ap is_releasing (sym is)))
-not_releasing e _ is other = refl
-
--- a call that is open after its start
-pub begun_open : (p : SeatState) (l : Limits) (call : Call) → (Begin.begin p l call).turn ≡ Open → errand (Begin.begin p l call).seat.point ≡ errand_of call
-begun_open p l call is = subst (λ (t : Turn). BeginTold (errand_of call) t (Begin.begin p l call).seat.point) is (begin_told p l call)
-
-pub begun_some : (q : Point) (call : Call) → errand q ≡ errand_of call → errand q ≢ nothing
-begun_some q call is e = some_errand call (sym is ∙ e)
-
-pub begun_keeps : (q : Point) (call : Call) → errand q ≡ errand_of call → is_releasing (errand_of call) ≡ false → is_release q ≡ false
-begun_keeps q call is other = not_releasing (errand_of call) q is other
-
-ends_answers : (e : Errand) (t : Turn) → Ends e t → Answers e t
+pub ends_answers : (e : Errand) (t : Turn) → Ends e t → Answers e t
 ends_answers e (Ended answer) is = is
 ends_answers e (Refused why) is = tt
 ends_answers e Open is = absurd is
@@ -257,16 +172,6 @@ told_answers : (e : Errand) (t : Turn) (q : Point) → t ≢ Open → BeginTold 
 told_answers e Open q some is = absurd (some refl)
 told_answers e (Ended answer) q some is = is
 told_answers e (Refused why) q some is = tt
-
--- a call that made steps
-pub called_steps : {T : Type 0} (s : ℕ) (l : Limits) (call : Call) (p p1 p' : SeatState) (v v' : View T) (turn : Turn) → (Begin.begin p l call).turn ≡ Open → p1 ≡ (Begin.begin p l call).seat → Ends (errand p1.point) turn → Ran s (opens p1) v turn p' v'
-    → Called s l call p v turn p' v' × Answers (errand_of call) turn
-called_steps s l call p p1 p' v v' turn is_open is_p1 ends ran =
-    let same : errand p1.point ≡ errand_of call = ap (λ (x : SeatState). errand x.point) is_p1 ∙ begun_open p l call is_open in
-    let e : Ends (errand_of call) turn = subst (λ (z : Errand). Ends z turn) same ends in (
-      subst (λ (t : Turn). CalledBy t s (errand_of call) (Begin.begin p l call).seat v turn p' v') (sym is_open) (e, subst (λ (x : SeatState). Ran s (opens x) v turn p' v') is_p1 ran),
-      ends_answers (errand_of call) turn e,
-    )
 
 -- a call that ended at once
 at_once : {T : Type 0} (t : Turn) (s : ℕ) (e : Errand) (q p' : SeatState) (v : View T) → t ≢ Open → p' ≡ q → CalledBy t s e q v t p' v
@@ -315,66 +220,11 @@ module _ {T : Type 0} (follows : ℕ → T → T → Type 0) (suits : T → ℕ 
   pub ran_one : Ran s (opens p) v turn q w
   ran_one = ran_more follows suits s p v p q v w a b turn (ran_none s p v) named e
 
-  pub turn_one : kind p.point ≢ None → IsTurn (errand p.point) turn q.point
-  turn_one some = turn_more follows suits s p v p q v w a b turn (ran_none s p v) named e some
-
   pub last_one : (r : Releaser) → p.point ≡ ReleaseOwnerStore r → last_hold w ≡ (value_in a, v.found, v.limits, v.holds_ended + 1)
   last_one r at = λ i. ((e.did.last ∙ (left_new p.point r e.hand v.last at ∙ e.in_hand r at)) i, (e.did.last_found ∙ left_new p.point r v.found v.last_found at) i, e.did.root.limits_are i, (e.did.ended ∙ left_new p.point r (v.holds_ended + 1) v.ended at) i)
 
-  pub keeps_one : (r : Releaser) → p.point ≡ ReleaseOwnerStore r → is_release q.point ≡ false
-  keeps_one r at = ap (λ (x : SeatState). is_release x.point) e.seat_is ∙ (rw at refl)
-
 pub release_some : (q : Point) (r : Releaser) → q ≡ ReleaseOwnerStore r → kind q ≢ None
 release_some q r at e = let f : Some Kind.OwnerStore ≡ None = sym (ap kind at) ∙ e in absurd (cc)
-
--- a release that is open after its start is at the store that ends the hold
-abbrev ToldRelease : Turn → Point → Type 0
-ToldRelease Open q = (r : Releaser) × (q ≡ ReleaseOwnerStore r)
-ToldRelease _ q = ⊤
-
-told_if : (b : Bool) (u v : Stepped) → ToldRelease u.turn u.seat.point → ToldRelease v.turn v.seat.point → ToldRelease (if b then u else v).turn (if b then u else v).seat.point
-told_if true u v first second = first
-told_if false u v first second = second
-
-told_awake : (p : SeatState) (l : Limits) (call : Call) → is_releasing (errand_of call) ≡ true → ToldRelease (Begin.begin_awake p l call).turn (Begin.begin_awake p l call).seat.point
-told_awake p l Call.Unlock is =
-    told_if (nat_eq p.depth 0) (refuses p Refusal.NotOwner) (if nat_eq p.depth 1 then goes_on p (ReleaseOwnerStore Unlocker) else record { seat = record p { depth = p.depth - 1 }; turn = Ended (Answer.Unlocked (Unlocked.Still (p.depth - 1))) }) tt
-    (told_if (nat_eq p.depth 1) (goes_on p (ReleaseOwnerStore Unlocker)) (record { seat = record p { depth = p.depth - 1 }; turn = Ended (Answer.Unlocked (Unlocked.Still (p.depth - 1))) }) (Unlocker, refl) tt)
-told_awake p l Call.StartWait is =
-    told_if (nat_eq p.depth 0) (refuses p Refusal.NotOwner) (if nat_lt 1 p.depth then refuses p Refusal.Nested else charges p l.budget (ReleaseOwnerStore Waiter)) tt
-    (told_if (nat_lt 1 p.depth) (refuses p Refusal.Nested) (charges p l.budget (ReleaseOwnerStore Waiter)) tt
-    (told_if (nat_lt p.takes l.budget) (record { seat = record p { point = ReleaseOwnerStore Waiter; takes = p.takes + 1 }; turn = Open }) (refuses p Refusal.Spent) (Waiter, refl) tt))
-told_awake p l Call.Lock is = absurd (false≢true is)
-told_awake p l Call.TryLock is = absurd (false≢true is)
-told_awake p l (Call.SendLock t) is = absurd (false≢true is)
-told_awake p l Call.Receive is = absurd (false≢true is)
-
-told_asleep : (p : SeatState) (sleeper : Sleeper) (call : Call) → is_releasing (errand_of call) ≡ true → ToldRelease (Begin.begin_asleep p sleeper call).turn (Begin.begin_asleep p sleeper call).seat.point
-told_asleep p sleeper Call.Receive is = absurd (false≢true is)
-told_asleep p sleeper _ is = tt
-
-told_at : (p : SeatState) (l : Limits) (call : Call) (q : Point) → is_releasing (errand_of call) ≡ true → ToldRelease (Begin.begin_at p l call q).turn (Begin.begin_at p l call q).seat.point
-told_at p l call Rest is = told_awake p l call is
-told_at p l call (Asleep sleeper) is = told_asleep p sleeper call is
-told_at p l call _ is = tt
-
-pub begun_release : (p q : SeatState) (l : Limits) (call : Call) → is_releasing (errand_of call) ≡ true → (Begin.begin p l call).turn ≡ Open → q ≡ (Begin.begin p l call).seat → (r : Releaser) × (q.point ≡ ReleaseOwnerStore r)
-begun_release p q l call is is_open is_q =
-    let told = subst (λ (t : Turn). ToldRelease t (Begin.begin p l call).seat.point) is_open (told_at p l call p.point is) in
-    (told.0, ap (λ (x : SeatState). x.point) is_q ∙ told.1)
-
--- how many steps follow the start of a release
-weight_released : (n k : ℕ) (call : Call) (r : Releaser) → releasing r ≡ errand_of call → weight n k (ReleaseOwnerStore r) ≡ release_steps n call
-weight_released n k Call.Unlock Unlocker is = omega arith
-weight_released n k Call.Unlock Waiter is = absurd (cc)
-weight_released n k Call.StartWait Unlocker is = absurd (cc)
-weight_released n k Call.StartWait Waiter is = omega arith
-weight_released n k _ r is = absurd (cc)
-
-pub weight_begun : (n k : ℕ) (p q : SeatState) (l : Limits) (call : Call) → is_releasing (errand_of call) ≡ true → (Begin.begin p l call).turn ≡ Open → q ≡ (Begin.begin p l call).seat → weight n k q.point ≡ release_steps n call
-weight_begun n k p q l call is is_open is_q =
-    let stands = begun_release p q l call is is_open is_q in
-    ap (weight n k) stands.1 ∙ weight_released n k call stands.0 (ap errand (sym stands.1) ∙ (ap (λ (x : SeatState). errand x.point) is_q ∙ begun_open p l call is_open))
 
 -- The hold that a call ends with
 
@@ -438,44 +288,3 @@ module _ {T : Type 0} (follows : ℕ → T → T → Type 0) (suits : T → ℕ 
             (λ z. let t = e.did.answered carries_p in let u : length (answered_by m.0.number (stepped_by p m.0.number e.found o).turn) ≡ 0 = ap (λ (y : Turn). length (answered_by m.0.number y)) (turn_at ∙ ap (λ (h : How). Ended (held by.0 h)) z) ∙ free_counts m.0.number by.0 in omega (arith, t, u));
         fits = subst (λ (y : T). suits y m.0.answered) same knows.0;
       }
-
--- no call acquires the mutex by its start
-
-unheld_if : (b : Bool) (u v : Stepped) → how_held u.turn ≡ None → how_held v.turn ≡ None → how_held (if b then u else v).turn ≡ None
-unheld_if true u v first second = first
-unheld_if false u v first second = second
-
-unheld_charges : (p : SeatState) (budget : ℕ) (q : Point) → how_held (charges p budget q).turn ≡ None
-unheld_charges p budget q = unheld_if (nat_lt p.takes budget) (record { seat = record p { point = q; takes = p.takes + 1 }; turn = Open }) (refuses p Refusal.Spent) refl refl
-
-unheld_entry : (p : SeatState) (budget : ℕ) (q : Point) → how_held (Begin.begin_entry p budget q).turn ≡ None
-unheld_entry p budget q =
-    unheld_if (nat_lt 65534 p.depth) (refuses p Refusal.DepthFull) (if nat_eq p.depth 0 then charges p budget q else goes_on p q) refl
-    (unheld_if (nat_eq p.depth 0) (charges p budget q) (goes_on p q) (unheld_charges p budget q) refl)
-
-unheld_awake : (p : SeatState) (l : Limits) (call : Call) → how_held (Begin.begin_awake p l call).turn ≡ None
-unheld_awake p l Call.Lock = unheld_entry p l.budget LockCountAdd
-unheld_awake p l Call.TryLock = unheld_entry p l.budget TryCountExchange
-unheld_awake p l Call.Unlock =
-    unheld_if (nat_eq p.depth 0) (refuses p Refusal.NotOwner) _ refl
-    (unheld_if (nat_eq p.depth 1) (goes_on p (ReleaseOwnerStore Unlocker)) (record { seat = record p { depth = p.depth - 1 }; turn = Ended (Answer.Unlocked (Unlocked.Still (p.depth - 1))) }) refl refl)
-unheld_awake p l Call.StartWait =
-    unheld_if (nat_eq p.depth 0) (refuses p Refusal.NotOwner) _ refl
-    (unheld_if (nat_lt 1 p.depth) (refuses p Refusal.Nested) (charges p l.budget (ReleaseOwnerStore Waiter)) refl (unheld_charges p l.budget (ReleaseOwnerStore Waiter)))
-unheld_awake p l (Call.SendLock t) = unheld_if (nat_lt 0 t && nat_lt t (l.seats + 1)) (goes_on p (SendWakeExchange t)) (refuses p Refusal.NoSuchSeat) refl refl
-unheld_awake p l Call.Receive = refl
-
-unheld_asleep : (p : SeatState) (sleeper : Sleeper) (call : Call) → how_held (Begin.begin_asleep p sleeper call).turn ≡ None
-unheld_asleep p sleeper Call.Receive = refl
-unheld_asleep p sleeper _ = refl
-
-unheld_at : (p : SeatState) (l : Limits) (call : Call) (q : Point) → how_held (Begin.begin_at p l call q).turn ≡ None
-unheld_at p l call Rest = unheld_awake p l call
-unheld_at p l call (Asleep sleeper) = unheld_asleep p sleeper call
-unheld_at p l call _ = refl
-
-pub begun_unheld : (p : SeatState) (l : Limits) (call : Call) (turn : Turn) (how : How) → turn ≡ (Begin.begin p l call).turn → how_held turn ≡ Some how → ⊥
-begun_unheld p l call turn how is e = let f : None ≡ Some how = sym (ap how_held is ∙ unheld_at p l call p.point) ∙ e in absurd (cc)
-
-pub ok_same : {A E : Type 0} (x y : A) → ◌≡◌ {A = Result A E} (Ok x) (Ok y) → x ≡ y
-ok_same x y e = cc

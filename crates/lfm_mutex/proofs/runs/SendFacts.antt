@@ -1,21 +1,15 @@
 -- Which steps a send makes: its exchange is the first step of its call.
-use Rattle.std.proofs.Common.{◌≡◌, ◌≢◌, ℕ, Bool, true, false, Option, nat_eq, refl, sym, ap, ◌∙◌, if◌then◌else◌, List, [], ◌∷◌, ◌++◌, subst, append_assoc}
+use Rattle.std.proofs.Common.{◌≡◌, ℕ, false, Option, refl, sym, ap, ◌∙◌, List, [], ◌∷◌, ◌++◌, subst, append_assoc}
 use Rattle.std.proofs.lemmas.Bool.{false≢true}
-use Rattle.lfm_model.specs.declared.answers.Unlocked.{Unlocked}
 use Rattle.lfm_words.specs.declared.pop_lists.Record.{Record}
 use Rattle.lfm_words.specs.declared.wakes.Wake.{Wake}
-use Rattle.lfm_words.specs.declared.wakes.Wake.TheVariants.{Waiting, Grant}
-use Rattle.lfm_protocol.specs.declared.points.Carrier.{Carrier}
+use Rattle.lfm_words.specs.declared.wakes.Wake.TheVariants.{Waiting}
 use Rattle.lfm_protocol.specs.declared.points.Point.{Point}
-use Rattle.lfm_protocol.specs.declared.points.Point.TheVariants.{TryOwnerLoad, TryHandoffLoad, TryHandoffExchange, SendWakeExchange, SendCountAdd, SendPushRecheck, PushedHandoffLoad, PushedHandoffExchange, ReleaseCountSubtract, ReleasePushRecheck, ReleaseHandoffExchange, GrantWakeStore, ReceiveWakeLoad}
-use Rattle.lfm_protocol.specs.declared.points.Pusher.{Pusher}
-use Rattle.lfm_protocol.specs.declared.points.Releaser.{Releaser}
-use Rattle.lfm_protocol.specs.declared.points.Releaser.TheVariants.{Unlocker, Waiter}
-use Rattle.lfm_protocol.specs.declared.points.Sleeper.{Sleeper}
+use Rattle.lfm_protocol.specs.declared.points.Point.TheVariants.{SendWakeExchange, SendCountAdd}
 use Rattle.lfm_protocol.specs.declared.seats.SeatState.{SeatState}
-use Rattle.lfm_protocol.specs.After.{same_handoff, releases, pushed, granted, receives, claims, carrier_of, take, busy, found_posted}
-use Rattle.lfm_protocol.specs.Begin.{Stepped, goes_on}
-use Rattle.lfm_laws.specs.table.Words.{stepped_by, handoff_of, wake_of, link_of}
+use Rattle.lfm_protocol.specs.After.{claims}
+use Rattle.lfm_protocol.specs.Begin.{Stepped}
+use Rattle.lfm_laws.specs.table.Words.{stepped_by, wake_of}
 use Rattle.lfm_mutex.specs.calls.Runs.{end_of, trail_of}
 use Rattle.lfm_table.specs.Rule.{seen}
 use Rattle.lfm_table.specs.declared.seat_view.Seen.{Seen}
@@ -26,11 +20,8 @@ use Rattle.lfm_protocol.specs.declared.answers.Turn.TheVariants.{Open, Ended, Re
 use Rattle.lfm_protocol.specs.declared.answers.Why.{Why}
 use Rattle.lfm_model.specs.declared.refusals.Refusal.{Refusal}
 use Rattle.lfm_mutex.proofs.runs.BusyFacts.{idle_runs}
-use Rattle.lfm_mutex.proofs.runs.FirstPoints.{is_send, no_first, later_sends_not}
+use Rattle.lfm_mutex.proofs.runs.StepResults.{is_send, is_not_waiting, no_send, answers_step}
 use Rattle.lfm_table.proofs.tables.StepFacts.{made_of}
-
-pub no_send : (x : SeatState) (s n : ℕ) (o : Option Record) → is_send (stepped_by x s n o).seat.point ≡ false
-no_send x s n o = later_sends_not (stepped_by x s n o).seat.point (no_first x s n o)
 
 none_at : (q : Point) (n : ℕ) → is_send q ≡ false → send_at q n ≡ []
 none_at (SendWakeExchange u) n other = absurd (false≢true (sym other))
@@ -47,64 +38,15 @@ sends_join (x ∷ xs) ys = ap (λ (l : List ℕ). send_at x.point x.found ++ l) 
 
 -- Only the exchange of a send answers NotWaiting
 
-abbrev pub is_not_waiting : Turn → Bool
-is_not_waiting (Refused (Why.By Refusal.NotWaiting)) = true
-is_not_waiting _ = false
-
-nw_if : (b : Bool) (u v : Stepped) → is_not_waiting u.turn ≡ false → is_not_waiting v.turn ≡ false → is_not_waiting (if b then u else v).turn ≡ false
-nw_if true u v first second = first
-nw_if false u v first second = second
-
-nw_releases : (x : SeatState) (r : Releaser) (answer : Unlocked) → is_not_waiting (releases x r answer).turn ≡ false
-nw_releases x Unlocker answer = refl
-nw_releases x Waiter answer = refl
-
-nw_pushed : (x : SeatState) (pusher : Pusher) → is_not_waiting (pushed x pusher).turn ≡ false
-nw_pushed x Pusher.Locker = refl
-nw_pushed x (Pusher.Sender t) = refl
-
-nw_granted : (x : SeatState) (carrier : Carrier) (oldest : Record) → is_not_waiting (granted x carrier oldest).turn ≡ false
-nw_granted x Carrier.Locker oldest = refl
-nw_granted x (Carrier.Releaser r) oldest = nw_releases x r (Unlocked.Granted oldest.seat)
-nw_granted x (Carrier.Reclaimer r) oldest = nw_releases x r (Unlocked.Granted oldest.seat)
-nw_granted x Carrier.Sender oldest = refl
-
-nw_receives : (x : SeatState) (sleeper : Sleeper) (w : Wake) → is_not_waiting (receives x sleeper w).turn ≡ false
-nw_receives x sleeper (Grant stamp) = refl
-nw_receives x sleeper _ = refl
-
-nw_at : (d t ps s n : ℕ) (o : Option Record) (q : Point) → is_send q ≡ false → is_not_waiting (stepped_by (made_of d t ps q) s n o).turn ≡ false
-nw_at d t ps s n o (SendWakeExchange u) other = absurd (false≢true (sym other))
-nw_at d t ps s n o TryOwnerLoad other = nw_if (nat_eq n s) _ (goes_on (made_of d t ps TryOwnerLoad) TryHandoffLoad) refl refl
-nw_at d t ps s n o TryHandoffLoad other = nw_if (nat_eq (handoff_of n).seat 0) (busy (made_of d t ps TryHandoffLoad)) _ refl refl
-nw_at d t ps s n o (TryHandoffExchange old) other = nw_if (same_handoff (handoff_of n) old) _ (busy (made_of d t ps (TryHandoffExchange old))) refl refl
-nw_at d t ps s n o (SendPushRecheck u old) other = nw_if (nat_eq (link_of n).next 0) _ (goes_on (made_of d t ps (SendPushRecheck u old)) (PushedHandoffExchange (Pusher.Sender u) old)) refl refl
-nw_at d t ps s n o (PushedHandoffLoad pusher) other =
-    nw_if (nat_eq (handoff_of n).seat 0) (pushed (made_of d t ps (PushedHandoffLoad pusher)) pusher) (goes_on (made_of d t ps (PushedHandoffLoad pusher)) (found_posted pusher (handoff_of n))) (nw_pushed (made_of d t ps (PushedHandoffLoad pusher)) pusher) refl
-nw_at d t ps s n o (PushedHandoffExchange pusher old) other =
-    nw_if (same_handoff (handoff_of n) old) (goes_on (made_of d t ps (PushedHandoffExchange pusher old)) (take (carrier_of pusher) s o)) _ refl (nw_pushed (made_of d t ps (PushedHandoffExchange pusher old)) pusher)
-nw_at d t ps s n o (ReleaseCountSubtract r) other =
-    nw_if (nat_eq n 1) _ (goes_on (made_of d t ps (ReleaseCountSubtract r)) (take (Carrier.Releaser r) s o)) (nw_releases (made_of d t ps (ReleaseCountSubtract r)) r Unlocked.Free) refl
-nw_at d t ps s n o (ReleasePushRecheck r) other =
-    nw_if (nat_eq (link_of n).next 0) _ (goes_on (made_of d t ps (ReleasePushRecheck r)) (ReleaseHandoffExchange r)) (nw_releases (made_of d t ps (ReleasePushRecheck r)) r Unlocked.Posted) refl
-nw_at d t ps s n o (ReleaseHandoffExchange r) other =
-    nw_if (same_handoff (handoff_of n) (record { seat = s; post = ps })) (goes_on (made_of d t ps (ReleaseHandoffExchange r)) (take (Carrier.Reclaimer r) s o)) _ refl (nw_releases (made_of d t ps (ReleaseHandoffExchange r)) r Unlocked.TakenOver)
-nw_at d t ps s n o (GrantWakeStore carrier oldest) other = nw_granted (made_of d t ps (GrantWakeStore carrier oldest)) carrier oldest
-nw_at d t ps s n o (ReceiveWakeLoad sleeper) other = nw_receives (made_of d t ps (ReceiveWakeLoad sleeper)) sleeper (wake_of n)
-nw_at d t ps s n o _ other = refl
-
 no_not_waiting : (s : ℕ) (x : SeatState) (turn : Turn) (finds : List (ℕ × Option Record)) → is_send x.point ≡ false → is_not_waiting turn ≡ false → is_not_waiting (end_of s (record { seat = x; turn = turn }) finds).turn ≡ false
 no_not_waiting s x turn [] other first = first
 no_not_waiting s x turn (f ∷ finds) other first =
-    no_not_waiting s (stepped_by x s f.0 f.1).seat (stepped_by x s f.0 f.1).turn finds (no_send x s f.0 f.1) (nw_at x.depth x.takes x.posts s f.0 f.1 x.point other)
+    no_not_waiting s (stepped_by x s f.0 f.1).seat (stepped_by x s f.0 f.1).turn finds (no_send x s f.0 f.1) (answers_step x s f.0 f.1 other)
 
 -- The run of a send
 
 not_sent : (t : Turn) (why : Why) → t ≡ Refused why → t ≡ Ended Answer.Sent → ⊥
 not_sent t why is e = let z : Refused why ≡ Ended Answer.Sent = sym is ∙ e in absurd (cc)
-
-not_open : (turn : Turn) → turn ≢ Open → Open ≡ turn → ⊥
-not_open turn some e = some (sym e)
 
 not_idle : Refused Why.Idle ≡ Refused (Why.By Refusal.NotWaiting) → ⊥
 not_idle e = cc

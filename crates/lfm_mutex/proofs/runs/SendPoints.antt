@@ -4,7 +4,6 @@ use Rattle.std.specs.Prelude.{Bool, true, false}
 use Rattle.std.proofs.lemmas.Bool.{ne_eqb, false≢true}
 use Rattle.lfm_model.specs.declared.refusals.Refusal.{Refusal}
 use Rattle.lfm_words.specs.declared.pop_lists.Record.{Record}
-use Rattle.lfm_words.specs.declared.wakes.Wake.{Wake}
 use Rattle.lfm_words.specs.declared.wakes.Wake.TheVariants.{Quiet, Waiting, Claimed, Grant}
 use Rattle.lfm_protocol.specs.declared.answers.Answer.{Answer}
 use Rattle.lfm_protocol.specs.declared.answers.Call.{Call}
@@ -16,9 +15,7 @@ use Rattle.lfm_protocol.specs.declared.points.Pusher.{Pusher}
 use Rattle.lfm_protocol.specs.declared.seats.SeatState.{SeatState}
 use Rattle.lfm_protocol.specs.After.{claims}
 use Rattle.lfm_protocol.specs.Begin as Begin
-use Rattle.lfm_protocol.specs.Begin.{Stepped}
-use Rattle.lfm_laws.specs.table.Carried.{carries_value}
-use Rattle.lfm_laws.specs.table.Words.{stepped_by, wake_of}
+use Rattle.lfm_laws.specs.table.Words.{stepped_by}
 use Rattle.lfm_mutex.specs.calls.Runs.{opens}
 use Rattle.lfm_table.proofs.tables.StepFacts.{made_of}
 
@@ -33,13 +30,6 @@ begins_send p l u rests above within =
     ap (λ (x : SeatState). Begin.begin x l (Call.SendLock u)) (λ i. record { depth = p.depth; takes = p.takes; posts = p.posts; point = rests i }) ∙ e
 
 -- The claim
-
-claim_stays_by : (d t ps u : ℕ) (w : Wake) → carries_value (claims (made_of d t ps (SendWakeExchange u)) u w).seat ≡ carries_value (made_of d t ps (SendWakeExchange u))
-claim_stays_by d t ps u Waiting = refl
-claim_stays_by d t ps u _ = refl
-
-pub claim_stays : (d t ps s n u : ℕ) (o : Option Record) → carries_value (stepped_by (made_of d t ps (SendWakeExchange u)) s n o).seat ≡ carries_value (made_of d t ps (SendWakeExchange u))
-claim_stays d t ps s n u o = claim_stays_by d t ps u (wake_of n)
 
 pub claims_it : (d t ps s n u : ℕ) (o : Option Record) → n ≡ 1 → stepped_by (made_of d t ps (SendWakeExchange u)) s n o ≡ opens (made_of d t ps (SendCountAdd u))
 claims_it d t ps s n u o e = rw e refl
@@ -61,9 +51,6 @@ counted_none d t ps s n u o e = rw e refl
 
 pub counted_some : (d t ps s n u : ℕ) (o : Option Record) → n ≢ 0 → stepped_by (made_of d t ps (SendCountAdd u)) s n o ≡ opens (made_of d t ps (PushLoad (Pusher.Sender u)))
 counted_some d t ps s n u o e = let h = ne_eqb n 0 e in rw h refl
-
-pub count_idles : (t ps s n u : ℕ) (o : Option Record) → n ≢ 0 → carries_value (stepped_by (made_of 0 t ps (SendCountAdd u)) s n o).seat ≡ false
-count_idles t ps s n u o e = ap (λ (z : Stepped). carries_value z.seat) (counted_some 0 t ps s n u o e)
 
 pub granted_target : (d t ps s n u : ℕ) (o : Option Record) → stepped_by (made_of d t ps (SendWakeStore u)) s n o ≡ record { seat = made_of d t ps Rest; turn = Ended Answer.Sent }
 granted_target d t ps s n u o = refl

@@ -1,7 +1,6 @@
 -- The seat's own methods at the points at which a release, after it has given up the owner word, serves the oldest queued seat,
 -- as equations.
-use Rattle.std.proofs.Common.{◌≡◌, ◌≢◌, ℕ, refl, sym, ap, ◌∙◌, Option, Some, None}
-use Rattle.std.specs.Prelude.{true}
+use Rattle.std.proofs.Common.{◌≡◌, ◌≢◌, ℕ, refl, sym, ap, Option, Some, None}
 use Rattle.std.proofs.lemmas.Bool.{ne_eqb, eq-eqb}
 use Rattle.lfm_model.specs.declared.answers.Unlocked.{Unlocked}
 use Rattle.lfm_words.specs.declared.pop_lists.Record.{Record}
@@ -14,9 +13,6 @@ use Rattle.lfm_protocol.specs.declared.points.Releaser.{Releaser}
 use Rattle.lfm_protocol.specs.declared.points.Releaser.TheVariants.{Unlocker, Waiter}
 use Rattle.lfm_protocol.specs.declared.points.Sleeper.{Sleeper}
 use Rattle.lfm_protocol.specs.After.{loaded, releases, take}
-use Rattle.lfm_protocol.specs.Begin.{Stepped}
-use Rattle.lfm_protocol.specs.Place.{carries}
-use Rattle.lfm_laws.specs.table.Carried.{carries_value}
 use Rattle.lfm_laws.specs.table.Words.{stepped_by, link_of}
 use Rattle.lfm_mutex.specs.calls.Runs.{opens, releasing}
 use Rattle.lfm_mutex.specs.calls.FastPath.{release_turn}
@@ -59,13 +55,6 @@ takes_as u s (Some r) = refl
 
 pub not_freed : (u : Releaser) (d t ps s n : ℕ) (o : Option Record) → n ≢ 1 → stepped_by (made_of d t ps (ReleaseCountSubtract u)) s n o ≡ opens (made_of d t ps (take (Carrier.Releaser u) 0 o))
 not_freed u d t ps s n o e = let h = ne_eqb n 1 e in rw h (ap (λ (q : Point). opens (made_of d t ps q)) (takes_as u s o))
-
-taking : (u : Releaser) (o : Option Record) → carries (take (Carrier.Releaser u) 0 o) ≡ true
-taking u None = refl
-taking u (Some r) = refl
-
-pub goes_on_carrying : (u : Releaser) (t ps s n : ℕ) (o : Option Record) → n ≢ 1 → carries_value (stepped_by (made_of 0 t ps (ReleaseCountSubtract u)) s n o).seat ≡ true
-goes_on_carrying u t ps s n o e = ap (λ (z : Stepped). carries_value z.seat) (not_freed u 0 t ps s n o e) ∙ taking u o
 
 -- How a call that releases has ended
 

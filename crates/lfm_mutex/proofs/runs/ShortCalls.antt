@@ -1,6 +1,5 @@
 -- The calls that no other seat can prolong, try_lock and try_receive: they make few steps, whatever these find.
-use Rattle.std.proofs.Common.{◌≡◌, ◌≢◌, ◌⊎◌, inl, inr, ℕ, ◌+◌, ◌≤◌, List, [], ◌∷◌, ◌++◌, length, length-append, Bool, true, false, nat_eq, Option, None, Result, Ok, Err, refl, sym, ap, ◌∙◌, arith, if◌then◌else◌}
-use Rattle.std.specs.Prelude.{nat_lt}
+use Rattle.std.proofs.Common.{◌≡◌, ◌≢◌, ◌⊎◌, inl, inr, ℕ, ◌+◌, ◌≤◌, List, [], ◌∷◌, ◌++◌, length, length-append, Bool, true, false, nat_eq, Option, None, Result, Ok, Err, refl, sym, ap, subst, ◌∙◌, arith}
 use Rattle.std.proofs.lemmas.Bool.{false≢true}
 use Rattle.lfm_model.specs.declared.answers.How.{How}
 use Rattle.lfm_model.specs.declared.answers.Locked.{Locked}
@@ -21,13 +20,15 @@ use Rattle.lfm_protocol.specs.declared.points.Sleeper.{Sleeper}
 use Rattle.lfm_protocol.specs.declared.seats.SeatState.{SeatState}
 use Rattle.lfm_protocol.specs.After.{same_handoff, busy, receives}
 use Rattle.lfm_protocol.specs.Begin as Begin
-use Rattle.lfm_protocol.specs.Begin.{Stepped, goes_on, refuses}
+use Rattle.lfm_protocol.specs.Begin.{Stepped, goes_on}
 use Rattle.lfm_protocol.specs.Points.{kind}
 use Rattle.lfm_laws.specs.table.Words.{stepped_by, stepped_of, handoff_of, wake_of}
 use Rattle.lfm_table.proofs.tables.StepFacts.{made_of}
 use Rattle.lfm_mutex.specs.calls.Runs.{end_of, trail_of, opens}
 use Rattle.lfm_mutex.specs.calls.Sight.{Sight, Locks, Receives, BusySeen}
 use Rattle.lfm_mutex.specs.calls.Trails.{Seen, CallEnds, MakesCall, MakesAtMost}
+use Rattle.lfm_mutex.proofs.runs.CallStarts.{start_at}
+use Rattle.lfm_mutex.proofs.runs.Tests.{if_both}
 
 abbrev pub left_at : Point → ℕ
 left_at TryCountExchange = 6
@@ -57,13 +58,9 @@ is_short _ = false
 abbrev pub Short : ℕ → Point → Type 0
 Short k p = (is_short p ≡ true) × (left_at p ≤ k)
 
-short_if : (k : ℕ) (b : Bool) (p q : Point) → Short k p → Short k q → Short k (if b then p else q)
-short_if k true p q first second = first
-short_if k false p q first second = second
-
-short_turn_if : (k : ℕ) (b : Bool) (u v : Stepped) → Short k u.seat.point → Short k v.seat.point → Short k (if b then u else v).seat.point
-short_turn_if k true u v first second = first
-short_turn_if k false u v first second = second
+-- the same after a turn
+abbrev ShortAfter : ℕ → Stepped → Type 0
+ShortAfter k st = Short k st.seat.point
 
 short_receives : (x : SeatState) (sleeper : Sleeper) (w : Wake) → Short 2 (receives x sleeper w).seat.point
 short_receives x sleeper (Grant stamp) = (refl, omega arith)
@@ -79,10 +76,10 @@ GoesShort k q st = (kind q ≡ None) ⊎ StepsShort k st
 pub short_step_at : (d t ps s n k : ℕ) (o : Option Record) (q : Point) → Short k q → GoesShort k q (stepped_by (made_of d t ps q) s n o)
 short_step_at d t ps s n k o Rest short = inl refl
 short_step_at d t ps s n k o (Asleep sleeper) short = inl refl
-short_step_at d t ps s n k o TryCountExchange short = inr (5, short.1, short_if 5 (nat_eq n 0) _ _ (refl, omega arith) (refl, omega arith))
-short_step_at d t ps s n k o TryOwnerLoad short = inr (4, short.1, short_turn_if 4 (nat_eq n s) _ (goes_on (made_of d t ps TryOwnerLoad) TryHandoffLoad) (refl, omega arith) (refl, omega arith))
-short_step_at d t ps s n k o TryHandoffLoad short = inr (3, short.1, short_turn_if 3 (nat_eq (handoff_of n).seat 0) (busy (made_of d t ps TryHandoffLoad)) _ (refl, omega arith) (refl, omega arith))
-short_step_at d t ps s n k o (TryHandoffExchange old) short = inr (2, short.1, short_turn_if 2 (same_handoff (handoff_of n) old) _ (busy (made_of d t ps (TryHandoffExchange old))) (refl, omega arith) (refl, omega arith))
+short_step_at d t ps s n k o TryCountExchange short = inr (5, short.1, if_both (Short 5) (nat_eq n 0) _ _ (refl, omega arith) (refl, omega arith))
+short_step_at d t ps s n k o TryOwnerLoad short = inr (4, short.1, if_both (ShortAfter 4) (nat_eq n s) _ (goes_on (made_of d t ps TryOwnerLoad) TryHandoffLoad) (refl, omega arith) (refl, omega arith))
+short_step_at d t ps s n k o TryHandoffLoad short = inr (3, short.1, if_both (ShortAfter 3) (nat_eq (handoff_of n).seat 0) (busy (made_of d t ps TryHandoffLoad)) _ (refl, omega arith) (refl, omega arith))
+short_step_at d t ps s n k o (TryHandoffExchange old) short = inr (2, short.1, if_both (ShortAfter 2) (same_handoff (handoff_of n) old) _ (busy (made_of d t ps (TryHandoffExchange old))) (refl, omega arith) (refl, omega arith))
 short_step_at d t ps s n k o TryCountAdd short = inr (1, short.1, (refl, omega arith))
 short_step_at d t ps s n k o (EnterOwnerStore entrant how) short = inr (0, short.1, (refl, omega arith))
 short_step_at d t ps s n k o (ReceiveWakeLoad sleeper) short = inr (2, short.1, short_receives (made_of d t ps (ReceiveWakeLoad sleeper)) sleeper (wake_of n))
@@ -115,22 +112,11 @@ long_as s x (f ∷ finds) = let h = long_as s (stepped_by x s f.0 f.1).seat find
 abbrev pub OpensShort : ℕ → Stepped → Type 0
 OpensShort k st = st.turn ≡ Open → Short k st.seat.point
 
-opens_if : (k : ℕ) (b : Bool) (u v : Stepped) → OpensShort k u → OpensShort k v → OpensShort k (if b then u else v)
-opens_if k true u v first second = first
-opens_if k false u v first second = second
-
 pub try_opens : (x : SeatState) (l : Limits) (p : Point) → OpensShort 6 (Begin.begin_at x l Call.TryLock p)
-try_opens x l Rest =
-    opens_if 6 (nat_lt 65534 x.depth) (refuses x Refusal.DepthFull) _ (λ e. absurd (cc))
-    (opens_if 6 (nat_eq x.depth 0) _ (goes_on x TryCountExchange)
-    (opens_if 6 (nat_lt x.takes l.budget) (record { seat = record x { point = TryCountExchange; takes = x.takes + 1 }; turn = Open }) (refuses x Refusal.Spent) (λ e. (refl, omega arith)) (λ e. absurd (cc))) (λ e. (refl, omega arith)))
-try_opens x l (Asleep sleeper) = λ e. absurd (cc)
-try_opens x l _ = λ e. absurd (cc)
+try_opens x l p = start_at (OpensShort 6) x l Call.TryLock p (λ why e. absurd (cc)) (λ q is e. subst (Short 6) (sym is) (refl, omega arith)) (λ d is e. absurd (cc))
 
 pub receive_opens : (x : SeatState) (l : Limits) (p : Point) → OpensShort 3 (Begin.begin_at x l Call.Receive p)
-receive_opens x l Rest = λ e. absurd (cc)
-receive_opens x l (Asleep sleeper) = λ e. (refl, omega arith)
-receive_opens x l _ = λ e. absurd (cc)
+receive_opens x l p = start_at (OpensShort 3) x l Call.Receive p (λ why e. absurd (cc)) (λ q is e. subst (Short 3) (sym is.1) (refl, omega arith)) (λ d is e. absurd (cc))
 
 -- The calls
 
@@ -140,8 +126,7 @@ leads_few Open n k q y turn trail trail' short some leads =
     let long = long_as n q leads.0 in
     let more = ap (λ (l : List Seen). length l) leads.2 ∙ length-append trail (trail_of n q leads.0) in
     omega (arith, most, long, more)
-leads_few (Ended answer) n k q y turn trail trail' short some leads = let same = ap (λ (l : List Seen). length l) leads.2 in omega (arith, same)
-leads_few (Refused why) n k q y turn trail trail' short some leads = let same = ap (λ (l : List Seen). length l) leads.2 in omega (arith, same)
+leads_few _ n k q y turn trail trail' short some leads = let same = ap (λ (l : List Seen). length l) leads.2 in omega (arith, same)
 
 unchanged : {T : Type 0} (s t : Sight T) (k : ℕ) → t ≡ s → MakesAtMost k s t
 unchanged {T} s t k same = let e = ap (λ (x : Sight T). length x.trail) same in omega (arith, e)

@@ -16,7 +16,7 @@ use Rattle.lfm_protocol.specs.declared.points.Point.TheVariants.{GrantWakeStore,
 use Rattle.lfm_protocol.specs.declared.seats.SeatState.{SeatState}
 use Rattle.lfm_protocol.specs.Begin as Begin
 use Rattle.lfm_laws.specs.table.Words.{stepped_by}
-use Rattle.lfm_table.specs.declared.off_trail.OffTrail.{OffTrail}
+use Rattle.lfm_table.specs.declared.shared_table.off_trail.OffTrail.{OffTrail}
 use Rattle.lfm_table.specs.declared.seat_view.Seen.{Seen}
 use Rattle.lfm_table.specs.Grants.{granted_at}
 use Rattle.lfm_mutex.specs.declared.seat.Seat.{Seat}

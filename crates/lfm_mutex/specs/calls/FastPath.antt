@@ -1,5 +1,5 @@
 -- A call on its fast path: the steps that it has made, and what they add up to.
-use Rattle.std.specs.Prelude.{◌≡◌, ⊤, ℕ, Option, Some, Result, Ok, Err}
+use Rattle.std.specs.Prelude.{◌≡◌, ⊤, ℕ, ◌<◌, Option, Some, Result, Ok, Err}
 use Rattle.lfm_model.specs.declared.answers.How.{How}
 use Rattle.lfm_model.specs.declared.answers.Locked.{Locked}
 use Rattle.lfm_model.specs.declared.answers.Unlocked.{Unlocked}
@@ -10,14 +10,29 @@ use Rattle.lfm_protocol.specs.declared.answers.Turn.{Turn}
 use Rattle.lfm_protocol.specs.declared.answers.Turn.TheVariants.{Ended, Refused}
 use Rattle.lfm_protocol.specs.declared.answers.Why.{Why}
 use Rattle.lfm_protocol.specs.declared.limits.Limits.{Limits}
+use Rattle.lfm_protocol.specs.declared.points.Point.TheVariants.{Rest}
 use Rattle.lfm_protocol.specs.declared.points.Releaser.{Releaser}
 use Rattle.lfm_protocol.specs.declared.seats.SeatState.{SeatState}
+use Rattle.lfm_protocol.specs.Limits.{max_depth}
 use Rattle.lfm_table.specs.declared.seat_view.View.{View}
 use Rattle.lfm_table.specs.declared.rule.Moving.{Moving}
 use Rattle.lfm_table.specs.Rule.{value_in, last_hold}
+use Rattle.lfm_mutex.specs.declared.seat.Seat.{Seat}
 use Rattle.lfm_mutex.specs.calls.Runs.{Ran, Holds, how_held, opens}
 use Rattle.lfm_mutex.specs.calls.Sight.{Sight, Turned, Concludes, Stays}
 use Rattle.lfm_mutex.specs.calls.Trails.{Made}
+
+-- the seat is awake, doesn't hold, and has a take left
+pub record MayAcquire {T : Type 0} (s : Seat T) : Type 0 where
+  pub rests : s.state.point ≡ Rest
+  pub flat : s.state.depth ≡ 0
+  pub charged : s.state.takes < s.table_seat.limits.budget
+
+-- the seat is awake and holds, below the greatest depth
+pub record MayDeepen {T : Type 0} (s : Seat T) : Type 0 where
+  pub rests : s.state.point ≡ Rest
+  pub held : 0 < s.state.depth
+  pub room : s.state.depth < max_depth
 
 -- how a call of try_lock has ended
 abbrev pub try_turn : Result Locked Refusal → Turn

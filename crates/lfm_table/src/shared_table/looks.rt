@@ -6,8 +6,8 @@ ghost use Rattle.lfm_table.specs.Rule.{Held, ReadsOwner};
 
 use crate::kept::Kept;
 use crate::layout::{COUNT, OWNER};
-use crate::off_trail::OffTrail;
 use crate::rule::OwnerRead;
+use crate::shared_table::off_trail::OffTrail;
 use crate::shared_table::{AtomicSeat, SharedTable};
 
 impl<T: Kept> SharedTable<T> {

@@ -13,8 +13,8 @@ ghost use Rattle.lfm_protocol.specs.Limits.{max_seats};
 
 use crate::kept::Kept;
 use crate::layout::wake_at;
-use crate::off_trail::OffTrail;
 use crate::shared_table::SharedTable;
+use crate::shared_table::off_trail::OffTrail;
 use crate::wake_up::WakeUp;
 use lfm_words::Wake;
 use std::sync::Wait;

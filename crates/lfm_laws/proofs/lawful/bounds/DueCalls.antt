@@ -152,7 +152,7 @@ stays_beside c g u fits some is unlock receive =
 
 -- a receive that finds no grant is not by the granted seat
 
-passed_place : (p : Responsibility) (u : ℕ) → abstract_place p ≡ passed u → (stamp : ℕ) × (p ≡ Places.granted u stamp)
+pub passed_place : (p : Responsibility) (u : ℕ) → abstract_place p ≡ passed u → (stamp : ℕ) × (p ≡ Places.granted u stamp)
 passed_place (Places.granted t stamp) u e = (stamp, cc)
 passed_place nobody u e = absurd (cc)
 passed_place (owned t again) u e = absurd (cc)

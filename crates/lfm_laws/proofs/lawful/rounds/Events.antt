@@ -166,7 +166,7 @@ no_begin_at x limits call Rest inside opens = false≢true inside
 no_begin_at x limits call (Asleep sleeper) inside opens = false≢true inside
 no_begin_at x limits call _ inside opens = cc
 
-no_begin : (c : Core) (u : ℕ) (call : Call) → is_call (seat c.seats u).point ≡ true → (begin c u call).turn ≡ Open → ⊥
+pub no_begin : (c : Core) (u : ℕ) (call : Call) → is_call (seat c.seats u).point ≡ true → (begin c u call).turn ≡ Open → ⊥
 no_begin c u call inside opens =
     let known = test_of_seat c.seats u (seat_of_call c u inside) in
     no_begin_at (seat c.seats u) (limits c) call (seat c.seats u).point inside (rw known at opens)
@@ -187,11 +187,11 @@ not_own_start c t u Unlock other going = going
 not_own_start c t u StartWait other going = going
 not_own_start c t u (SendLock s) other going = going
 
-abbrev is_receive : Call → Bool
+abbrev pub is_receive : Call → Bool
 is_receive Receive = true
 is_receive _ = false
 
-refused_asleep : (x : SeatState) (limits : Limits) (call : Call) (p : Point) (since : Sleeper) → p ≡ Asleep since → is_receive call ≡ false → (Begin.begin_at x limits call p).seat ≡ x
+pub refused_asleep : (x : SeatState) (limits : Limits) (call : Call) (p : Point) (since : Sleeper) → p ≡ Asleep since → is_receive call ≡ false → (Begin.begin_at x limits call p).seat ≡ x
 refused_asleep x limits Receive p since at other = absurd (false≢true (sym other))
 refused_asleep x limits Lock p since at other = rw at refl
 refused_asleep x limits TryLock p since at other = rw at refl
@@ -199,7 +199,7 @@ refused_asleep x limits Unlock p since at other = rw at refl
 refused_asleep x limits StartWait p since at other = rw at refl
 refused_asleep x limits (SendLock t) p since at other = rw at refl
 
-begun_kept : (c : Core) (t u : ℕ) (call : Call) → seat (begin c t call).core.seats u ≡ seat c.seats u → KeepsSeat c (begin c t call).core u
+pub begun_kept : (c : Core) (t u : ℕ) (call : Call) → seat (begin c t call).core.seats u ≡ seat c.seats u → KeepsSeat c (begin c t call).core u
 begun_kept c t u call view = record { view = view; size = seats-begin c t call; popped = λ e. begun_popped c t call }
 
 begun_stays : (c : Core) (g : Ghost) (t u m : ℕ) (call : Call) → Due c u m (abstract_place g.place) → KeepsSeat c (begin c t call).core u → Stays (begin c t call).core g g u m

@@ -23,11 +23,11 @@ use Rattle.lfm_laws.proofs.lawful.rounds.Holds.{Held, lower, same, OwnerGoesOn, 
 
 -- Lists one after another
 
-run_append : (c : Core) (first later : List Event) → run_of c (first ++ later) ≡ run_of (run_of c first) later
+pub run_append : (c : Core) (first later : List Event) → run_of c (first ++ later) ≡ run_of (run_of c first) later
 run_append c [] later = refl
 run_append c (e ∷ first) later = run_append (happens c e).core first later
 
-entries_append : (c : Core) (first later : List Event) → entries_of_run c (first ++ later) ≡ entries_of_run c first + entries_of_run (run_of c first) later
+pub entries_append : (c : Core) (first later : List Event) → entries_of_run c (first ++ later) ≡ entries_of_run c first + entries_of_run (run_of c first) later
 entries_append c [] later = omega arith
 entries_append c (e ∷ first) later = let rest = entries_append (happens c e).core first later in omega (arith, rest)
 
@@ -82,7 +82,7 @@ owned_round c events steady rests release some fair = held_round c events steady
 
 -- Rounds
 
-rounds_later : (r : ℕ) (c : Core) (first later : List Event) → HasUnownedRounds r (run_of c first) later → HasUnownedRounds r c (first ++ later)
+pub rounds_later : (r : ℕ) (c : Core) (first later : List Event) → HasUnownedRounds r (run_of c first) later → HasUnownedRounds r c (first ++ later)
 rounds_later zero c first later has = tt
 rounds_later (suc r) c first later has = (
   first ++ has.0,
@@ -94,7 +94,7 @@ rounds_later (suc r) c first later has = (
   rw (run_append c first has.0) has.6,
 )
 
-fewer_rounds : (r q : ℕ) (c : Core) (events : List Event) → q ≤ r → HasUnownedRounds r c events → HasUnownedRounds q c events
+pub fewer_rounds : (r q : ℕ) (c : Core) (events : List Event) → q ≤ r → HasUnownedRounds r c events → HasUnownedRounds q c events
 fewer_rounds r zero c events less has = tt
 fewer_rounds zero (suc q) c events less has = absurd (omega (arith, less))
 fewer_rounds (suc r) (suc q) c events less has =

@@ -37,7 +37,7 @@ use Rattle.lfm_laws.proofs.lawful.rounds.Events.{not_own_start, no_start}
 -- The owner
 
 -- the owner is at depth 1 at least
-owner_place : (p : Responsibility) → 0 < owner_of p → (again : Bool) × (p ≡ owned (owner_of p) again)
+pub owner_place : (p : Responsibility) → 0 < owner_of p → (again : Bool) × (p ≡ owned (owner_of p) again)
 owner_place (owned s again) some = (again, refl)
 owner_place nobody some = absurd (omega (arith, some))
 owner_place (Places.granted s stamp) some = absurd (omega (arith, some))
@@ -53,7 +53,7 @@ deep_at (suc d) s again Rest hold claims rests = omega arith
 deep_at depth s again (ReleaseOwnerStore releaser) hold claims rests = absurd (cc)
 deep_at depth s again _ hold claims rests = absurd hold
 
-own_part : (s : ℕ) (again : Bool) → held_by (owned s again) s ≡ owned s again
+pub own_part : (s : ℕ) (again : Bool) → held_by (owned s again) s ≡ owned s again
 own_part s again = rw (eq-eqb s s refl) refl
 
 pub owner_deep : (c : Core) → Steady c → OwnerRestsOrReleases c → 0 < c.owner → (seat c.seats c.owner).point ≡ Rest → 0 < (seat c.seats c.owner).depth
@@ -99,14 +99,14 @@ some_left (suc d) Rest hold deep = omega arith
 some_left depth (ReleaseOwnerStore releaser) hold deep = omega arith
 some_left depth _ hold deep = absurd hold
 
-owner_word : (c : Core) (t : ℕ) (p : Point) → (seat c.seats t).point ≡ p → ((q : Releaser) → p ≢ ReleaseOwnerStore q) → enters_at p ≡ 0 → (made c t).core.owner ≡ c.owner
+pub owner_word : (c : Core) (t : ℕ) (p : Point) → (seat c.seats t).point ≡ p → ((q : Releaser) → p ≢ ReleaseOwnerStore q) → enters_at p ≡ 0 → (made c t).core.owner ≡ c.owner
 owner_word c t (ReleaseOwnerStore releaser) at other none = absurd (other releaser refl)
 owner_word c t (EnterOwnerStore entrant how) at other none = absurd (omega (arith, none))
 owner_word c t LockOwnerLoad at other none = rw at refl
 owner_word c t TryOwnerLoad at other none = rw at refl
 owner_word c t p at other none = rw at (other_word c t (target p t) (kind p) Word.Owner (λ e. cc))
 
-no_seat : (c : Core) (owner : ℕ) → owner ≡ 0 → rounds_to_release_at (seat c.seats owner).depth (seat c.seats owner).point ≡ 0
+pub no_seat : (c : Core) (owner : ℕ) → owner ≡ 0 → rounds_to_release_at (seat c.seats owner).depth (seat c.seats owner).point ≡ 0
 no_seat c owner none = rw (none, absent_tested c.seats 0 refl) refl
 
 hold_made : (c : Core) (t : ℕ) (p : Point) → (seat c.seats t).point ≡ p → IsSeat c.seats t → OwnerRestsOrReleases c → 0 < c.owner → ((seat c.seats c.owner).point ≡ Rest → 0 < (seat c.seats c.owner).depth)
@@ -160,7 +160,7 @@ free_made c t p at is free =
 
 -- Starts of calls
 
-begun_owner : (c : Core) (t : ℕ) (call : Call) → (begin c t call).core.owner ≡ c.owner
+pub begun_owner : (c : Core) (t : ℕ) (call : Call) → (begin c t call).core.owner ≡ c.owner
 begun_owner c t call =
     elim (cases_Bool (is_seat c.seats t)) [
       | inl is ↦ rw is refl
@@ -176,14 +176,14 @@ not_release c t u Receive other going = going
 not_release c t u (SendLock s) other going = going
 
 -- what the start of a release makes of the owner
-data Begun (x y : SeatState) (refused : Bool) : Type 0 where
+pub data Begun (x y : SeatState) (refused : Bool) : Type 0 where
   fewer : RestsOrReleases y.point → rounds_to_release_at y.depth y.point + 1 ≤ rounds_to_release_at x.depth x.point → Begun x y refused
   kept : y ≡ x → refused ≡ true → Begun x y refused
 
-abbrev BeginsAt : SeatState → Limits → Call → Point → Type 0
+abbrev pub BeginsAt : SeatState → Limits → Call → Point → Type 0
 BeginsAt x limits call p = Begun x (Begin.begin_at x limits call p).seat (is_refused (Begin.begin_at x limits call p).turn)
 
-unlock_at : (x : SeatState) (limits : Limits) (depth : ℕ) → x.depth ≡ depth → x.point ≡ Rest → 0 < depth → BeginsAt x limits Unlock Rest
+pub unlock_at : (x : SeatState) (limits : Limits) (depth : ℕ) → x.depth ≡ depth → x.point ≡ Rest → 0 < depth → BeginsAt x limits Unlock Rest
 unlock_at x limits zero deep at some = absurd (omega (arith, some))
 unlock_at x limits (suc zero) deep at some =
     let l : rounds_to_release_at x.depth x.point ≡ 2 = rw (deep, at) refl in
@@ -194,7 +194,7 @@ unlock_at x limits (suc (suc d)) deep at some =
     let m : rounds_to_release_at (x.depth - 1) x.point ≡ d + 2 = rw (e, at) refl in
     rw (ne_eqb x.depth 0 (λ e. omega (arith, e, deep)), ne_eqb x.depth 1 (λ e. omega (arith, e, deep))) (fewer (rw at tt) (omega (arith, l, m)))
 
-wait_at : (x : SeatState) (limits : Limits) (depth : ℕ) → x.depth ≡ depth → x.point ≡ Rest → 0 < depth → BeginsAt x limits StartWait Rest
+pub wait_at : (x : SeatState) (limits : Limits) (depth : ℕ) → x.depth ≡ depth → x.point ≡ Rest → 0 < depth → BeginsAt x limits StartWait Rest
 wait_at x limits zero deep at some = absurd (omega (arith, some))
 wait_at x limits (suc zero) deep at some =
     let l : rounds_to_release_at x.depth x.point ≡ 2 = rw (deep, at) refl in
@@ -205,7 +205,7 @@ wait_at x limits (suc zero) deep at some =
 wait_at x limits (suc (suc d)) deep at some =
     rw (ne_eqb x.depth 0 (λ e. omega (arith, e, deep)), lt-ltb 1 x.depth (omega (arith, deep))) (kept refl refl)
 
-refused_at : (x : SeatState) (limits : Limits) (call : Call) (p : Point) → is_call p ≡ true → is_refused (Begin.begin_at x limits call p).turn ≡ true
+pub refused_at : (x : SeatState) (limits : Limits) (call : Call) (p : Point) → is_call p ≡ true → is_refused (Begin.begin_at x limits call p).turn ≡ true
 refused_at x limits call Rest inside = absurd (false≢true inside)
 refused_at x limits call (Asleep sleeper) inside = absurd (false≢true inside)
 refused_at x limits call _ inside = refl
@@ -302,7 +302,7 @@ hold_event c (makes t) steady rests some releases =
           ]))
     ]
 
-free_event : (c : Core) (e : Event) → c.owner ≡ 0 → Held c (happens c e).core (weighed_in enters_at c e)
+pub free_event : (c : Core) (e : Event) → c.owner ≡ 0 → Held c (happens c e).core (weighed_in enters_at c e)
 free_event c (begins t call) free =
     let none : (begin c t call).core.owner ≡ 0 = begun_owner c t call ∙ free in
     let zero : rounds_to_release (begin c t call).core ≡ 0 = no_seat (begin c t call).core (begin c t call).core.owner none in

@@ -4,7 +4,7 @@
 use Rattle.std.proofs.Common.{◌≡◌, ◌≢◌, ℕ, zero, suc, Bool, true, false, ◌≤◌, ◌<◌, List, [], ◌∷◌, length, nat_eq, refl, sym, ap, subst, ◌∙◌, inl, inr, arith, if◌then◌else◌}
 use Rattle.std.specs.Prelude.{◌⊎◌}
 use Rattle.std.proofs.lemmas.Bool.{cases_Bool, cases_eq, ne_eqb, false≢true}
-use Rattle.lfm_protocol.specs.declared.answers.Call.TheVariants.{Unlock, Receive}
+use Rattle.lfm_protocol.specs.declared.answers.Call.TheVariants.{Unlock, Receive, Lock, TryLock, StartWait, SendLock}
 use Rattle.lfm_protocol.specs.declared.answers.Turn.TheVariants.{Open}
 use Rattle.lfm_protocol.specs.declared.points.Point.{Point}
 use Rattle.lfm_protocol.specs.declared.points.Point.TheVariants.{Rest, Asleep, ReleaseOwnerStore}
@@ -16,16 +16,20 @@ use Rattle.lfm_protocol.specs.Core.{Core, limits}
 use Rattle.lfm_protocol.specs.Seats.{seat, is_seat, IsSeat}
 use Rattle.lfm_protocol.specs.Step.{step, begin}
 use Rattle.lfm_protocol.specs.Turns.{is_refused}
-use Rattle.lfm_laws.specs.laws.FairRounds.{RestsOrReleases, OwnerRestsOrReleases, OwnersOnlyRelease, IsFairRound, FairRoundsCanBeMade}
+use Rattle.lfm_laws.specs.laws.FairRounds.{RestsOrReleases, OwnerRestsOrReleases, OwnersOnlyRelease, IsFairRound, FairRoundsCanBeMade, ReleasesBy, ReleasesIn}
 use Rattle.lfm_laws.specs.laws.Rounds.{CanGoOn, GoesOnBy, GoesOnIn, IsRound, BeginsOnlyReceives, RoundsCanBeMade}
 use Rattle.lfm_laws.specs.laws.Schedules.{Event, begins, makes, happens, is_call, run_of}
 use Rattle.lfm_laws.specs.steady.Steady.{Steady, DepthAt}
 use Rattle.lfm_laws.proofs.lawful.bounds.Leaving.{other_made, begun_other, seat_of_call}
 use Rattle.lfm_laws.proofs.lawful.bounds.LockFree.{steady_event}
-use Rattle.lfm_laws.proofs.lawful.runs.Reached.{steady_reached}
+use Rattle.lfm_laws.proofs.lawful.runs.Reached.{steady_reached, absent_tested}
 use Rattle.lfm_laws.proofs.steady.frames.Seated.{test_of_seat, seat_of_point}
 use Rattle.lfm_laws.proofs.lawful.rounds.FairRounds.{held_run}
 use Rattle.lfm_laws.proofs.lawful.rounds.Holds.{owner_deep, owner_seat, begun_turn}
+use Rattle.lfm_laws.specs.laws.FullRounds.{BeginsBy, BeginsIn, IsFullRound, calls_of_owners, FullRoundsCanBeMade}
+use Rattle.lfm_laws.specs.steady.Ghost.{owned}
+use Rattle.lfm_laws.specs.steady.Views.{claim_at}
+use Rattle.lfm_laws.proofs.lawful.rounds.OwnerNeeds.{owner_owns}
 
 abbrev is_asleep : Point → Bool
 is_asleep (Asleep since) = true
@@ -47,7 +51,7 @@ Goes p = (is_call p ≡ true) ⊎ ((since : Sleeper) × (p ≡ Asleep since))
 opens_at : (x : SeatState) (limits : Limits) (p : Point) (since : Sleeper) → p ≡ Asleep since → (Begin.begin_at x limits Receive p).turn ≡ Open
 opens_at x limits p since at = rw at refl
 
-opens : (c : Core) (s : ℕ) (since : Sleeper) → (seat c.seats s).point ≡ Asleep since → (begin c s Receive).turn ≡ Open
+pub opens : (c : Core) (s : ℕ) (since : Sleeper) → (seat c.seats s).point ≡ Asleep since → (begin c s Receive).turn ≡ Open
 opens c s since at =
     let is = seat_of_point c.seats s (λ rests. let e = sym at ∙ rests in cc) in
     rw (test_of_seat c.seats s is) (opens_at (seat c.seats s) (limits c) (seat c.seats s).point since at)
@@ -154,27 +158,31 @@ plain_made c steady rests none =
     )
 
 -- the owner begins an unlock first
-unlock_made : (c : Core) → Steady c → OwnerRestsOrReleases c → 0 < c.owner → (seat c.seats c.owner).point ≡ Rest → Made c
-unlock_made c steady rests some at =
+abbrev unlock_first : Core → List Event
+unlock_first c = begins c.owner Unlock ∷ round_of (length (begin c c.owner Unlock).core.seats) (begin c c.owner Unlock).core
+
+unlock_round : (c : Core) → Steady c → OwnerRestsOrReleases c → 0 < c.owner → (seat c.seats c.owner).point ≡ Rest → IsFairRound c (unlock_first c)
+unlock_round c steady rests some at =
     let deep = owner_deep c steady rests some in
     let is = owner_seat c (seat c.seats c.owner).point refl (rests some) deep in
+    let d : Core = (begin c c.owner Unlock).core in
+    let turn = ap is_refused (begun_turn c c.owner Unlock is) ∙ unlock_turn (seat c.seats c.owner) (limits c) (seat c.seats c.owner).point at (deep at) in
+    record {
+      round = λ s can.
+          let goes = goes_of c s can in
+          let other : s ≢ c.owner = λ own. idle (seat c.seats s).point (ap (λ (t : ℕ). (seat c.seats t).point) own ∙ at) goes in
+          let still = subst (λ (x : SeatState). Goes x.point) (sym (begun_other c c.owner s Unlock other)) goes in
+          let seat_is = seat_of d s still in
+          inr (goes_on_in (length d.seats) d s seat_is.above seat_is.within still);
+      releases = λ more here. inl (refl, turn);
+    }
+
+unlock_made : (c : Core) → Steady c → OwnerRestsOrReleases c → 0 < c.owner → (seat c.seats c.owner).point ≡ Rest → Made c
+unlock_made c steady rests some at =
     let e : Event = begins c.owner Unlock in
     let d : Core = (begin c c.owner Unlock).core in
-    let later : List Event = round_of (length c.seats) d in
-    let only : OwnersOnlyRelease c (e ∷ later) = (tt, only_release (length c.seats) d (steady_event c e steady)) in
-    let turn = ap is_refused (begun_turn c c.owner Unlock is) ∙ unlock_turn (seat c.seats c.owner) (limits c) (seat c.seats c.owner).point at (deep at) in (
-      e ∷ later,
-      record {
-        round = λ s can.
-            let goes = goes_of c s can in
-            let seat_is = seat_of c s goes in
-            let other : s ≢ c.owner = λ own. idle (seat c.seats s).point (ap (λ (t : ℕ). (seat c.seats t).point) own ∙ at) goes in
-            inr (goes_on_in (length c.seats) d s seat_is.above seat_is.within (subst (λ (x : SeatState). Goes x.point) (sym (begun_other c c.owner s Unlock other)) goes));
-        releases = λ more here. inl (refl, turn);
-      },
-      only,
-      (held_run c (e ∷ later) steady rests only).rests,
-    )
+    let only : OwnersOnlyRelease c (unlock_first c) = (tt, only_release (length d.seats) d (steady_event c e steady)) in
+    (unlock_first c, unlock_round c steady rests some at, only, (held_run c (unlock_first c) steady rests only).rests)
 
 by_point : (c : Core) (p : Point) → (seat c.seats c.owner).point ≡ p → Steady c → OwnerRestsOrReleases c → 0 < c.owner → RestsOrReleases p → Made c
 by_point c Rest at steady rests some hold = unlock_made c steady rests some at
@@ -186,7 +194,75 @@ fair_rounds_can_be_made c reached rests =
     let steady = steady_reached c reached in
     elim (cases_eq c.owner 0) [
       | inl none ↦ plain_made c steady rests (λ some at. omega (arith, some, none))
-      | inr owned ↦
-          let some : 0 < c.owner = omega (arith, owned) in
+      | inr other ↦
+          let some : 0 < c.owner = omega (arith, other) in
           by_point c (seat c.seats c.owner).point refl steady rests some (rests some)
     ]
+
+-- A full round
+
+-- the owner doesn't sleep, so no receive is its call
+asleep_unowned : (depth s : ℕ) (again : Bool) (p : Point) → is_asleep p ≡ true → claim_at depth s p ≡ owned s again → ⊥
+asleep_unowned depth s again (Asleep since) asleep holds = cc
+asleep_unowned depth s again _ asleep holds = false≢true asleep
+
+no_receive : (c : Core) (s : ℕ) → Steady c → is_asleep (seat c.seats s).point ≡ true → s ≢ c.owner
+no_receive c s steady asleep own =
+    let at : is_asleep (seat c.seats c.owner).point ≡ true = subst (λ (n : ℕ). is_asleep (seat c.seats n).point ≡ true) own asleep in
+    elim (cases_eq c.owner 0) [
+      | inl none ↦ false≢true (rw (none, absent_tested c.seats 0 refl) at at)
+      | inr some ↦
+          let owns = owner_owns c steady.ghost_state steady.fits (omega (arith, some)) in
+          asleep_unowned (seat c.seats c.owner).depth c.owner owns.again (seat c.seats c.owner).point at owns.claims
+    ]
+
+none_begun : (n : ℕ) (c : Core) → Steady c → calls_of_owners c (round_of n c) ≡ 0
+none_begun zero c steady = refl
+none_begun (suc n) c steady =
+    elim (cases_Bool (is_asleep (seat c.seats (suc n)).point)) [
+      | inl asleep ↦
+          let e : Event = begins (suc n) Receive in
+          let rest = none_begun n (happens c e).core (steady_event c e steady) in
+          rw (asleep, ne_eqb (suc n) c.owner (no_receive c (suc n) steady asleep)) (omega (arith, rest))
+      | inr awake ↦
+          let e : Event = makes (suc n) in
+          let rest = none_begun n (happens c e).core (steady_event c e steady) in
+          rw awake (omega (arith, rest))
+    ]
+
+-- each fair round is a full one
+begins_by : (c : Core) (s : ℕ) (e : Event) → ReleasesBy c s e → BeginsBy c s e
+begins_by c s (begins t Unlock) releases = releases
+begins_by c s (begins t StartWait) releases = releases
+begins_by c s (begins t Lock) releases = absurd releases
+begins_by c s (begins t TryLock) releases = absurd releases
+begins_by c s (begins t Receive) releases = absurd releases
+begins_by c s (begins t (SendLock u)) releases = absurd releases
+begins_by c s (makes t) releases = absurd releases
+
+begins_in : (c : Core) (s : ℕ) (events : List Event) → ReleasesIn c s events → BeginsIn c s events
+begins_in c s [] releases = absurd releases
+begins_in c s (e ∷ later) (inl now) = inl (begins_by c s e now)
+begins_in c s (e ∷ later) (inr soon) = inr (begins_in (happens c e).core s later soon)
+
+full_of_fair : (c : Core) (events : List Event) → IsFairRound c events → IsFullRound c events
+full_of_fair c events fair = record { round = fair.round; begins_call = λ some at. begins_in c c.owner events (fair.releases some at) }
+
+pub full_rounds_can_be_made : FullRoundsCanBeMade
+full_rounds_can_be_made c reached =
+    let steady = steady_reached c reached in
+    elim (cases_eq c.owner 0) [
+      | inl none ↦ plain_full steady (λ some at. omega (arith, some, none))
+      | inr other ↦ by_point (seat c.seats c.owner).point refl steady (omega (arith, other))
+    ]
+  where
+    plain_full : Steady c → (0 < c.owner → (seat c.seats c.owner).point ≡ Rest → ⊥) → (events : List Event) × IsFullRound c events × (calls_of_owners c events ≡ 0)
+    plain_full steady none =
+        (round_of (length c.seats) c, record { round = is_round c; begins_call = λ some at. absurd (none some at) }, none_begun (length c.seats) c steady)
+
+    by_point : (p : Point) → (seat c.seats c.owner).point ≡ p → Steady c → 0 < c.owner → (events : List Event) × IsFullRound c events × (calls_of_owners c events ≡ 0)
+    by_point Rest at steady some =
+        let d : Core = (begin c c.owner Unlock).core in
+        let none : calls_of_owners c (unlock_first c) ≡ 0 = let rest = none_begun (length d.seats) d (steady_event c (begins c.owner Unlock) steady) in omega (arith, rest) in
+        (unlock_first c, full_of_fair c (unlock_first c) (unlock_round c steady (λ more. rw at tt) some at), none)
+    by_point _ at steady some = plain_full steady (λ more rests. let e = sym at ∙ rests in cc)

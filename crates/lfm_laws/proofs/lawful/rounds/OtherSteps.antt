@@ -89,7 +89,7 @@ passed_step c g h t u m fits none place other more after (Abstract.enter s x mov
 passed_step c g h t u m fits none place other more after (Abstract.release s moves) = absurd (let e : owner s ≡ passed u = sym moves.before ∙ place in cc)
 passed_step c g h t u m fits none place other more after (Abstract.leave s to goes moves) = absurd (let e : carried s Abstract.leaving ≡ passed u = sym moves.before ∙ place in cc)
 
-passed_case : (c : Core) (g h : Ghost) (t u m : ℕ) (k : Option Case) → Fits c g → held_by g.place u ≡ nobody → abstract_place g.place ≡ passed u → u ≢ t
+pub passed_case : (c : Core) (g h : Ghost) (t u m : ℕ) (k : Option Case) → Fits c g → held_by g.place u ≡ nobody → abstract_place g.place ≡ passed u → u ≢ t
     → grant_weight (seat c.seats u).point ≤ m → Fits (made c t).core h → GoesBy k (abstract g) (abstract h) → Stays (made c t).core g h u m
 passed_case c g h t u m None fits none place other more after goes = passed_same c (made c t).core g h u m place goes.place (other_made c t u other) (size_made c t) more
 passed_case c g h t u m (Some case) fits none place other more after goes = passed_step c g h t u m fits none place other more after goes.0

@@ -121,10 +121,10 @@ posted_goes_on c g h u m _ at fits place some is tries more after goes = absurd 
 
 -- A grant
 
-granted_handoff : (seats : List SeatState) (p : Responsibility) (s stamp : ℕ) (n : Handoff) → p ≡ Places.granted s stamp → HandoffFits seats p n → n ≡ unposted
+pub granted_handoff : (seats : List SeatState) (p : Responsibility) (s stamp : ℕ) (n : Handoff) → p ≡ Places.granted s stamp → HandoffFits seats p n → n ≡ unposted
 granted_handoff seats p s stamp n place fits = rw place at fits
 
-not_unposted : (seen : Handoff) → 0 < seen.seat → same_handoff unposted seen ≡ false
+pub not_unposted : (seen : Handoff) → 0 < seen.seat → same_handoff unposted seen ≡ false
 not_unposted seen above = rw (ne_eqb 0 seen.seat (λ e. omega (arith, e, above))) refl
 
 pub granted_goes_on : (c : Core) (g h : Ghost) (u m stamp : ℕ) (p : Point) → (seat c.seats u).point ≡ p → is_call p ≡ true → Fits c g → g.place ≡ Places.granted u stamp → IsSeat c.seats u

@@ -38,7 +38,7 @@ seats-happens c (makes s) = seats-step c s
 same_limits : (c d : Core) → length d.seats ≡ length c.seats → d.budget ≡ c.budget → limits d ≡ limits c
 same_limits c d seats budget i = record { seats = seats i; budget = budget i }
 
-run_limits : (c : Core) (events : List Event) → limits (run_of c events) ≡ limits c
+pub run_limits : (c : Core) (events : List Event) → limits (run_of c events) ≡ limits c
 run_limits c [] = refl
 run_limits c (e ∷ later) =
     run_limits (happens c e).core later ∙ same_limits c (happens c e).core (seats-happens c e) (budget-happens c e)

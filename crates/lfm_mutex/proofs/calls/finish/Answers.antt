@@ -6,12 +6,12 @@ use Rattle.lfm_protocol.specs.Points.{kind}
 use Rattle.lfm_mutex.specs.calls.Due.{due}
 use Rattle.lfm_mutex.specs.calls.FailedPushes.{Spends}
 use Rattle.lfm_mutex.specs.calls.Runs.{errand, weight, Holds}
-use Rattle.lfm_mutex.proofs.runs.RunFacts.{open_point}
+use Rattle.lfm_mutex.proofs.runs.StepResults.{open_point}
 use Rattle.lfm_mutex.proofs.runs.Running.{event_of, bounded_more, ran_more, last_more, turn_more, release_more, steps_left, ends_of, holds_now}
 use Rattle.lfm_mutex.proofs.runs.Spending.{spends_join, spends_more, spends_within}
 use Rattle.lfm_table.specs.Rule.{value_in, last_hold}
 use Rattle.lfm_mutex.specs.calls.Sight.{Concludes}
-use Rattle.lfm_mutex.proofs.runs.Sights.{concludes_now, stays_now, concludes_join, stays_join}
+use Rattle.lfm_mutex.proofs.runs.Conclusions.{concludes_now, stays_now, concludes_join, stays_join}
 use Rattle.lfm_words.specs.Popped.{oldest}
 use Rattle.lfm_laws.specs.table.Ready.{IsReady}
 use Rattle.lfm_table.specs.Grants.{granted_at}

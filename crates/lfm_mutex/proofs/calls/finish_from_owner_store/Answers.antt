@@ -5,7 +5,7 @@ use Rattle.lfm_table.specs.Grants.{granted_at}
 use Rattle.lfm_mutex.specs.calls.Runs.{Ran, opens, weight}
 use Rattle.lfm_mutex.specs.calls.WakeUps.{Wakes}
 use Rattle.lfm_mutex.proofs.runs.Running.{bounded_more, last_one, ran_one, ran_join, release_some}
-use Rattle.lfm_mutex.proofs.runs.Sights.{first_opens, first_concludes, concludes_join}
+use Rattle.lfm_mutex.proofs.runs.Conclusions.{first_opens, first_concludes, concludes_join}
 use Rattle.lfm_mutex.proofs.runs.WakeUps.{grants_none, wakes_after}
 use Rattle.lfm_mutex.proofs.calls.finish_from_owner_store.Goals as goal
 

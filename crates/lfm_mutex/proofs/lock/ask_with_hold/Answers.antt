@@ -32,7 +32,7 @@ pub returns-then-found-eq0-clause-made : goal.returns-then-found-eq0-clause-made
 returns-then-found-eq0-clause-made g c =
     let s = c.args.seat.now in let d = s.state.depth in let t = s.state.takes in let ps = s.state.posts in
     let p0 = made_of d t ps LockCountAdd in
-    let begins = begins_again s.state s.table_seat.limits c.requires.rests c.requires.held c.requires.room in
+    let begins = begins_again s.state s.table_seat.limits c.requires.may.rests c.requires.may.held c.requires.may.room in
     let fit = fit_begun s.table_seat.number s.table_seat.place.table_id.words s.table_seat.place.id s.table_seat.limits s.table_seat.place.me s.table_seat.moving s.state p0 Call.Lock (record { seated = s.seated; became = s.became; ready = s.ready; rooted = s.rooted }) begins in
     let f = c.keep_held-found in
     let q = made_of d t ps (EnterOwnerStore Entrant.Locker How.Free) in let r = c.finish_ask.new.seat in
@@ -44,7 +44,7 @@ pub returns-clause-made : goal.returns-clause-made
 returns-clause-made g c =
     let s = c.args.seat.now in let d = s.state.depth in let t = s.state.takes in let ps = s.state.posts in
     let p0 = made_of d t ps LockCountAdd in
-    let begins = begins_again s.state s.table_seat.limits c.requires.rests c.requires.held c.requires.room in
+    let begins = begins_again s.state s.table_seat.limits c.requires.may.rests c.requires.may.held c.requires.may.room in
     let fit = fit_begun s.table_seat.number s.table_seat.place.table_id.words s.table_seat.place.id s.table_seat.limits s.table_seat.place.me s.table_seat.moving s.state p0 Call.Lock (record { seated = s.seated; became = s.became; ready = s.ready; rooted = s.rooted }) begins in
     let f = c.keep_held-found in
     let h = c.keep_held-owner in let k = c.keep_held in
@@ -57,7 +57,7 @@ returns-clause-made g c =
     let fit2 = fit_after g.T.Kept.follows g.T.Kept.fits s.table_seat.number h.new.seat.place.table_id.words h.new.seat.place.id s.table_seat.limits p1 h.result f.new.seat.place.me f.new.seat.moving h.new.seat.place.me h.new.seat.moving (told_before (same_then f.ensures.same h.ensures.same) h.ensures.step) (opens p2) is2 in
     let last = course_next g.T.Kept.follows g.T.Kept.fits s.table_seat.number p0 s.table_seat.moving s.table_seat.place.me.0 h.new.seat.place.table_id.words h.new.seat.place.id s.table_seat.limits p2 k.result h.new.seat.place.me h.new.seat.moving k.new.seat.place.me k.new.seat.moving k.new.seat.place.table_id.words k.new.seat.place.id (stepped_by p2 s.table_seat.number k.result (oldest_in k.new.seat.moving)) second fit2 (told_before (same_then (same_then f.ensures.same h.ensures.same) k.ensures.same) k.ensures.step) refl (λ e. cc) refl in
     subst (λ (x : SeatState). ComesTo g.T.Kept.follows g.T.Kept.fits c.args.mutex.now.limits Call.Lock (sight_of s.table_seat.number s.state s.table_seat.place.me.0 (value_in s.table_seat.moving)) (sight_of k.new.seat.number x k.new.seat.place.me.0 (value_in k.new.seat.moving)) (Ended (Answer.Asked (Asked.Again (d + 1)))))
-    (λ i. record { depth = d + 1; takes = t; posts = ps; point = sym c.requires.rests i })
+    (λ i. record { depth = d + 1; takes = t; posts = ps; point = sym c.requires.may.rests i })
     (comes g.T.Kept.follows g.T.Kept.fits s.table_seat.number p0 s.table_seat.moving s.table_seat.place.me.0 k.new.seat.number s.table_seat.limits c.args.mutex.now.limits Call.Lock s.state (made_of (d + 1) t ps Rest) (Ended (Answer.Asked (Asked.Again (d + 1)))) k.new.seat.moving k.new.seat.place.me.0 c.requires.belongs.1 (same_then (same_then f.ensures.same h.ensures.same) k.ensures.same).0 refl begins refl last)
 
 pub returns-then-found-eq0-clause-bounded : goal.returns-then-found-eq0-clause-bounded
@@ -82,20 +82,21 @@ returns-clause-bounded g c =
     spent 3 (c.args.mutex.now.limits.seats + 9) s.table_seat.place.me.0.trail k.new.seat.place.me.0.trail (omega arith)
     (spends_join 3 2 0 s.table_seat.place.me.0.trail f.new.seat.place.me.0.trail k.new.seat.place.me.0.trail one (spends_join 2 1 0 f.new.seat.place.me.0.trail h.new.seat.place.me.0.trail k.new.seat.place.me.0.trail two three))
 
-pub returns-then-found-eq0-clause-wakes : goal.returns-then-found-eq0-clause-wakes
-returns-then-found-eq0-clause-wakes g c =
-    let s = c.args.seat.now in let f = c.keep_held-found in let on = c.finish_ask in
-    subst (λ (n : ℕ). Wakes n on.result.1 s.table_seat.place.me.0.trail on.new.seat.table_seat.place.me.0.trail) (ap (λ l. l.seats) c.requires.belongs.1)
-    (wakes_after s.table_seat.limits.seats on.result.1 s.table_seat.place.me.0.trail f.new.seat.place.me.0.trail on.new.seat.table_seat.place.me.0.trail (grants_none g.T.Kept.follows g.T.Kept.fits _ _ _ _ _ _ _ f.ensures.step.event refl) (wakes_same on.result.1 f.new.seat.place.me.0.trail on.new.seat.table_seat.place.me.0.trail f.ensures.same.1 on.ensures.finishes.wakes))
-
-pub returns-clause-wakes : goal.returns-clause-wakes
-returns-clause-wakes g c =
-    let s = c.args.seat.now in let f = c.keep_held-found in let h = c.keep_held-owner in let k = c.keep_held in
-    wakes_none c.args.mutex.now.limits.seats s.table_seat.place.me.0.trail k.new.seat.place.me.0.trail (grants_none g.T.Kept.follows g.T.Kept.fits _ _ _ _ _ _ _ k.ensures.step.event refl ∙ (grants_none g.T.Kept.follows g.T.Kept.fits _ _ _ _ _ _ _ h.ensures.step.event refl ∙ grants_none g.T.Kept.follows g.T.Kept.fits _ _ _ _ _ _ _ f.ensures.step.event refl))
-
 pub returns-then-found-eq0-clause-acts : goal.returns-then-found-eq0-clause-acts
-returns-then-found-eq0-clause-acts g c = record { belongs = search rules; run = run_next (run_made c.keep_held-found.ensures.step) c.finish_ask.ensures.finishes.made.ran.run; woken = search rules }
+returns-then-found-eq0-clause-acts g c = record {
+  belongs = search rules;
+  woken = search rules;
+  run = run_next (run_made c.keep_held-found.ensures.step) c.finish_ask.ensures.finishes.made.ran.run;
+  wakes = let s = c.args.seat.now in let f = c.keep_held-found in let on = c.finish_ask in
+      subst (λ (n : ℕ). Wakes n on.result.1 s.table_seat.place.me.0.trail on.new.seat.table_seat.place.me.0.trail) (ap (λ l. l.seats) c.requires.belongs.1)
+      (wakes_after s.table_seat.limits.seats on.result.1 s.table_seat.place.me.0.trail f.new.seat.place.me.0.trail on.new.seat.table_seat.place.me.0.trail (grants_none g.T.Kept.follows g.T.Kept.fits _ _ _ _ _ _ _ f.ensures.step.event refl) (wakes_same on.result.1 f.new.seat.place.me.0.trail on.new.seat.table_seat.place.me.0.trail f.ensures.same.1 on.ensures.finishes.wakes));
+}
 
 pub returns-clause-acts : goal.returns-clause-acts
-returns-clause-acts g c =
-    record { belongs = search rules; woken = search rules; run = run_next (run_made c.keep_held-found.ensures.step) (run_next (run_made c.keep_held-owner.ensures.step) (run_made c.keep_held.ensures.step)) }
+returns-clause-acts g c = record {
+  belongs = search rules;
+  woken = search rules;
+  run = run_next (run_made c.keep_held-found.ensures.step) (run_next (run_made c.keep_held-owner.ensures.step) (run_made c.keep_held.ensures.step));
+  wakes = let s = c.args.seat.now in let f = c.keep_held-found in let h = c.keep_held-owner in let k = c.keep_held in
+      wakes_none c.args.mutex.now.limits.seats s.table_seat.place.me.0.trail k.new.seat.place.me.0.trail (grants_none g.T.Kept.follows g.T.Kept.fits _ _ _ _ _ _ _ k.ensures.step.event refl ∙ (grants_none g.T.Kept.follows g.T.Kept.fits _ _ _ _ _ _ _ h.ensures.step.event refl ∙ grants_none g.T.Kept.follows g.T.Kept.fits _ _ _ _ _ _ _ f.ensures.step.event refl));
+}

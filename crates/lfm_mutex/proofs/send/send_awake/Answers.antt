@@ -48,10 +48,6 @@ returns-then-found-waiting-clause-bounded g c =
     let st = stepped_by p0 s.table_seat.number f.result (oldest_in b) in
     spent 1 (c.args.mutex.now.limits.seats + 9) s.table_seat.place.me.0.trail f.new.seat.place.me.0.trail (omega arith) (spends_any g.T.Kept.follows g.T.Kept.fits p0 st.seat s.table_seat.place.me.0 f.new.seat.place.me.0 a b st.turn (told_before f.ensures.same f.ensures.step).event 0)
 
-pub returns-then-found-waiting-clause-wakes : goal.returns-then-found-waiting-clause-wakes
-returns-then-found-waiting-clause-wakes g c = let s = c.args.seat.now in let f = c.keep-found in let b = f.new.seat.moving in
-    wakes_none c.args.mutex.now.limits.seats s.table_seat.place.me.0.trail f.new.seat.place.me.0.trail (grants_none g.T.Kept.follows g.T.Kept.fits _ _ _ _ _ _ _ (told_before f.ensures.same f.ensures.step).event refl)
-
 pub returns-then-seat-eq0-clause-made : goal.returns-then-seat-eq0-clause-made
 returns-then-seat-eq0-clause-made g c =
     let s = c.args.seat.now in let d = s.state.depth in let t = s.state.takes in let ps = s.state.posts in let a = s.table_seat.moving in let u = c.args.target in let f = c.keep-found in let b = f.new.seat.moving in
@@ -74,12 +70,6 @@ returns-then-seat-eq0-clause-bounded g c =
     let st = stepped_by p0 s.table_seat.number f.result (oldest_in b) in
     let one = spends_any g.T.Kept.follows g.T.Kept.fits p0 st.seat s.table_seat.place.me.0 f.new.seat.place.me.0 a b st.turn (told_before f.ensures.same f.ensures.step).event (n + 8) in
     spent (n + 8 + 1) (c.args.mutex.now.limits.seats + 9) s.table_seat.place.me.0.trail r.table_seat.place.me.0.trail (omega (arith, same)) (spends_join (n + 8 + 1) (n + 8) 0 s.table_seat.place.me.0.trail f.new.seat.place.me.0.trail r.table_seat.place.me.0.trail one (subst (λ (l : Limits). Spends (l.seats + 8) 0 f.new.seat.place.me.0.trail r.table_seat.place.me.0.trail) f.ensures.same.1 on.ensures.spends))
-
-pub returns-then-seat-eq0-clause-wakes : goal.returns-then-seat-eq0-clause-wakes
-returns-then-seat-eq0-clause-wakes g c =
-    let s = c.args.seat.now in let f = c.keep-found in let on = c.send_without_hold in
-    subst (λ (n : ℕ). Wakes n on.result.1 s.table_seat.place.me.0.trail on.new.seat.table_seat.place.me.0.trail) (ap (λ l. l.seats) c.requires.belongs.1)
-    (wakes_after s.table_seat.limits.seats on.result.1 s.table_seat.place.me.0.trail f.new.seat.place.me.0.trail on.new.seat.table_seat.place.me.0.trail (grants_none g.T.Kept.follows g.T.Kept.fits _ _ _ _ _ _ _ (told_before f.ensures.same f.ensures.step).event refl) (wakes_same on.result.1 f.new.seat.place.me.0.trail on.new.seat.table_seat.place.me.0.trail f.ensures.same.1 on.ensures.finishes.wakes))
 
 pub returns-clause-made : goal.returns-clause-made
 returns-clause-made g c =
@@ -104,18 +94,31 @@ returns-clause-bounded g c =
     let one = spends_any g.T.Kept.follows g.T.Kept.fits p0 st.seat s.table_seat.place.me.0 f.new.seat.place.me.0 a b st.turn (told_before f.ensures.same f.ensures.step).event (n + 8) in
     spent (n + 8 + 1) (c.args.mutex.now.limits.seats + 9) s.table_seat.place.me.0.trail r.table_seat.place.me.0.trail (omega (arith, same)) (spends_join (n + 8 + 1) (n + 8) 0 s.table_seat.place.me.0.trail f.new.seat.place.me.0.trail r.table_seat.place.me.0.trail one (subst (λ (l : Limits). Spends (l.seats + 8) 0 f.new.seat.place.me.0.trail r.table_seat.place.me.0.trail) f.ensures.same.1 on.ensures.spends))
 
-pub returns-clause-wakes : goal.returns-clause-wakes
-returns-clause-wakes g c =
-    let s = c.args.seat.now in let f = c.keep-found in let on = c.send_with_hold in
-    subst (λ (n : ℕ). Wakes n on.result.1 s.table_seat.place.me.0.trail on.new.seat.table_seat.place.me.0.trail) (ap (λ l. l.seats) c.requires.belongs.1)
-    (wakes_after s.table_seat.limits.seats on.result.1 s.table_seat.place.me.0.trail f.new.seat.place.me.0.trail on.new.seat.table_seat.place.me.0.trail (grants_none g.T.Kept.follows g.T.Kept.fits _ _ _ _ _ _ _ (told_before f.ensures.same f.ensures.step).event refl) (wakes_same on.result.1 f.new.seat.place.me.0.trail on.new.seat.table_seat.place.me.0.trail f.ensures.same.1 on.ensures.finishes.wakes))
-
 pub returns-then-found-waiting-clause-acts : goal.returns-then-found-waiting-clause-acts
-returns-then-found-waiting-clause-acts g c = record { belongs = search rules; run = run_made c.keep-found.ensures.step; woken = search rules }
+returns-then-found-waiting-clause-acts g c = record {
+  belongs = search rules;
+  woken = search rules;
+  run = run_made c.keep-found.ensures.step;
+  wakes = let s = c.args.seat.now in let f = c.keep-found in let b = f.new.seat.moving in
+      wakes_none c.args.mutex.now.limits.seats s.table_seat.place.me.0.trail f.new.seat.place.me.0.trail (grants_none g.T.Kept.follows g.T.Kept.fits _ _ _ _ _ _ _ (told_before f.ensures.same f.ensures.step).event refl);
+}
 
 pub returns-then-seat-eq0-clause-acts : goal.returns-then-seat-eq0-clause-acts
-returns-then-seat-eq0-clause-acts g c =
-    record { belongs = search rules; woken = search rules; run = run_next (run_made c.keep-found.ensures.step) c.send_without_hold.ensures.finishes.made.ran.run }
+returns-then-seat-eq0-clause-acts g c = record {
+  belongs = search rules;
+  woken = search rules;
+  run = run_next (run_made c.keep-found.ensures.step) c.send_without_hold.ensures.finishes.made.ran.run;
+  wakes = let s = c.args.seat.now in let f = c.keep-found in let on = c.send_without_hold in
+      subst (λ (n : ℕ). Wakes n on.result.1 s.table_seat.place.me.0.trail on.new.seat.table_seat.place.me.0.trail) (ap (λ l. l.seats) c.requires.belongs.1)
+      (wakes_after s.table_seat.limits.seats on.result.1 s.table_seat.place.me.0.trail f.new.seat.place.me.0.trail on.new.seat.table_seat.place.me.0.trail (grants_none g.T.Kept.follows g.T.Kept.fits _ _ _ _ _ _ _ (told_before f.ensures.same f.ensures.step).event refl) (wakes_same on.result.1 f.new.seat.place.me.0.trail on.new.seat.table_seat.place.me.0.trail f.ensures.same.1 on.ensures.finishes.wakes));
+}
 
 pub returns-clause-acts : goal.returns-clause-acts
-returns-clause-acts g c = record { belongs = search rules; run = run_next (run_made c.keep-found.ensures.step) c.send_with_hold.ensures.finishes.made.ran.run; woken = search rules }
+returns-clause-acts g c = record {
+  belongs = search rules;
+  woken = search rules;
+  run = run_next (run_made c.keep-found.ensures.step) c.send_with_hold.ensures.finishes.made.ran.run;
+  wakes = let s = c.args.seat.now in let f = c.keep-found in let on = c.send_with_hold in
+      subst (λ (n : ℕ). Wakes n on.result.1 s.table_seat.place.me.0.trail on.new.seat.table_seat.place.me.0.trail) (ap (λ l. l.seats) c.requires.belongs.1)
+      (wakes_after s.table_seat.limits.seats on.result.1 s.table_seat.place.me.0.trail f.new.seat.place.me.0.trail on.new.seat.table_seat.place.me.0.trail (grants_none g.T.Kept.follows g.T.Kept.fits _ _ _ _ _ _ _ (told_before f.ensures.same f.ensures.step).event refl) (wakes_same on.result.1 f.new.seat.place.me.0.trail on.new.seat.table_seat.place.me.0.trail f.ensures.same.1 on.ensures.finishes.wakes));
+}

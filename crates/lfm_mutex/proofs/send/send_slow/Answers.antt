@@ -13,8 +13,8 @@ returns-in-Ended-Sent-clause-steps g c = let e : c.begin_and_finish-turn.result.
 pub returns-in-Ended-Sent-clause-bounded : goal.returns-in-Ended-Sent-clause-bounded
 returns-in-Ended-Sent-clause-bounded g c = c.begin_and_finish-turn.ensures.bounded
 
-pub returns-in-Ended-Sent-clause-wakes : goal.returns-in-Ended-Sent-clause-wakes
-returns-in-Ended-Sent-clause-wakes g c = c.begin_and_finish-turn.ensures.wakes
+pub returns-in-Ended-Sent-clause-acts : goal.returns-in-Ended-Sent-clause-acts
+returns-in-Ended-Sent-clause-acts g c = c.begin_and_finish-turn.ensures.acts
 
 pub returns-in-Refused-By-clause-sends : goal.returns-in-Refused-By-clause-sends
 returns-in-Refused-By-clause-sends g c = let e : c.begin_and_finish-turn.result.0 ≡ Refused (Why.By c.in-Refused-By.refusal) = search rules in rw (e, c.get.ensures.value) at c.begin_and_finish-turn.ensures.turned

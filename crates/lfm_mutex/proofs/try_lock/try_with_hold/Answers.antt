@@ -25,7 +25,7 @@ pub returns-then-found-eq0-clause-made : goal.returns-then-found-eq0-clause-made
 returns-then-found-eq0-clause-made g c =
     let s = c.args.seat.now in let d = s.state.depth in let t = s.state.takes in let ps = s.state.posts in
     let p0 = made_of d t ps TryCountExchange in
-    let begins = begins_try_again s.state s.table_seat.limits c.requires.rests c.requires.held c.requires.room in
+    let begins = begins_try_again s.state s.table_seat.limits c.requires.may.rests c.requires.may.held c.requires.may.room in
     let fit = fit_begun s.table_seat.number s.table_seat.place.table_id.words s.table_seat.place.id s.table_seat.limits s.table_seat.place.me s.table_seat.moving s.state p0 Call.TryLock (record { seated = s.seated; became = s.became; ready = s.ready; rooted = s.rooted }) begins in
     let f = c.keep_held-found in
     let q = made_of d t ps (EnterOwnerStore Entrant.Trier How.Free) in let r = c.finish_try.new.seat in
@@ -38,7 +38,7 @@ pub returns-clause-made : goal.returns-clause-made
 returns-clause-made g c =
     let s = c.args.seat.now in let d = s.state.depth in let t = s.state.takes in let ps = s.state.posts in
     let p0 = made_of d t ps TryCountExchange in
-    let begins = begins_try_again s.state s.table_seat.limits c.requires.rests c.requires.held c.requires.room in
+    let begins = begins_try_again s.state s.table_seat.limits c.requires.may.rests c.requires.may.held c.requires.may.room in
     let fit = fit_begun s.table_seat.number s.table_seat.place.table_id.words s.table_seat.place.id s.table_seat.limits s.table_seat.place.me s.table_seat.moving s.state p0 Call.TryLock (record { seated = s.seated; became = s.became; ready = s.ready; rooted = s.rooted }) begins in
     let f = c.keep_held-found in
     let h = c.keep_held-owner in
@@ -49,7 +49,7 @@ returns-clause-made g c =
     let fit1 = fit_after g.T.Kept.follows g.T.Kept.fits s.table_seat.number f.new.seat.place.table_id.words f.new.seat.place.id s.table_seat.limits p0 f.result s.table_seat.place.me s.table_seat.moving f.new.seat.place.me f.new.seat.moving (told_before f.ensures.same f.ensures.step) (opens p1) is1 in
     let last = course_next g.T.Kept.follows g.T.Kept.fits s.table_seat.number p0 s.table_seat.moving s.table_seat.place.me.0 f.new.seat.place.table_id.words f.new.seat.place.id s.table_seat.limits p1 h.result f.new.seat.place.me f.new.seat.moving h.new.seat.place.me h.new.seat.moving h.new.seat.place.table_id.words h.new.seat.place.id (record { seat = made_of (d + 1) t ps Rest; turn = Ended (Answer.Locked (Locked.Again (d + 1))) }) first fit1 (told_before (same_then f.ensures.same h.ensures.same) h.ensures.step) is2 (λ e. cc) refl in
     subst (λ (x : SeatState). ComesTo g.T.Kept.follows g.T.Kept.fits c.args.mutex.now.limits Call.TryLock (sight_of s.table_seat.number s.state s.table_seat.place.me.0 (value_in s.table_seat.moving)) (sight_of h.new.seat.number x h.new.seat.place.me.0 (value_in h.new.seat.moving)) (Ended (Answer.Locked (Locked.Again (d + 1)))))
-    (λ i. record { depth = d + 1; takes = t; posts = ps; point = sym c.requires.rests i })
+    (λ i. record { depth = d + 1; takes = t; posts = ps; point = sym c.requires.may.rests i })
     (comes g.T.Kept.follows g.T.Kept.fits s.table_seat.number p0 s.table_seat.moving s.table_seat.place.me.0 h.new.seat.number s.table_seat.limits c.args.mutex.now.limits Call.TryLock s.state (made_of (d + 1) t ps Rest) (Ended (Answer.Locked (Locked.Again (d + 1)))) h.new.seat.moving h.new.seat.place.me.0 c.requires.belongs.1 (same_then f.ensures.same h.ensures.same).0 refl begins refl last)
 
 pub returns-then-found-eq0-clause-acts : goal.returns-then-found-eq0-clause-acts

@@ -4,7 +4,7 @@ use Rattle.lfm_model.specs.declared.answers.Unlocked.{Unlocked}
 use Rattle.lfm_protocol.specs.declared.answers.Answer.{Answer}
 use Rattle.lfm_protocol.specs.declared.answers.Turn.TheVariants.{Ended}
 use Rattle.lfm_protocol.specs.Begin.{Stepped}
-use Rattle.lfm_mutex.proofs.runs.Courses.{unlocks_once}
+use Rattle.lfm_mutex.proofs.runs.Courses.{ends_at_once}
 use Rattle.lfm_table.proofs.tables.Started as Started
 use Rattle.lfm_mutex.proofs.runs.FastPathPoints.{begins_still}
 use Rattle.lfm_table.proofs.tables.Actions.{run_same}
@@ -17,7 +17,7 @@ invariant_of-seat g c = let s = c.args.seat.now in
 
 pub returns-clause-made : goal.returns-clause-made
 returns-clause-made g c = let s = c.args.seat.now in
-    unlocks_once g.T.Kept.follows g.T.Kept.fits s.table_seat.number s.table_seat.limits c.args.mutex.now.limits s.state (record s.state { depth = s.state.depth - 1 }) s.table_seat.place.me.0 s.table_seat.moving (Ended (Answer.Unlocked (Unlocked.Still (s.state.depth - 1)))) c.requires.belongs.1
+    ends_at_once g.T.Kept.follows g.T.Kept.fits s.table_seat.number s.table_seat.limits c.args.mutex.now.limits Call.Unlock s.state (record s.state { depth = s.state.depth - 1 }) s.table_seat.place.me.0 s.table_seat.moving (Ended (Answer.Unlocked (Unlocked.Still (s.state.depth - 1)))) c.requires.belongs.1
     (λ e. cc) (begins_still s.state s.table_seat.limits c.requires.rests c.requires.deep)
 
 pub returns-clause-acts : goal.returns-clause-acts

@@ -16,7 +16,7 @@ use Rattle.lfm_table.specs.FastPath.{Fit}
 use Rattle.lfm_mutex.specs.calls.FastPath.{Course}
 use Rattle.lfm_mutex.proofs.runs.Courses.{course_none, course_next, course_join, gives_up}
 use Rattle.lfm_mutex.proofs.runs.Running.{trail_grows, bounded_more}
-use Rattle.lfm_mutex.proofs.runs.Sights.{may_leave}
+use Rattle.lfm_mutex.proofs.runs.SightParts.{may_leave}
 use Rattle.lfm_mutex.proofs.runs.FastPathPoints.{begins_wait, fit_after, fit_begun}
 use Rattle.lfm_mutex.proofs.runs.ServePoints.{freed, not_freed, waited}
 use Rattle.lfm_table.proofs.tables.StepFacts.{made_of}
@@ -103,22 +103,22 @@ returns-clause-bounded g c =
     let three = trail_grows g.T.Kept.follows g.T.Kept.fits p2 last.seat f.new.seat.place.me.0 k.new.seat.place.me.0 f.new.seat.moving k.new.seat.moving last.turn (told_before (same_then (same_then h.ensures.same f.ensures.same) k.ensures.same) k.ensures.step).event in
     omega (arith, one, two, three)
 
-pub returns-then-found-ne1-clause-wakes : goal.returns-then-found-ne1-clause-wakes
-returns-then-found-ne1-clause-wakes g c =
-    let s = c.args.seat.now in let h = c.keep_held in let f = c.retake-found in let on = c.serve in
-    subst (λ (n : ℕ). Wakes n on.result.1 s.table_seat.place.me.0.trail on.new.seat.table_seat.place.me.0.trail) (ap (λ l. l.seats) c.requires.belongs.1)
-    (wakes_after s.table_seat.limits.seats on.result.1 s.table_seat.place.me.0.trail f.new.seat.place.me.0.trail on.new.seat.table_seat.place.me.0.trail (grants_none g.T.Kept.follows g.T.Kept.fits _ _ _ _ _ _ _ f.ensures.step.event refl ∙ grants_none g.T.Kept.follows g.T.Kept.fits _ _ _ _ _ _ _ h.ensures.step.event refl) (wakes_same on.result.1 f.new.seat.place.me.0.trail on.new.seat.table_seat.place.me.0.trail (same_then h.ensures.same f.ensures.same).1 on.ensures.finishes.wakes))
-
-pub returns-clause-wakes : goal.returns-clause-wakes
-returns-clause-wakes g c =
-    let s = c.args.seat.now in let h = c.keep_held in let f = c.retake-found in let k = c.keep in
-    wakes_none c.args.mutex.now.limits.seats s.table_seat.place.me.0.trail k.new.seat.place.me.0.trail
-    (grants_none g.T.Kept.follows g.T.Kept.fits _ _ _ _ _ _ _ k.ensures.step.event refl ∙ (grants_none g.T.Kept.follows g.T.Kept.fits _ _ _ _ _ _ _ f.ensures.step.event refl ∙ grants_none g.T.Kept.follows g.T.Kept.fits _ _ _ _ _ _ _ h.ensures.step.event refl))
-
 pub returns-then-found-ne1-clause-acts : goal.returns-then-found-ne1-clause-acts
-returns-then-found-ne1-clause-acts g c =
-    record { belongs = search rules; woken = search rules; run = run_next (run_made c.keep_held.ensures.step) (run_next (run_made c.retake-found.ensures.step) c.serve.ensures.finishes.made.ran.run) }
+returns-then-found-ne1-clause-acts g c = record {
+  belongs = search rules;
+  woken = search rules;
+  run = run_next (run_made c.keep_held.ensures.step) (run_next (run_made c.retake-found.ensures.step) c.serve.ensures.finishes.made.ran.run);
+  wakes = let s = c.args.seat.now in let h = c.keep_held in let f = c.retake-found in let on = c.serve in
+      subst (λ (n : ℕ). Wakes n on.result.1 s.table_seat.place.me.0.trail on.new.seat.table_seat.place.me.0.trail) (ap (λ l. l.seats) c.requires.belongs.1)
+      (wakes_after s.table_seat.limits.seats on.result.1 s.table_seat.place.me.0.trail f.new.seat.place.me.0.trail on.new.seat.table_seat.place.me.0.trail (grants_none g.T.Kept.follows g.T.Kept.fits _ _ _ _ _ _ _ f.ensures.step.event refl ∙ grants_none g.T.Kept.follows g.T.Kept.fits _ _ _ _ _ _ _ h.ensures.step.event refl) (wakes_same on.result.1 f.new.seat.place.me.0.trail on.new.seat.table_seat.place.me.0.trail (same_then h.ensures.same f.ensures.same).1 on.ensures.finishes.wakes));
+}
 
 pub returns-clause-acts : goal.returns-clause-acts
-returns-clause-acts g c =
-    record { belongs = search rules; woken = search rules; run = run_next (run_made c.keep_held.ensures.step) (run_next (run_made c.retake-found.ensures.step) (run_made c.keep.ensures.step)) }
+returns-clause-acts g c = record {
+  belongs = search rules;
+  woken = search rules;
+  run = run_next (run_made c.keep_held.ensures.step) (run_next (run_made c.retake-found.ensures.step) (run_made c.keep.ensures.step));
+  wakes = let s = c.args.seat.now in let h = c.keep_held in let f = c.retake-found in let k = c.keep in
+      wakes_none c.args.mutex.now.limits.seats s.table_seat.place.me.0.trail k.new.seat.place.me.0.trail
+      (grants_none g.T.Kept.follows g.T.Kept.fits _ _ _ _ _ _ _ k.ensures.step.event refl ∙ (grants_none g.T.Kept.follows g.T.Kept.fits _ _ _ _ _ _ _ f.ensures.step.event refl ∙ grants_none g.T.Kept.follows g.T.Kept.fits _ _ _ _ _ _ _ h.ensures.step.event refl));
+}

@@ -6,5 +6,5 @@ returns-in-Ended-Waiting-clause-waits g c = rw (c.in-Ended-Waiting.is, c.in-Ende
 pub returns-in-Ended-Waiting-clause-steps : goal.returns-in-Ended-Waiting-clause-steps
 returns-in-Ended-Waiting-clause-steps g c = rw (c.in-Ended-Waiting.is, c.in-Ended-Waiting.field-0-is) at c.begin_and_release-turn.ensures.made
 
-pub returns-in-Ended-Waiting-clause-wakes : goal.returns-in-Ended-Waiting-clause-wakes
-returns-in-Ended-Waiting-clause-wakes g c = c.begin_and_release-turn.ensures.wakes
+pub returns-in-Ended-Waiting-clause-acts : goal.returns-in-Ended-Waiting-clause-acts
+returns-in-Ended-Waiting-clause-acts g c = c.begin_and_release-turn.ensures.acts

@@ -10,4 +10,4 @@ pub returns-then-seat-budget-clause-bounded : goal.returns-then-seat-budget-clau
 returns-then-seat-budget-clause-bounded g c = c.ask_without_hold-asked.ensures.bounded
 
 pub returns-then-seat-budget-clause-wakes : goal.returns-then-seat-budget-clause-wakes
-returns-then-seat-budget-clause-wakes g c = c.ask_without_hold-asked.ensures.wakes
+returns-then-seat-budget-clause-wakes g c = c.ask_without_hold-asked.ensures.acts.wakes

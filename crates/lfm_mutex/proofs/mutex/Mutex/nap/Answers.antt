@@ -1,7 +1,7 @@
 use Rattle.std.proofs.Common.{◌+◌, Some, None, arith, rules, refl, ap, ◌∙◌}
 use Rattle.lfm_mutex.specs.calls.Sight.{sight}
 use Rattle.lfm_mutex.proofs.BargingEnds.{gains_after, no_tries, still_may_try, tries_fewer, tries_join}
-use Rattle.lfm_table.specs.declared.off_trail.OffTrail.{OffTrail}
+use Rattle.lfm_table.specs.declared.shared_table.off_trail.OffTrail.{OffTrail}
 use Rattle.lfm_table.proofs.tables.Actions.{run_next, run_same}
 use Rattle.lfm_mutex.proofs.mutex.Mutex.nap.Goals as goal
 

@@ -2,8 +2,8 @@ use Rattle.std.proofs.Common.{refl, sym, ap, ◌∙◌, arith, ℕ, List, [], �
 use Rattle.lfm_protocol.specs.declared.points.Point.TheVariants.{TryOwnerLoad}
 use Rattle.lfm_table.specs.Rule.{seen, value_in}
 use Rattle.lfm_mutex.proofs.runs.WakeUps.{grants_join}
-use Rattle.lfm_mutex.proofs.ends.Seats.{reads_owner, depth_seen}
-use Rattle.lfm_mutex.proofs.runs.Sights.{owner_read_sight, owner_told}
+use Rattle.lfm_mutex.proofs.ends.OwnerLoads.{reads_owner, depth_seen}
+use Rattle.lfm_mutex.proofs.runs.SightParts.{owner_read_sight, owner_told}
 use Rattle.lfm_mutex.specs.calls.WakeUps.{grants_of}
 use Rattle.lfm_table.proofs.tables.Actions.{load_last, run_by}
 use Rattle.lfm_mutex.proofs.mutex.Mutex.owner.Goals as goal

@@ -1,5 +1,5 @@
 use Rattle.std.proofs.Common.{◌++◌, ◌∙◌, ap}
-use Rattle.lfm_table.specs.declared.off_trail.OffTrail.{OffTrail}
+use Rattle.lfm_table.specs.declared.shared_table.off_trail.OffTrail.{OffTrail}
 use Rattle.lfm_mutex.specs.calls.WakeUps.{as_list}
 use Rattle.lfm_mutex.proofs.mutex.Mutex.send_lock.Goals as goal
 

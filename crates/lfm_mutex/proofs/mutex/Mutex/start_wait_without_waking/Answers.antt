@@ -13,4 +13,4 @@ pub returns-then-seat-budget-clause-bounded : goal.returns-then-seat-budget-clau
 returns-then-seat-budget-clause-bounded g c = c.wait_last_hold-released.ensures.bounded
 
 pub returns-then-seat-budget-clause-wakes : goal.returns-then-seat-budget-clause-wakes
-returns-then-seat-budget-clause-wakes g c = c.wait_last_hold-released.ensures.wakes
+returns-then-seat-budget-clause-wakes g c = c.wait_last_hold-released.ensures.acts.wakes

@@ -1,13 +1,14 @@
-use Rattle.std.proofs.Common.{[], Ok, Err, refl, arith}
+use Rattle.std.proofs.Common.{[], Ok, Err, ◌<◌, refl, sym, subst, arith}
 use Rattle.lfm_model.specs.declared.answers.Locked.{Locked}
+use Rattle.lfm_protocol.specs.declared.limits.Limits.{Limits}
 use Rattle.lfm_mutex.specs.calls.Sight.{sight}
 use Rattle.lfm_mutex.proofs.BargingEnds.{no_tries, try_failed}
 use Rattle.lfm_mutex.proofs.runs.FastPathPoints.{awake_rests}
 use Rattle.lfm_mutex.proofs.runs.TryEnds.{try_locks, try_makes}
 use Rattle.lfm_mutex.proofs.mutex.Mutex.try_if_free.Goals as goal
 
-pub try_without_hold-requires-clause-rests : goal.try_without_hold-requires-clause-rests
-try_without_hold-requires-clause-rests g c κs within = awake_rests c.args.seat.now.state.point c.requires.free.0
+pub try_without_hold-requires-clause-may : goal.try_without_hold-requires-clause-may
+try_without_hold-requires-clause-may g c κs within = record { rests = awake_rests c.args.seat.now.state.point c.requires.free.0; flat = c.requires.free.1; charged = subst (λ (l : Limits). c.args.seat.now.state.takes < l.budget) (sym c.requires.belongs.1) c.requires.free.2 }
 
 pub returns-then-count-ne0-clause-tries : goal.returns-then-count-ne0-clause-tries
 returns-then-count-ne0-clause-tries g c = no_tries c.args.self.now.limits 1 (sight c.args.seat.now)

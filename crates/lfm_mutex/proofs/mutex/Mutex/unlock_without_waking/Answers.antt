@@ -4,4 +4,4 @@ pub unlock_last_hold-unlocked-requires-clause-leaves : goal.unlock_last_hold-unl
 unlock_last_hold-unlocked-requires-clause-leaves g c κs within = c.requires.leaves c.if-seat-eq1.true
 
 pub returns-then-seat-eq1-clause-wakes : goal.returns-then-seat-eq1-clause-wakes
-returns-then-seat-eq1-clause-wakes g c = c.unlock_last_hold-unlocked.ensures.wakes
+returns-then-seat-eq1-clause-wakes g c = c.unlock_last_hold-unlocked.ensures.acts.wakes

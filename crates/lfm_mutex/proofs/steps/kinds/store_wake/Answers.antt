@@ -3,7 +3,7 @@ use Rattle.std.proofs.lemmas.Bool.{false≢true}
 use Rattle.lfm_protocol.specs.declared.kinds.Kind.{Kind}
 use Rattle.lfm_mutex.proofs.runs.OneStep.{steps_on, leaves_at, keeps_at}
 use Rattle.lfm_mutex.proofs.runs.WakeUps.{within_of, wakes_one}
-use Rattle.lfm_table.specs.declared.off_trail.OffTrail.{OffTrail}
+use Rattle.lfm_table.specs.declared.shared_table.off_trail.OffTrail.{OffTrail}
 use Rattle.lfm_mutex.specs.calls.WakeUps.{as_list}
 use Rattle.lfm_mutex.proofs.steps.kinds.store_wake.Goals as goal
 

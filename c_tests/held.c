@@ -1,0 +1,116 @@
+/* Locks that answer a bool, and assertions of a hold, with seats in hand and with those that find themselves. The assertion
+ * of a thread that doesn't hold ends the program with a text. */
+#define _GNU_SOURCE
+#include <signal.h>
+#include <sys/wait.h>
+#include <unistd.h>
+#include "expect.h"
+
+static lfm_mutex mutex = LFM_MUTEX_INIT_WITH(2), crowded = LFM_MUTEX_INIT_WITH(1), zero;
+
+static void try_beside_holder(unsigned thread) {
+  (void)thread;
+  EXPECT(lfm_try_acquire_here(&mutex), false);
+  EXPECT(lfm_acquire_here(&crowded), false); /* no seat is free */
+  EXPECT(lfm_try_acquire_here(&crowded), false);
+  EXPECT(lfm_depth_here(&mutex), 0);
+}
+
+static void acquire_here(void) {
+  EXPECT(lfm_acquire_here(NULL), false);
+  EXPECT(lfm_acquire_here(&zero), false);
+  EXPECT(lfm_acquire_here(&crowded), true);
+  EXPECT(lfm_acquire_here(&mutex), true);
+  lfm_assert_held_here(&mutex);
+  EXPECT(lfm_acquire_here(&mutex), true); /* LFM_AGAIN is a success */
+  EXPECT(lfm_try_acquire_here(&mutex), true);
+  EXPECT(lfm_depth_here(&mutex), 3);
+  in_threads(1, try_beside_holder);
+  for (int depth = 3; depth > 0; depth--) {
+    lfm_assert_held_here(&mutex);
+    EXPECT(lfm_is_refused(lfm_unlock_here(&mutex)), false);
+  }
+  EXPECT(lfm_try_acquire_here(&mutex), true);
+  EXPECT(lfm_unlock_here(&mutex), LFM_DONE);
+  EXPECT(lfm_unlock_here(&crowded), LFM_DONE);
+}
+
+static void acquire_by_seats(void) {
+  lfm_mutex spent = {0};
+  lfm_seat seat = {0}, other = {0};
+  EXPECT(lfm_acquire(NULL), false);
+  EXPECT(lfm_acquire(&seat), false);
+  EXPECT(lfm_try_acquire(&seat), false);
+  EXPECT(lfm_mutex_new(&spent, 2, 2), LFM_DONE);
+  EXPECT(lfm_seat_take(&spent, &seat), LFM_DONE);
+  EXPECT(lfm_seat_take(&spent, &other), LFM_DONE);
+  EXPECT(lfm_acquire(&seat), true);
+  EXPECT(lfm_try_acquire(&seat), true);
+  EXPECT(lfm_try_acquire(&other), false);
+  lfm_assert_held(&seat);
+  EXPECT(lfm_unlock(&seat), LFM_STILL);
+  lfm_assert_held(&seat);
+  EXPECT(lfm_unlock(&seat), LFM_DONE);
+  EXPECT(lfm_try_acquire(&seat), true);
+  EXPECT(lfm_unlock(&seat), LFM_DONE);
+  EXPECT(lfm_acquire(&seat), false); /* it has made both takes, and no seat is free */
+  EXPECT(lfm_acquire(&other), true);
+  EXPECT(lfm_unlock(&other), LFM_DONE);
+  EXPECT(lfm_seat_give(&seat), LFM_DONE);
+  EXPECT(lfm_seat_give(&other), LFM_DONE);
+  EXPECT(lfm_mutex_close(&spent), LFM_DONE);
+}
+
+/* What doesn't hold. The child that asserts it makes its own mutexes and seats, since those of the parent are not its. */
+static void assert_seat_that_released(void) {
+  static lfm_mutex own;
+  static lfm_seat seat;
+  EXPECT(lfm_mutex_new(&own, 1, 1), LFM_DONE);
+  EXPECT(lfm_seat_take(&own, &seat), LFM_DONE);
+  EXPECT(lfm_acquire(&seat), true);
+  lfm_assert_held(&seat);
+  EXPECT(lfm_unlock(&seat), LFM_DONE);
+  lfm_assert_held(&seat);
+}
+static void assert_null_seat(void) { lfm_assert_held(NULL); }
+static void assert_null_mutex(void) { lfm_assert_held_here(NULL); }
+static void assert_other_seat(void) { /* which holds, but is not the one that the thread finds */
+  static lfm_mutex own;
+  static lfm_seat seat;
+  EXPECT(lfm_mutex_new(&own, 2, 1), LFM_DONE);
+  EXPECT(lfm_seat_take(&own, &seat), LFM_DONE);
+  EXPECT(lfm_acquire(&seat), true);
+  lfm_assert_held_here(&own);
+}
+
+static void expect_end(void (*assertion)(void)) {
+  static const char told[] = "ligdrosa: the mutex is not held, though the program asserts it\n";
+  char text[256] = {0};
+  int status, ends[2];
+  EXPECT(pipe(ends), 0);
+  pid_t child = fork();
+  EXPECT(child >= 0, true);
+  if (child == 0) {
+    EXPECT(dup2(ends[1], 2), 2);
+    signal(SIGABRT, SIG_DFL);
+    assertion();
+    _exit(2);
+  }
+  EXPECT(waitpid(child, &status, 0), child);
+  EXPECT(WIFSIGNALED(status) && WTERMSIG(status) == SIGABRT, true);
+  EXPECT(read(ends[0], text, sizeof text - 1) > 0, true);
+  EXPECT(strncmp(text, told, sizeof told - 1), 0);
+  EXPECT(close(ends[0]) || close(ends[1]), 0);
+}
+
+int main(void) {
+  acquire_here();
+  acquire_by_seats();
+  expect_end(assert_seat_that_released);
+  expect_end(assert_null_seat);
+  expect_end(assert_null_mutex);
+  expect_end(assert_other_seat);
+  EXPECT(lfm_mutex_close(&mutex), LFM_DONE);
+  EXPECT(lfm_mutex_close(&crowded), LFM_DONE);
+  return 0;
+}

@@ -1,6 +1,0 @@
--- The type owns nothing, so its values may move to another thread.
-use denote.Param.Send.{IsSend, owning_send, sendable}
-use Rattle.lfm_table.specs.contracts.off_trail.OffTrail.{the_row, the_type}
-
-pub send : IsSend the_row
-send = owning_send the_type (search sendable, tt) (λ d. tt) (λ k x w. tt)

@@ -37,8 +37,8 @@ use Rattle.lfm_table.proofs.tables.RuleKept.{led_on}
 use Rattle.lfm_mutex.proofs.LawsHeld.{core_of}
 use Rattle.lfm_mutex.proofs.RunTrails.{answers_told, entries_of_part, pushes_told, rest_is_nil, steps_of_parts}
 use Rattle.lfm_mutex.proofs.ends.OwnerLoads.{owner_keeps, owner_tells}
-use Rattle.lfm_mutex.proofs.ends.SplitsAndJoins.{joins, joins_keep, splits, splits_keep}
-use Rattle.lfm_mutex.proofs.ends.Starts.{starts, starts_at}
+use Rattle.lfm_table.proofs.tables.SplitsAndJoins.{joins, joins_keep, splits, splits_keep}
+use Rattle.lfm_table.proofs.tables.Starts.{starts, starts_at}
 use Rattle.lfm_mutex.specs.Laws.{IsCore}
 use Rattle.lfm_mutex.specs.TableRuns.{HoldsAfter, OtherStepsKeepTheCore, SeatsKnowUpToTheirLastStep, TablesEndCalls, TablesGoOnAsTheCore, TablesGoThroughReachedStates, TablesRunAsTheAbstractMutex, TablesHaveARun, TablesOpenAtTheStart, TablesOvertakeOnce, TablesPushInRounds, TablesServeInPushOrder, TablesServeInRounds, TrailsTellThePushes, TrailsTellTheAnswers, answers_noted, late_part, pushes_noted, popped_since, pushed_since, state_after}
 

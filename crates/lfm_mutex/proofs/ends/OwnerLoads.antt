@@ -22,7 +22,7 @@ use Rattle.lfm_table.proofs.tables.CoreFacts.{owner_told}
 use Rattle.lfm_table.proofs.tables.Actions.{goes_on_by, load_by, load_last, owner_load_part, run_goes_on}
 use Rattle.lfm_table.proofs.tables.StepFacts.{became_depth}
 use Rattle.lfm_table.proofs.tables.RuleKept.{root_on, others_on, length_at}
-use Rattle.lfm_mutex.proofs.ends.OneView.{parts, quiet}
+use Rattle.lfm_table.proofs.tables.OneView.{parts, quiet}
 
 module _ {T : Type 0} (follows : ℕ → T → T → Type 0) (suits : T → ℕ → Type 0) where
   module _ (id : ℕ) (me : Me (Option (Moving T)) (View T)) (user : me.0.role ≡ User) (s : State (Option (Moving T)) (View T)) (h : Held follows suits s) (at : get_elem? s.views id ≡ some me.0) where

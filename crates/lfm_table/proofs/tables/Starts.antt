@@ -25,7 +25,7 @@ use Rattle.lfm_table.specs.Reach.{Reached}
 use Rattle.lfm_table.specs.Rule.{first_view, Roots, Sits, Held}
 use Rattle.lfm_table.proofs.tables.Actions.{knows_none, stands_first, starts_absent}
 use Rattle.lfm_table.proofs.tables.RuleKept.{stays_reached, some_same}
-use Rattle.lfm_mutex.proofs.ends.OneView.{not_both}
+use Rattle.lfm_table.proofs.tables.OneView.{not_both}
 
 map_replicate : {A : Type 0} (f : A → ℕ) (x : A) (n : ℕ) → f x ≡ 0 → map f (replicate n x) ≡ replicate n 0
 map_replicate f x zero e = refl

@@ -1,7 +1,7 @@
 -- A fact about each element of a list by its place, and the same fact about all elements: `Mutex::new` and `Mutex::close` use
 -- the first form for seats, and loops and threads the second.
 use Rattle.std.specs.Prelude.{All}
-use Rattle.std.proofs.Common.{◌≡◌, ℕ, zero, suc, ◌<◌, List, [], ◌∷◌, length, get_or, sym, subst, arith}
+use Rattle.std.proofs.Common.{◌≡◌, ℕ, zero, suc, ◌<◌, List, [], ◌∷◌, length, get_or, refl, sym, subst, arith}
 pub use Rattle.lfm_table.proofs.tables.OneMore.{and_first, and_last}
 use mathlib.Core.Option.{some, some-injective, some-ne-none}
 use lib.ListN.{get_elem?}

@@ -136,9 +136,9 @@ module _ (number id m : ℕ) (l : Limits) (me me1 me2 : Me ℕ PoolView) (here :
   both w x e f = f ∙ ap (λ (z : Me ℕ PoolView). (with_part z.0 m x, z.1)) e ∙ (λ i. (twice_with me.0 m w x i, me.1))
 
   -- try_lock of a free mutex
-  pub entered : (n k : ℕ) → n ≡ 0 → (may : MayTry number id l (part me.0 m)) → StepsIn number id m l (Begin.begin (part me.0 m).state l Call.TryLock).seat me n me1 → StepsIn number id m l (part me1.0 m).state me1 k me2
-      → KnowsMoreOf m (λ w. Enters (part me.0 m) w × HoldsOnce number id l w) me me2
-  entered n k free may first second =
+  pub entered : (n k : ℕ) → n ≡ 0 → k ≡ number → (may : MayTry number id l (part me.0 m)) → StepsIn number id m l (Begin.begin (part me.0 m).state l Call.TryLock).seat me n me1 → StepsIn number id m l (part me1.0 m).state me1 k me2
+      → KnowsMoreOf m (λ w. Enters number (part me.0 m) w × HoldsOnce number id l w) me me2
+  entered n k free told may first second =
       let x = (part me.0 m).state in
       let t : ℕ = x.takes + 1 in
       let now = part_now first.0 first.1 in
@@ -156,8 +156,7 @@ module _ (number id m : ℕ) (l : Limits) (me me1 me2 : Me ℕ PoolView) (here :
         both first.0 second.0 first.1 second.1,
         (
           record {
-            stored = k;
-            trail = trail2 ∙ ap (λ ts. ts ++ seen (EnterOwnerStore Entrant.Trier How.Free) k ∷ []) trail1 ∙ append_assoc (part me.0 m).trail (seen TryCountExchange 0 ∷ []) (seen (EnterOwnerStore Entrant.Trier How.Free) k ∷ []);
+            trail = subst (λ (i : ℕ). second.0.trail ≡ (part me.0 m).trail ++ (seen TryCountExchange 0 ∷ seen (EnterOwnerStore Entrant.Trier How.Free) i ∷ [])) told (trail2 ∙ ap (λ ts. ts ++ seen (EnterOwnerStore Entrant.Trier How.Free) k ∷ []) trail1 ∙ append_assoc (part me.0 m).trail (seen TryCountExchange 0 ∷ []) (seen (EnterOwnerStore Entrant.Trier How.Free) k ∷ []));
             takes = ap (λ (z : SeatState). z.takes) p2;
             run = run_next (goes_on number id l (Begin.begin x l Call.TryLock).seat first.0.state (part me.0 m) first.0 n (sits_begun number id l (part me.0 m) may.sits Call.TryLock) first.2 first.3)
                 (subst (λ (y : View ⊤). RunGoesOn y second.0) now (goes_on number id l (part me1.0 m).state second.0.state (part me1.0 m) second.0 k (subst (λ (y : View ⊤). Sits number id l y.state y) (sym now) first.2) second.2 second.3));
@@ -209,9 +208,9 @@ module _ (number id m : ℕ) (l : Limits) (me me1 me2 : Me ℕ PoolView) (here :
       subst (λ (y : SeatState). IsOwnStep seats number y (Access.FetchSub 0 1)) (sym (released n holds first)) (subtracts seats number (part me.0 m).state.takes (part me.0 m).state.posts)
 
   -- unlock that leaves the mutex free
-  pub left_free : (n k : ℕ) → k ≡ 1 → (holds : HoldsOnce number id l (part me.0 m)) → StepsIn number id m l (Begin.begin (part me.0 m).state l Call.Unlock).seat me n me1 → StepsIn number id m l (part me1.0 m).state me1 k me2
+  pub left_free : (n k : ℕ) → n ≡ 0 → k ≡ 1 → (holds : HoldsOnce number id l (part me.0 m)) → StepsIn number id m l (Begin.begin (part me.0 m).state l Call.Unlock).seat me n me1 → StepsIn number id m l (part me1.0 m).state me1 k me2
       → KnowsMoreOf m (λ w. Leaves (part me.0 m) w × Sits number id l w.state w) me me2
-  left_free n k last holds first second =
+  left_free n k told last holds first second =
       let x = (part me.0 m).state in
       let now = part_now first.0 first.1 in
       let p0 = unlock_begun x l holds.rests holds.once in
@@ -225,8 +224,7 @@ module _ (number id m : ℕ) (l : Limits) (me me1 me2 : Me ℕ PoolView) (here :
         both first.0 second.0 first.1 second.1,
         (
           record {
-            stored = n;
-            trail = trail2 ∙ ap (λ ts. ts ++ seen (ReleaseCountSubtract Unlocker) 1 ∷ []) trail1 ∙ append_assoc (part me.0 m).trail (seen (ReleaseOwnerStore Unlocker) n ∷ []) (seen (ReleaseCountSubtract Unlocker) 1 ∷ []);
+            trail = subst (λ (i : ℕ). second.0.trail ≡ (part me.0 m).trail ++ (seen (ReleaseOwnerStore Unlocker) i ∷ seen (ReleaseCountSubtract Unlocker) 1 ∷ [])) told (trail2 ∙ ap (λ ts. ts ++ seen (ReleaseCountSubtract Unlocker) 1 ∷ []) trail1 ∙ append_assoc (part me.0 m).trail (seen (ReleaseOwnerStore Unlocker) n ∷ []) (seen (ReleaseCountSubtract Unlocker) 1 ∷ []));
             rests = ap (λ (z : SeatState). z.point) p2;
             flat = ap (λ (z : SeatState). z.depth) p2;
             run = run_next (goes_on number id l (Begin.begin x l Call.Unlock).seat first.0.state (part me.0 m) first.0 n (sits_begun number id l (part me.0 m) holds.sits Call.Unlock) first.2 first.3)

@@ -25,19 +25,18 @@ pub record HoldsOnce (number id : ℕ) (l : Limits) (v : View ⊤) : Type 0 wher
   pub rests : v.state.point ≡ Rest
   pub once : v.state.depth ≡ 1
 
--- the seat has acquired a free mutex by a try_lock: the exchange found the count at 0, and then it stored the owner
-pub record Enters (v w : View ⊤) : Type 0 where
-  pub stored : ℕ
+-- the seat with this number has acquired a free mutex by a try_lock: the exchange found the count at 0, and then it stored its
+-- number as the owner
+pub record Enters (number : ℕ) (v w : View ⊤) : Type 0 where
   pub trail : w.trail
-      ≡ v.trail ++ (seen TryCountExchange 0 ∷ seen (EnterOwnerStore Entrant.Trier How.Free) stored ∷ [])
+      ≡ v.trail ++ (seen TryCountExchange 0 ∷ seen (EnterOwnerStore Entrant.Trier How.Free) number ∷ [])
   pub takes : w.state.takes ≡ v.state.takes + 1
   pub run : RunGoesOn v w
 
 -- the seat has released the mutex, which was left free: it stored no owner, and then the subtraction found the count at 1
 pub record Leaves (v w : View ⊤) : Type 0 where
-  pub stored : ℕ
   pub trail : w.trail
-      ≡ v.trail ++ (seen (ReleaseOwnerStore Unlocker) stored ∷ seen (ReleaseCountSubtract Unlocker) 1 ∷ [])
+      ≡ v.trail ++ (seen (ReleaseOwnerStore Unlocker) 0 ∷ seen (ReleaseCountSubtract Unlocker) 1 ∷ [])
   pub rests : w.state.point ≡ Rest
   pub flat : w.state.depth ≡ 0
   pub run : RunGoesOn v w

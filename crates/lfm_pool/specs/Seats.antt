@@ -22,7 +22,7 @@ HoldsOnceIn s p m = HoldsOnce s.number s.place.id p.limits (part s.place.me.0 m)
 -- from s to t the seat has acquired mutex m, which was free, by the two steps of a try_lock
 abbrev pub EntersIn : PoolSeat → PoolSeat → Pool → ℕ → Type 0
 EntersIn s t p m =
-    KnowsMoreOf m (λ w. Enters (part s.place.me.0 m) w × HoldsOnce s.number s.place.id p.limits w) s.place.me t.place.me
+    KnowsMoreOf m (λ w. Enters s.number (part s.place.me.0 m) w × HoldsOnce s.number s.place.id p.limits w) s.place.me t.place.me
 
 -- from s to t the seat has begun a try_lock of mutex m, whose next step would load the owner
 abbrev pub FindsTakenIn : PoolSeat → PoolSeat → Pool → ℕ → Type 0

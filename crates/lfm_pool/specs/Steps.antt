@@ -39,6 +39,11 @@ IsAccessOf seats number p a =
     (k : Kind) × (kind p.point ≡ Some k) × (word_at a ≡ index_by seats (target p.point number) (Some k)) × (word_at a < 4)
     × ((n : ℕ) → becomes a n ≡ written_by p number n (Some k)) × (is_store a ≡ stores (Some k))
 
+-- a store tells the number that it stores
+abbrev pub IsTold : Access → ℕ → Type 0
+IsTold (Access.Store word new) n = n ≡ new
+IsTold _ n = ⊤
+
 -- a step of a seat with these data leads to no point at which the seat has a link
 abbrev pub LeadsToNoLink : ℕ → SeatState → Type 0
 LeadsToNoLink number p = (n : ℕ) (o : Option Record) → has_link_at (stepped_by p number n o).seat.point ≡ false

@@ -6,7 +6,7 @@ ghost use Rattle.lfm_protocol.specs.Seats.{absent};
 ghost use Rattle.lfm_table.specs.Rule.{Advanced};
 ghost use Rattle.lfm_table.specs.Steps.{CanMake};
 ghost use Rattle.lfm_pool.specs.Tables.{Slot, any_follows, any_fits, part};
-ghost use Rattle.lfm_pool.specs.Steps.{state_in, begun_in, call_of, IsAccessOf, LeadsToNoLink, RestsElsewhere, Sits, StepsIn, TellsOf};
+ghost use Rattle.lfm_pool.specs.Steps.{state_in, begun_in, call_of, IsAccessOf, IsTold, LeadsToNoLink, RestsElsewhere, Sits, StepsIn, TellsOf};
 
 use crate::layout::own_at;
 use crate::pool::{Pool, PoolSeat};
@@ -59,6 +59,7 @@ pub fn own_step<B: OneMutex>(pool: &Pool, seat: &mut PoolSeat, mutex: usize, acc
     requires unlinked { LeadsToNoLink seat.old.number B.state }
     ensures table { (seat.new.place.table_id ≡ seat.old.place.table_id) × (seat.new.place.id ≡ seat.old.place.id) × (seat.new.number ≡ seat.old.number) }
     ensures step { TellsOf mutex (λ k. Advanced any_follows any_fits B.state B.hand (part seat.old.place.me.0 mutex, B.slots) k) seat.old.place.me result seat.new.place.me }
+    ensures told { IsTold access result }
 {
     match access {
         Access::Load(word) => {
@@ -112,6 +113,7 @@ pub fn first_step(pool: &Pool, seat: &mut PoolSeat, mutex: usize, access: Access
     requires unlinked { LeadsToNoLink seat.old.number (begun_in seat.old.place.me.0 mutex pool.now.limits (call_of access)) }
     ensures table { (seat.new.place.table_id ≡ seat.old.place.table_id) × (seat.new.place.id ≡ seat.old.place.id) × (seat.new.number ≡ seat.old.number) }
     ensures step { StepsIn seat.old.number seat.old.place.id mutex pool.now.limits (begun_in seat.old.place.me.0 mutex pool.now.limits (call_of access)) seat.old.place.me result seat.new.place.me }
+    ensures told { IsTold access result }
 {
     own_step::<Brand>(pool, seat, mutex, access)
 }
@@ -128,6 +130,7 @@ pub fn next_step(pool: &Pool, seat: &mut PoolSeat, mutex: usize, access: Access)
     requires unlinked { LeadsToNoLink seat.old.number (state_in seat.old.place.me.0 mutex) }
     ensures table { (seat.new.place.table_id ≡ seat.old.place.table_id) × (seat.new.place.id ≡ seat.old.place.id) × (seat.new.number ≡ seat.old.number) }
     ensures step { StepsIn seat.old.number seat.old.place.id mutex pool.now.limits (state_in seat.old.place.me.0 mutex) seat.old.place.me result seat.new.place.me }
+    ensures told { IsTold access result }
 {
     own_step::<Brand>(pool, seat, mutex, access)
 }

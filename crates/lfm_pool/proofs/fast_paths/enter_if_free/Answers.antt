@@ -66,7 +66,7 @@ returns-then-found-ne0-clause-finds c =
 pub returns-clause-enters : goal.returns-clause-enters
 returns-clause-enters c =
     let s = c.args.seat.now in let l = c.args.pool.now.limits in let f = c.first_step-found in let t = f.new.seat in let d = f.ensures.step in let h = c.next_step in
-    λ none. entered s.number s.place.id c.args.mutex l s.place.me t.place.me h.new.seat.place.me (omega (arith, c.requires.mutex, c.requires.belongs.parts)) f.result h.result c.if-found-ne0.false c.requires.may d (subst (λ (z : ℕ × ℕ). StepsIn z.0 z.1 c.args.mutex l (part t.place.me.0 c.args.mutex).state t.place.me h.result h.new.seat.place.me) (λ i. (f.ensures.table.2 i, f.ensures.table.1 i)) h.ensures.step)
+    λ none. entered s.number s.place.id c.args.mutex l s.place.me t.place.me h.new.seat.place.me (omega (arith, c.requires.mutex, c.requires.belongs.parts)) f.result h.result c.if-found-ne0.false (h.ensures.told ∙ f.ensures.table.2) c.requires.may d (subst (λ (z : ℕ × ℕ). StepsIn z.0 z.1 c.args.mutex l (part t.place.me.0 c.args.mutex).state t.place.me h.result h.new.seat.place.me) (λ i. (f.ensures.table.2 i, f.ensures.table.1 i)) h.ensures.step)
 
 pub returns-clause-finds : goal.returns-clause-finds
 returns-clause-finds c = λ some. absurd (some refl)

@@ -59,7 +59,7 @@ next_step-requires-clause-unlinked c =
 pub returns-clause-leaves : goal.returns-clause-leaves
 returns-clause-leaves c =
     let s = c.args.seat.now in let l = c.args.pool.now.limits in let f = c.first_step in let t = f.new.seat in let d = f.ensures.step in let h = c.next_step in
-    λ one. left_free s.number s.place.id c.args.mutex l s.place.me t.place.me h.new.seat.place.me (omega (arith, c.requires.mutex, c.requires.belongs.parts)) f.result h.result one c.requires.holds d (subst (λ (z : ℕ × ℕ). StepsIn z.0 z.1 c.args.mutex l (part t.place.me.0 c.args.mutex).state t.place.me h.result h.new.seat.place.me) (λ i. (f.ensures.table.2 i, f.ensures.table.1 i)) h.ensures.step)
+    λ one. left_free s.number s.place.id c.args.mutex l s.place.me t.place.me h.new.seat.place.me (omega (arith, c.requires.mutex, c.requires.belongs.parts)) f.result h.result f.ensures.told one c.requires.holds d (subst (λ (z : ℕ × ℕ). StepsIn z.0 z.1 c.args.mutex l (part t.place.me.0 c.args.mutex).state t.place.me h.result h.new.seat.place.me) (λ i. (f.ensures.table.2 i, f.ensures.table.1 i)) h.ensures.step)
 
 pub returns-clause-goes_on : goal.returns-clause-goes_on
 returns-clause-goes_on c =

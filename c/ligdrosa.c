@@ -27,6 +27,11 @@
 #define SLOW_PATH __attribute__((noinline, cold)) static
 /* What an uncontended lock or unlock does, in line. */
 #define FAST_PATH static inline __attribute__((always_inline))
+/* How many rounds a loop makes in which a thread waits for another and doesn't sleep. A round that finds nothing to do
+ * changes nothing, so a tool that explores interleavings may make fewer. */
+#ifndef LFM_ROUNDS
+#define LFM_ROUNDS(count) (count)
+#endif
 
 #include "parts/proved.h"  /* the proved calls */
 #include "parts/futex.h"   /* sleeping on a word; clocks and deadlines */

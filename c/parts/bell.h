@@ -35,7 +35,7 @@ static bool spin_at_bell(uint32_t *bell, uint64_t spin_time) {
   if (spin_time == 0) return false;
   uint64_t begun = nanoseconds();
   do {
-    for (int i = 0; i < LOADS_PER_TIME; i++) {
+    for (int i = 0; i < LFM_ROUNDS(LOADS_PER_TIME); i++) {
       pause_for(PAUSES_PER_LOAD);
       if (bell_of(bell) == RUNG) return true;
     }

@@ -3,11 +3,11 @@
  * its list. It is held for a few steps, and no thread waits for another meanwhile. The exchange that releases it is the last
  * access to it, as with a bell.
  *
- * Its operations are sequentially consistent, except a load before one: the handle of the mutex goes with a core's latch,
+ * Its operations are sequentially consistent, except the load before one: the handle of the mutex goes with a core's latch,
  * and so do those of seats that are exchanged. */
 
 SLOW_PATH void acquire_latch_slowly(uint32_t *latch) {
-  for (int loads = 0; loads < SHORT_SPIN; loads++) {
+  for (int loads = 0; loads < LFM_ROUNDS(SHORT_SPIN); loads++) {
     uint32_t found = 0;
     pause_for(PAUSES_PER_LOAD);
     if (__atomic_load_n(latch, __ATOMIC_RELAXED) != 0) continue;

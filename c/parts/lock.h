@@ -98,7 +98,7 @@ static lfm_status try_if_free(lfm_seat *seat, uint64_t count) {
  * count for most of the time. If more than the holder and one other seat are counted, others queue already. */
 static lfm_status spin(lfm_seat *seat) {
   lfm_status status = LFM_BUSY;
-  for (int i = 0; most_spinners() && status == LFM_BUSY && i < SPINS; i++) {
+  for (int i = 0; most_spinners() && status == LFM_BUSY && i < LFM_ROUNDS(SPINS); i++) {
     pause_for(1 << (i < MOST_DOUBLINGS ? i : MOST_DOUBLINGS));
     uint64_t count = lfm_c_count(seat->handle);
     status = try_if_free(seat, count);
@@ -112,7 +112,7 @@ static lfm_status spin(lfm_seat *seat) {
 static lfm_status nap(lfm_seat *seat) {
   uint64_t crowd = most_spinners() > FEW / 2 ? 2 * most_spinners() : FEW;
   lfm_status status = LFM_BUSY;
-  for (int i = 0; status == LFM_BUSY && i < NAPS; i++) {
+  for (int i = 0; status == LFM_BUSY && i < LFM_ROUNDS(NAPS); i++) {
     uint64_t count = lfm_c_count(seat->handle);
     if (count > crowd) break;
     if (count) nap_for(NAP);

@@ -110,7 +110,7 @@ FAST_PATH bool reclaim(lfm_seat *seat) { return !has_abandoned(seat) || reclaim_
 
 /* Waits until a seat is passed by whose place is no longer abandoned. That takes two calls of the library. */
 SLOW_PATH void await_passing(lfm_seat *seat) {
-  for (int loads = 0; loads < SHORT_SPIN && !reclaim_passed(seat); loads++) pause_for(PAUSES_PER_LOAD);
+  for (int loads = 0; loads < LFM_ROUNDS(SHORT_SPIN) && !reclaim_passed(seat); loads++) pause_for(PAUSES_PER_LOAD);
   if (!has_abandoned(seat)) return;
   if (change_place(seat, PASSING, AWAITED)) {
     await_ring(&seat->bell, 0, NULL);

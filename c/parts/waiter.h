@@ -3,7 +3,7 @@
  * An unlock makes one ring, however many were put off. The waiters whose rings a hold puts off are a tree, filled in the
  * order of their wakes. The unlock rings for the first. Each that was rung for rings for at most two others, before it
  * locks. So each is rung for once, and none waits until another has acquired the mutex. Of n waiters the last is rung for
- * after about log n others. So if there are many, they are woken no later than by one thread that rings for all.
+ * after about log n others, and not after all of them.
  *
  * Nothing is touched after its end. A waiter stays where it is until it was rung for, and only the one before it in the tree
  * rings for it. By then the tree is full, and nobody looks at the others. */

@@ -64,6 +64,7 @@ static int explorer_setspecific(pthread_key_t key, const void *value) {
 #define memset explorer_memset
 #define memcpy explorer_memcpy
 #define abort() explorer_fault("abort of the library")
+#define LFM_ROUNDS(count) explorer_rounds(count)
 #ifndef LIGDROSA_C
 #define LIGDROSA_C "../../c/ligdrosa.c"
 #endif

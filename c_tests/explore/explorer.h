@@ -18,6 +18,7 @@ long explorer_futex(uint32_t *word, int operation, uint32_t value, const void *t
 _Noreturn void explorer_fault(const char *what);
 void explorer_touch(const void *at, size_t bytes, bool writes);
 int explorer_processors(void);
+int explorer_rounds(int count); /* how many of these rounds are made: see LFM_ROUNDS */
 bool explorer_toggle_clock(void);
 void explorer_set_specific(void *value);
 void *explorer_specific(void);
@@ -41,7 +42,8 @@ struct scenario {
 };
 /* The scenarios of one file of scenarios/, which end with one that has no name. */
 extern const struct scenario lock_scenarios[], timed_scenarios[], seat_scenarios[], orphan_scenarios[], close_scenarios[],
-    spent_scenarios[], wait_scenarios[], condvar_close_scenarios[];
+    spent_scenarios[], wait_scenarios[], condvar_close_scenarios[], refused_close_scenarios[], taken_again_scenarios[],
+    two_mutexes_scenarios[];
 
 /* For scenarios: a point at which others may run; a choice of 0 to count - 1; the number of the fiber; and a test. */
 void explorer_point(void);

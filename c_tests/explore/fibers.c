@@ -58,6 +58,7 @@ __attribute__((noinline)) int explorer_choose(int count) {
 }
 int explorer_self(void) { return current; }
 int explorer_processors(void) { return processors; }
+int explorer_rounds(int count) { return makes_all_rounds ? count : 1; }
 bool explorer_toggle_clock(void) {
   if (current < 0 || processors == 1) return false;
   return REGION->fibers[current].toggled ^= 1;

@@ -2,11 +2,12 @@
  *
  *   -r N  makes N runs by chance instead, and looks for data races as the memory orders of the code allow them
  *   -w    the proved calls are whole: no points inside
+ *   -a    loops in which a thread waits without sleeping make all their rounds; otherwise one
  *   -p N  with N processors; with 1, which is the default, no thread spins
  *   -s    the system may wake a sleeper for no reason
  *   -f    memory may be refused to a thread
  *   -t    the pushes of the model have stamps
- *   -m N  at most N states; -T N: at most N seconds; -S N: the seed of -r
+ *   -m N  at most N states; -T N: at most N seconds of processor time; -S N: the seed of -r
  *   -l    no search for states from which no end is reached
  *
  * It ends with status 0 if it has found no fault, 1 if it has, and 3 if it was cut off. */
@@ -14,18 +15,25 @@
 #include <signal.h>
 #include <stdio.h>
 #include <sys/mman.h>
+#include <sys/time.h>
 #include <unistd.h>
 #include "state.h"
 
 int processors = 1;
-bool may_refuse_memory, may_wake_spuriously, looks_for_ends = true;
+bool may_refuse_memory, may_wake_spuriously, makes_all_rounds, looks_for_ends = true;
 u64 most_states = 60000000, seed = 1;
 volatile int is_time_over;
 
-static void on_alarm(int signal) { (void)signal; is_time_over = 1; }
+static void on_time_over(int signal) { (void)signal; is_time_over = 1; }
+static void limit_processor_time(int seconds) {
+  signal(SIGPROF, on_time_over);
+  setitimer(ITIMER_PROF, &(struct itimerval){{0, 0}, {seconds, 0}}, NULL);
+}
 
-static const struct scenario *const files[] = {lock_scenarios,  timed_scenarios, seat_scenarios, orphan_scenarios,
-                                               close_scenarios, spent_scenarios, wait_scenarios, condvar_close_scenarios};
+static const struct scenario *const files[] = {
+    lock_scenarios,  timed_scenarios, seat_scenarios, taken_again_scenarios,   orphan_scenarios,        close_scenarios,
+    spent_scenarios, wait_scenarios,  condvar_close_scenarios, refused_close_scenarios, two_mutexes_scenarios,
+};
 enum { FILES = sizeof files / sizeof files[0] };
 
 /* Lists the scenarios, or finds the one of this name. */
@@ -41,13 +49,14 @@ static const struct scenario *look_up(const char *name) {
 int main(int count, char **words) {
   u64 runs = 0;
   int option;
-  while ((option = getopt(count, words, "r:wp:sftm:S:lT:")) != -1) switch (option) {
+  while ((option = getopt(count, words, "r:wap:sftm:S:lT:")) != -1) switch (option) {
       case 'r': runs = strtoull(optarg, NULL, 10); break;
       case 'w': explorer_whole_calls = true; break;
+      case 'a': makes_all_rounds = true; break;
       case 'p': processors = atoi(optarg); break;
       case 's': may_wake_spuriously = true; break;
       case 't': explorer_has_stamps = true; break;
-      case 'T': signal(SIGALRM, on_alarm), alarm((unsigned)atoi(optarg)); break;
+      case 'T': limit_processor_time(atoi(optarg)); break;
       case 'f': may_refuse_memory = true; break;
       case 'm': most_states = strtoull(optarg, NULL, 10); break;
       case 'S': seed = strtoull(optarg, NULL, 10) * 2654435761u + 88172645463325252u; break;

@@ -47,7 +47,7 @@ struct transition {
 
 /* Options */
 extern int processors;
-extern bool may_refuse_memory, may_wake_spuriously, looks_for_ends;
+extern bool may_refuse_memory, may_wake_spuriously, looks_for_ends, makes_all_rounds;
 extern u64 most_states, seed;
 extern volatile int is_time_over;
 
@@ -77,9 +77,26 @@ void race_touch(u64 at, size_t bytes, bool writes, bool atomic, bool frees);
 void acquires(const void *at, int order);
 void releases(const void *at, int order, bool is_rmw);
 
-/* states.c, chance.c, trace.c */
+/* saved.c */
 u8 *save(u8 *to);
 void restore(const u8 *from);
+u64 hash_of(const u8 *at, size_t bytes);
+
+/* found.c: the number of the state with this hash, which came from that state by this transition if it is new; and how a
+ * state was found first */
+u32 find_state(u64 hash, u32 origin, struct transition last, bool *is_new);
+u64 states_found(void);
+struct transition *path_to(u32 state, size_t *count);
+
+/* ends.c */
+void add_transition(u32 from, u32 to);
+void add_end(u32 state, u64 hash);
+u64 ends_found(void);
+u64 sum_of_ends(void);
+u64 count_states_without_end(u64 states, u32 *one);
+
+/* search.c, chance.c, trace.c. The first two answer how the program ends. */
+enum { RIGHT = 0, FAULTY = 1, CUT_OFF = 3 };
 int explore_all(void);
 int run_by_chance(u64 runs);
 void print_trace(const struct transition *path, size_t count, const u8 *first);

@@ -3,44 +3,61 @@
 #include <unistd.h>
 #include "state.h"
 
-enum { ASLEEP = 100 }; /* in place of a kind */
+enum { ASLEEP = WOKEN + 10 }; /* in place of a kind */
 static const char *kind_names[] = {"starts", "goes on", "atomic", "futex wait", "futex wake", "woken", "chooses"};
-void print_trace(const struct transition *path, size_t count, const u8 *first) {
-  restore(first);
-  fault = NULL;
-  u64 (*said)[6] = calloc(count + 1, sizeof *said);
-  size_t made = 0;
-  for (size_t i = 0; i < count; i++, made++) {
-    struct fiber *f = &REGION->fibers[path[i].fiber];
-    said[i][0] = path[i].fiber;
-    said[i][1] = f->status == BLOCKED ? ASLEEP : f->kind;
-    said[i][2] = f->caller;
-    said[i][3] = f->address;
-    said[i][4] = path[i].variant;
-    make(path[i]);
-    said[i][5] = REGION->fibers[path[i].fiber].status;
-    if (fault) { made++; break; }
-  }
-  char name[128], command[256];
+
+/* What is printed of a transition. */
+struct printed {
+  int fiber, kind, variant, status_after;
+  u64 caller, address;
+};
+
+static struct printed make_and_keep(struct transition t) {
+  struct fiber *f = &REGION->fibers[t.fiber];
+  struct printed one = {t.fiber, f->status == BLOCKED ? ASLEEP : f->kind, t.variant, 0, f->caller, f->address};
+  make(t);
+  one.status_after = f->status;
+  return one;
+}
+
+static void print(size_t number, const struct printed *one, const char *line) {
+  const char *end_of_sleep = one->variant == TIMEOUT ? "its time is over" : "wakes for no reason";
+  const char *what = one->kind == ASLEEP ? end_of_sleep : kind_names[one->kind];
+  printf("  %3zu  thread %d  %-11s %s", number, one->fiber, what, one->caller ? line : "");
+  if (one->address) printf("  [%lx]", (unsigned long)(one->address & 0xfffffff));
+  if (one->kind == CHOICE) printf("  -> %d", one->variant);
+  if (one->status_after == BLOCKED) printf("  sleeps");
+  if (one->status_after == FINISHED) printf("  has ended");
+  printf("\n");
+}
+
+/* Prints the transitions with the lines that addr2line says of their callers. */
+static void print_all(const struct printed *all, size_t count) {
+  char name[128], command[256], line[512];
   snprintf(name, sizeof name, "%s/explorer_trace.%d", P_tmpdir, getpid());
   FILE *list = fopen(name, "w");
-  for (size_t i = 0; i < made; i++) fprintf(list, "%#lx\n", (unsigned long)(said[i][2] ? said[i][2] - 1 : 0));
+  if (!list) return;
+  for (size_t i = 0; i < count; i++) fprintf(list, "%#lx\n", (unsigned long)(all[i].caller ? all[i].caller - 1 : 0));
   fclose(list);
   snprintf(command, sizeof command, "addr2line -f -s -p -e /proc/%d/exe < %s", getpid(), name);
   FILE *lines = popen(command, "r");
-  for (size_t i = 0; i < made; i++) {
-    char line[512] = "";
+  for (size_t i = 0; i < count; i++) {
     if (!lines || !fgets(line, sizeof line, lines)) line[0] = 0;
     line[strcspn(line, "\n")] = 0;
-    const char *how_it_ends = said[i][4] == TIMEOUT ? "its time is over" : "wakes for no reason";
-    const char *what = said[i][1] == ASLEEP ? how_it_ends : kind_names[said[i][1]];
-    printf("  %3zu  thread %d  %-11s %s", i + 1, (int)said[i][0], what, said[i][2] ? line : "");
-    if (said[i][3]) printf("  [%lx]", (unsigned long)(said[i][3] & 0xfffffff));
-    if (said[i][1] == CHOICE) printf("  -> %d", (int)said[i][4]);
-    if (said[i][5] == BLOCKED) printf("  sleeps");
-    if (said[i][5] == FINISHED) printf("  has ended");
-    printf("\n");
+    print(i + 1, &all[i], line);
   }
   if (lines) pclose(lines);
   unlink(name);
+}
+
+void print_trace(const struct transition *path, size_t count, const u8 *first) {
+  restore(first);
+  fault = NULL;
+  struct printed *all = calloc(count + 1, sizeof *all);
+  size_t made = 0;
+  while (made < count && !fault) {
+    all[made] = make_and_keep(path[made]);
+    made++;
+  }
+  print_all(all, made);
 }

@@ -138,9 +138,9 @@ const struct scenario close_scenarios[] = {
     {"close_hand2", "the same with seats in hand", 2, false, open_users2_hand, {last_closes_hand, last_closes_hand}, end},
     {"close_give2", "a close beside the last give", 2, false, open_one_of3, {give_mine, closes_beside_gives}, end},
     {"close_give3", "a close beside two gives",
-     3, false, open_two_of3, {give_mine, give_mine, closes_beside_gives}, end, true},
+     3, false, open_two_of3, {give_mine, give_mine, closes_beside_gives}, end},
     {"close_timed_give3", "a close beside gives, one of which may leave its seat queued",
-     3, false, open_two_of3, {timed_give_mine, give_mine, closes_beside_gives}, end, true},
+     3, false, open_two_of3, {timed_give_mine, give_mine, closes_beside_gives}, end},
     {"here_timed_self_close", "a thread closes whose seat may be queued",
      2, false, open_bare4, {here_timed_self_close, here_and_give}, end},
     {0}

@@ -11,6 +11,7 @@ struct shared {
   lfm_condvar *condvar;
   lfm_seat *seats[MOST_FIBERS]; /* memory of the program */
   uint64_t inside, counter, ready, waiting, woken, told, timed_out, users, closed;
+  void *extra; /* what one scenario has in addition */
 };
 extern struct shared *shared;
 

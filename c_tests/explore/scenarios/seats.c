@@ -29,16 +29,27 @@ static void here_timed_give(void) {
 }
 static void once_give(void) { once(); CHECK(lfm_seat_give(mine()) == LFM_DONE); }
 
+static void take_and_give(void) {
+  CHECK(lfm_seat_take(shared->mutex, mine()) == LFM_DONE);
+  CHECK(lfm_seat_give(mine()) == LFM_DONE);
+}
+static void ask_for_takes_left(void) {
+  uint64_t all = shared->mutex->seats * LFM_MOST_TAKES, left = lfm_takes_left(shared->mutex);
+  CHECK(left == all || left == all - 1);
+}
+
 const struct scenario seat_scenarios[] = {
     {"give2", "seats are given back beside unlocks", 2, false, open2, {once_give, once_give}, end},
     {"storm2", "takes and gives", 2, false, open_few, {take_twice, take_twice}, end},
     {"storm3", "takes and gives of two seats by three threads",
-     3, false, open_few, {take_once, take_once, take_once}, end, true},
+     3, false, open_few, {take_once, take_once, take_once}, end},
     {"storm_timed", "the same with timed locks", 3, false, open_bare, {take_timed, take_timed, take_once}, end, true},
     {"here2", "seats that find themselves", 2, false, open_bare, {here, here}, end},
     {"here_static2", "a static mutex is opened by two", 2, false, open_static, {here, here}, end},
-    {"here_static3", "a static mutex is opened by three",
-     3, false, open_static, {here_in_order, here_in_order, here_in_order}, end, true},
+    {"takes_left_static2", "the takes of a static mutex are counted while it is opened",
+     2, false, open_static, {here, ask_for_takes_left}, end},
+    {"here_static3", "a static mutex is opened by three, one of which takes a seat and gives it back",
+     3, false, open_static, {here_in_order, here_in_order, take_and_give}, end, true},
     {"here_timed", "a thread ends while its seat is queued", 2, false, open_bare4, {here_timed, here_in_order}, end},
     {"here_timed3", "the same beside two", 3, false, open_bare4, {here_timed, here_in_order, here_in_order}, end, true},
     {"here_timed_give", "a seat that finds itself is given back while queued",

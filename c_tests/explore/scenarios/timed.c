@@ -27,7 +27,7 @@ const struct scenario timed_scenarios[] = {
     {"timed_order", "a timed lock, and then a lock in order", 2, false, open2, {timed_order, twice_in_order}, end},
     {"timed_timed", "two timed locks one after another", 2, false, open2, {timed_timed, twice_in_order}, end},
     {"timed_timed3", "the same by two threads beside a lock",
-     3, false, open3, {timed_timed, timed_timed, once_in_order}, end, true},
+     3, false, open3, {timed_timed, timed_timed, once_in_order}, end},
     {"timed_three", "three timed locks one after another", 2, false, open2, {timed_three, twice_in_order}, end},
     {"timed_try", "a timed lock, and then a try", 2, false, open2, {timed_try, twice_in_order}, end},
     {"timed_depth", "a timed lock, and then other calls", 2, false, open2, {timed_depth, twice_in_order}, end},

@@ -145,7 +145,7 @@ const struct scenario wait_scenarios[] = {
     {"wait_for3", "two waits with limits beside a wake",
      3, true, open3, {wait_counted, wait_counted, wake_counted}, end_counted, true},
     {"wait_for3_wakes", "a wait with a limit beside two wakes",
-     3, true, open3, {wait_counted, wake_counted, wake_counted_inside}, end_counted, true},
+     3, true, open3, {wait_counted, wake_counted, wake_counted_inside}, end_counted},
     {"here_wait2", "a wait and a wake by seats that find themselves",
      2, false, open_bare4, {here_await, here_make_ready}, end},
     {"ping_pong", "a holder that woke another waits itself", 2, false, open2, {ping, pong}, end},

@@ -1,6 +1,6 @@
--- Rounds of the user mutex in a run of the model, and after how many of them a waiter that was sent holds. In a round, each seat
--- that can go on in the user mutex at its start goes on there. Which calls begin meanwhile, and in which order the seats make
--- their steps, is arbitrary.
+-- Rounds of the user mutex in a run of the model, and after how many of them a waiter that was sent holds. In a round, each
+-- seat that can go on in the user mutex at its start goes on there. Which calls begin meanwhile, and in which order the seats
+-- make their steps, is arbitrary.
 use Rattle.std.specs.Prelude.{◌≡◌, ◌⊎◌, ⊤, ℕ, zero, suc, true, ◌+◌, ◌*◌, ◌++◌, List, [], ◌∷◌, length}
 use Rattle.lfm_protocol.specs.declared.answers.Call.TheVariants.{Receive}
 use Rattle.lfm_protocol.specs.declared.answers.Turn.TheVariants.{Open}
@@ -63,13 +63,14 @@ abbrev pub HoldsIn : CondvarCore → ℕ → ℕ → ℕ → List CondvarEvent �
 HoldsIn k s v ticket [] = IsAboutToEnd k s v ticket
 HoldsIn k s v ticket (e ∷ later) = IsAboutToEnd k s v ticket ⊎ HoldsIn (happens k e) s v ticket later
 
--- a waiter that was sent and is queued, with k records before its own, holds within N + 8k + 12 rounds that begin while no seat
--- owns
+-- A waiter that was sent and is queued, with k records before its own, holds within N + 8k + 11 rounds that begin while no
+-- seat owns. By `sleepers_are_reachable` of lfm_laws, a waiter that sleeps and is no longer WAITING is queued, has its grant, or
+-- is between the claim of a send and its grant
 abbrev pub SentWaitersHoldInRounds : Type 0
 SentWaitersHoldInRounds =
     (r : CondvarRun) (events : List CondvarEvent) (v ticket : ℕ) (first behind : List Record) (x : Record)
     → (reached_by r).stage x.seat ≡ receiving v ticket → queue_of (reached_by r).mutex ≡ first ++ (x ∷ behind)
-    → HasUnownedRounds (length (reached_by r).mutex.seats + 8 * length first + 12) (reached_by r) events
+    → HasUnownedRounds (length (reached_by r).mutex.seats + 8 * length first + 11) (reached_by r) events
     → HoldsIn (reached_by r) x.seat v ticket events
 
 -- a waiter that has its grant holds within five such rounds
@@ -79,7 +80,8 @@ GrantedWaitersHoldInRounds =
     → wake (reached_by r).mutex.wakes s ≡ Grant stamp → HasUnownedRounds 5 (reached_by r) events
     → HoldsIn (reached_by r) s v ticket events
 
--- from each state that a run reaches a round can be made, and no call begins in it but receives
+-- From each state that a run reaches a round can be made. Waits and wakes that have begun go on in it, and no other call begins
+-- but receives
 abbrev pub BeginsOnlyReceives : List CondvarEvent → Type 0
 BeginsOnlyReceives [] = ⊤
 BeginsOnlyReceives (makes s ∷ later) = BeginsOnlyReceives later

@@ -24,7 +24,7 @@ pub fn claims_are_in_order()
 {}
 
 /// The user mutex keeps the order: the records that the wakes of a condvar push for their targets increase by ticket, and each
-/// is for a seat that was claimed with this ticket. The law does not state that each claimed seat is pushed.
+/// is for a seat that was claimed with this ticket. Not stated: that each claimed seat is pushed.
 ///
 /// Definition: `PushesAreInOrder` in `specs/Laws.antt`. Proof: `proofs/reached/PushOrder.antt`.
 pub fn pushes_are_in_order()

@@ -7,8 +7,8 @@
 //! takes the lock, makes the steps of `send_lock` for the oldest waiter, removes it from the list, continues with the next one
 //! if it wakes all, and releases the lock. The lock is modelled as one atomic lock. All other calls of the mutex may come
 //! between any two steps. But a `start_wait` is made only by a `wait`, and a `send_lock` only by a wake; this is the premise of
-//! the laws. The definitions are those of `specs/Condvars.antt`, `specs/Events.antt`, `specs/Claims.antt` and
-//! `specs/Pushes.antt`.
+//! the laws. The definitions are those of `specs/Condvars.antt`, `specs/Events.antt`, `specs/Claims.antt`, `specs/Pushes.antt`
+//! and `specs/Rounds.antt`.
 #![tactic(auto)]
 
 pub mod claims;

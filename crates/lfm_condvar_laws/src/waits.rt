@@ -39,7 +39,7 @@ pub fn waits_can_end()
 {}
 
 /// Starvation freedom of waiters. In a *round*, each seat that can go on in the user mutex does so. Among N seats, a waiter that
-/// was sent and is queued, with k records before its own, holds within N + 8k + 12 rounds that begin while no seat owns, and its
+/// was sent and is queued, with k records before its own, holds within N + 8k + 11 rounds that begin while no seat owns, and its
 /// `wait` is about to end. One that has its grant holds within five. A round can always be made.
 ///
 /// Definitions: `SentWaitersHoldInRounds`, `GrantedWaitersHoldInRounds` and `RoundsCanBeMade` in `specs/Rounds.antt`. Proofs:

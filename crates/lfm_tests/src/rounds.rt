@@ -1,5 +1,6 @@
-//! How many rounds that begin while no seat owns a queued record can outlast. The law `queued_seats_are_served_in_rounds` bounds
-//! them for every schedule. Here one schedule shows that the bound is exact for the first record of a queue, at two seats.
+//! How many rounds that begin while no seat owns pass before a queued record leaves, and before its seat holds. The laws
+//! `queued_seats_are_served_in_rounds` and `queued_seats_hold_in_rounds` bound them for every schedule. Here one schedule shows
+//! that both bounds are exact for the first record of a queue, at two seats.
 use crate::seeing::sees;
 use lfm_core::points::Point;
 use lfm_core::{Act, Call, Line, State, Turn, read_schedule, run};
@@ -10,7 +11,7 @@ use std::process::Abort;
 use std::test::Fail;
 
 /// What leads to the first round. Seat 2 has its grant, though its `lock` has not ended, and seat 1 has just pushed its record.
-/// With `ROUNDS` and `LAST_ROUND` it is the example `handoffs/most_rounds_before_a_grant`.
+/// With the rounds below it is the example `handoffs/most_rounds_before_a_grant`.
 const START: &[u8; 67] =
     b"seats 2\n1 lock\n1 *\n1 unlock\n1 .\n2 lock\n2 .\n1 .\n2 +4\n1 *\n1 lock\n1 +5";
 
@@ -21,7 +22,13 @@ const ROUNDS: &[u8; 62] =
     b"seats 2\n1 .\n2 .\n2 receive\n2 .\n2 .\n2 .\n2 unlock\n2 .\n2 .\n2 .\n2 .";
 
 /// A ninth round, in which seat 2 grants seat 1 the mutex.
-const LAST_ROUND: &[u8; 11] = b"seats 2\n2 .";
+const GRANT: &[u8; 11] = b"seats 2\n2 .";
+
+/// Three rounds more, in which seat 1 begins its `receive`, loads the grant and stores QUIET.
+const RECEIVE: &[u8; 25] = b"seats 2\n1 receive\n1 .\n1 .";
+
+/// A thirteenth round, in which seat 1 stores the owner.
+const HOLD: &[u8; 11] = b"seats 2\n1 .";
 
 /// Whether the call of a seat is open.
 fn is_in_call(state: &State, seat: u64) -> bool {
@@ -133,8 +140,12 @@ fn most_rounds_before_a_grant(rt: HostRuntime) -> Result<(), Fail> {
     sees_rounds(&rt, rt.alloc(), &mut state, ROUNDS, 8)?;
     sees(&rt, "the first after 8 rounds", &state.queued(0), &first);
     sees(&rt, "the owner", &state.owner(), &0);
-    sees_rounds(&rt, rt.alloc(), &mut state, LAST_ROUND, 1)?;
+    sees_rounds(&rt, rt.alloc(), &mut state, GRANT, 1)?;
     sees(&rt, "nobody queued", &state.queued(0), &None);
     sees(&rt, "the grant", &state.wake_word(1), &Wake::Grant(2));
+    sees_rounds(&rt, rt.alloc(), &mut state, RECEIVE, 3)?;
+    sees(&rt, "no owner after 12", &state.owner(), &0);
+    sees_rounds(&rt, rt.alloc(), &mut state, HOLD, 1)?;
+    sees(&rt, "the owner after 13", &state.owner(), &1);
     Ok(())
 }

@@ -18,6 +18,7 @@ pub mod OwnerEvents
 pub mod OwnerNeeds
 pub mod OwnerSteps
 pub mod PushBudgets
+pub mod QueuedSeats
 pub mod Runs
 pub mod Slack
 pub mod TriedPosts

@@ -21,8 +21,8 @@ abbrev pub GrantedSeatsHoldInRounds : Type 0
 GrantedSeatsHoldInRounds =
     (c : Core) (events : List Event) (s stamp : ℕ) → Steady c → wake c.wakes s ≡ Grant stamp → HasRounds 5 c events → OwnsIn c s events
 
--- with N seats, the seat of a queued record with k before it owns within N + 8k + 12 rounds that begin while no seat owns
+-- with N seats, the seat of a queued record with k before it owns within N + 8k + 11 rounds that begin while no seat owns
 abbrev pub QueuedSeatsHoldInRounds : Type 0
 QueuedSeatsHoldInRounds =
     (c : Core) (events : List Event) (first behind : List Record) (x : Record) → IsReached c → queue_of c ≡ first ++ (x ∷ behind)
-    → HasUnownedRounds (length c.seats + 8 * length first + 12) c events → OwnsIn c x.seat events
+    → HasUnownedRounds (length c.seats + 8 * length first + 11) c events → OwnsIn c x.seat events

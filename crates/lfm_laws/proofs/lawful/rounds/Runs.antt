@@ -96,7 +96,7 @@ one_round n c k rounds round here none is few =
     ] in
     round_run n c k rounds here.who here.next round turns (is here.who goes) few
 
-popped_append : (c : Core) (first later : List Event) → length (popped_record c (first ++ later)) ≡ length (popped_record c first) + length (popped_record (run_of c first) later)
+pub popped_append : (c : Core) (first later : List Event) → length (popped_record c (first ++ later)) ≡ length (popped_record c first) + length (popped_record (run_of c first) later)
 popped_append c [] later = omega arith
 popped_append c (e ∷ first) later =
     let rest = popped_append (happens c e).core first later in

@@ -1,0 +1,92 @@
+"""Runs the scenarios, in all ways, and compares what was explored with the table of them."""
+import subprocess
+
+import programs
+import table
+
+MODEL, PROVED = "the model", "the proved calls"
+# The ways: over what, with which options, and which scenarios, or None for all, without the long ones if the run is short.
+WAYS = [
+    (MODEL, "-w", None),
+    (PROVED, "-w", None),
+    (MODEL, "-w", "wake_all4"),
+    (MODEL, "", "lock2 lock3 order2 order3 try3 deep2 timed2 timed3 timed_both timed_give timed_lock timed_order "
+                "timed_timed timed_try timed_depth give2 here2 here_static2 here_timed here_timed_give here_give_again2 "
+                "close2 close_barging2 close_hand2 close_give2 close_while_held2 spent2 wait2 wait2_inside wait_for2 "
+                "wait_for2_inside condvar_close2 condvar_close2_inside condvar_close_refused2 here_wait2 ping_pong "
+                "timed_wait2 wake_by_another_mutex2 closed_beside_another2 adopt2 adopt_hand2 adopt_hand_calls2 "
+                "adopt_from_hand2 adopt_into_hand2"),
+    (MODEL, "-w -p 4", "lock2 order2 order3 deep2 timed2 timed_lock wait2 wait2_inside wait_for2 ping_pong"),
+    (MODEL, "-w -s", "order2 order3 timed2 timed3 timed_lock wait2 wait_for2 ping_pong give2 adopt_hand2 wakes3_inside"),
+    (MODEL, "-w -f", "spent2 here2 here_timed timed_give give2 adopt2 adopt_hand2"),
+    (MODEL, "-w -a", "lock2 lock3 order3 try3 timed2 timed3 timed_both timed_give timed_lock timed_timed timed_try give2 "
+                     "storm2 give_twice2 here2 here_static2 here_timed here_timed_give here_give_again2 close2 "
+                     "close_barging2 close_hand2 close_all_taken3 spent2 wait2 wait3 wake_all3 wait_for2 condvar_close2 "
+                     "condvar_close_refused2 here_wait2 ping_pong wake_by_another_mutex2 adopt2 adopt_hand2"),
+    (MODEL, "-w -r 3000", "here_wait2 close2 storm2 timed_lock timed_give wake_all3_outside wait_for2 condvar_close2 "
+                          "here_static2 takes_left_static2 here_timed here_timed_give close_give2 spent2 wake_all4 "
+                          "adopt2 adopt_hand2 adopt_into_hand2"),
+]
+# for how many seconds of processor time a scenario may run
+SECONDS, SECONDS_IF_LONG = 110, 900
+
+
+def listed(program):
+    """The scenarios by name: how many threads each has, what it does, and whether it is long."""
+    lines = subprocess.run([program], capture_output=True, text=True, check=True).stdout.splitlines()
+    split = [line.split(None, 2) for line in lines]
+    return {name: (int(threads), rest.removeprefix("threads: ").removesuffix(" (long)"), rest.endswith(" (long)"))
+            for name, threads, rest in split}
+
+
+def works_of(over, scenarios, is_short):
+    """What is to be run, the longest first: over what, with which options, and which scenario."""
+    some = [name for name, (_, _, is_long) in scenarios.items() if not (is_short and is_long)]
+    works = [(of, options, name) for of, options, names in WAYS if of in over for name in (names.split() if names else some)]
+    return sorted(dict.fromkeys(works), key=lambda work: not scenarios[work[2]][2])
+
+
+def judge(work, status, text, found):
+    """Why a run has failed, or None. What it has explored to its end is kept in `found`."""
+    if status != 0:
+        return text or f"it ended with {status}"
+    if programs.RUN_BY_CHANCE not in work[1].split():
+        found[work] = programs.counts_in(text)
+        if not found[work]:
+            return f"it says no counts: {text}"
+    return None
+
+
+def compare_rounds(found):
+    """A line for each scenario of which one round and all rounds of loops have other end states."""
+    for (of, options, name), counts in found.items():
+        if options == "-w -a":
+            of_one = found[of, "-w", name]
+            if (counts["ends"], counts["sum"]) != (of_one["ends"], of_one["sum"]):
+                yield f"{name}: {counts['ends']} end states with all rounds of loops, {of_one['ends']} with one, or others"
+
+
+def explore(over, is_short, writes):
+    """Runs all scenarios over these programs, or those that are not long: the counts of what passed and what failed."""
+    scenarios = listed(over[MODEL])
+    works, found = works_of(over, scenarios, is_short), {}
+    run = lambda work: programs.run(over[work[0]], work[1], work[2], SECONDS_IF_LONG if scenarios[work[2]][2] else SECONDS)
+    failures = []
+    for work, (status, text) in zip(works, programs.side_by_side(run, works)):
+        why = judge(work, status, text, found)
+        if why:
+            failures.append(f"over {work[0]} {work[1]}: {why.rstrip()}")
+            print(f"FAILED {failures[-1]}", flush=True)
+        elif not is_short:
+            print(f"over {work[0]} {work[1]}: {text.strip()}", flush=True)
+    passed = len(works) - len(failures)
+    if failures:
+        return passed, len(failures)
+    of_all = list(compare_rounds(found))
+    if writes:
+        table.write(found, scenarios)
+    else:
+        of_all += table.compare(found, not is_short and len(over) > 1)
+    for line in of_all:
+        print(f"FAILED {line}", flush=True)
+    return passed + 1, len(of_all)

@@ -1,0 +1,80 @@
+"""The table of scenarios, SCENARIOS.md: it is written from what the explorer has counted, and compared with it."""
+import programs
+
+PAGE = programs.EXPLORE / "SCENARIOS.md"
+HEAD = """# The scenarios
+
+Each was explored to its end: every state once, on one processor. `scripts/c/explore --write` writes this page, and with
+`--short` only the rows that are not of a long scenario. Without `--write` it fails if a scenario that it explores has other
+states, transitions or ends than its row says. The counts depend on the compiler, so they are compared if it is the same. The
+seconds of processor time depend on the machine.
+
+"""
+BY = "Counted with the compiler "
+MEANINGS = {
+    "-w": "each proved call is one step",
+    "": "each step of a proved call is one of its own",
+    "-w -p 4": "with four processors, so that threads spin",
+    "-w -s": "the system may wake a sleeper for no reason",
+    "-w -f": "memory may be refused",
+    "-w -a": "loops that wait make all their rounds. The ends are the same states as with one round",
+}
+
+
+def heading(of, options):
+    return f"## Over {of}: {MEANINGS[options]}"
+
+
+def number(digits):
+    return f"{int(digits):,}"
+
+
+def write(found, scenarios):
+    """Writes the page: the rows of what was found, and those of other long scenarios as they were. Scenarios come in the
+    order in which the explorer lists them."""
+    text, (_, before) = HEAD + BY + programs.compiler() + ".\n", read()
+    ways = dict.fromkeys((of, options) for of, options, _ in sorted(found, key=lambda work: list(MEANINGS).index(work[1])))
+    for way in ways:
+        text += f"\n{heading(*way)}\n\n| Scenario | Threads | What they do | States | Transitions | Ends | Seconds |\n"
+        text += "|---|---|---|---|---|---|---|\n"
+        for name, (threads, what, is_long) in scenarios.items():
+            counts, cells = found.get((*way, name)), before.get((heading(*way), name))
+            if counts:
+                cells = [f"`{name}`" + " (long)" * is_long, str(threads), what]
+                cells += [number(counts[key]) for key in ("states", "transitions", "ends")] + [counts["seconds"]]
+            elif not is_long:
+                continue
+            if cells:
+                text += f"| {' | '.join(cells)} |\n"
+    PAGE.write_text(text, encoding="utf-8")
+
+
+def read():
+    """The compiler of the page, and the cells of its rows by heading and scenario."""
+    lines = PAGE.read_text(encoding="utf-8").splitlines() if PAGE.exists() else []
+    by, at, rows = None, None, {}
+    for line in lines:
+        if line.startswith(BY):
+            by = line.removeprefix(BY).removesuffix(".")
+        elif line.startswith("## "):
+            at = line
+        elif line.startswith("| `"):
+            cells = [cell.strip() for cell in line.strip("|").split("|")]
+            rows[at, cells[0].split("`")[1]] = cells
+    return by, rows
+
+
+def compare(found, is_all):
+    """A line for each scenario that the page has with other counts, or has not; and if all were run, for each row of the
+    page that no scenario has."""
+    by, rows = read()
+    if by != programs.compiler():
+        print(f"left out: comparing the counts of {PAGE.name}, which are of the compiler {by}")
+        return
+    there = {row: ", ".join(cell.replace(",", "") for cell in cells[3:6]) for row, cells in rows.items()}
+    here = {(heading(of, options), name): ", ".join(counts[key] for key in ("states", "transitions", "ends"))
+            for (of, options, name), counts in found.items()}
+    for row in {**here, **there} if is_all else here:
+        if here.get(row) != there.get(row):
+            says = [counts.get(row, "no") for counts in (here, there)]
+            yield f"{row[0][3:]}: {row[1]} has {says[0]} states, transitions and ends; {PAGE.name} says {says[1]}"

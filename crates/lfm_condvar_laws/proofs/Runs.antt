@@ -6,7 +6,7 @@ use Rattle.lfm_laws.specs.steady.Ghost.{Ghost}
 use Rattle.lfm_protocol.specs.Seats.{entry, absent}
 use Rattle.lfm_laws.specs.steady.Steady.{Fits}
 use Rattle.lfm_protocol.specs.Step.{start}
-use Rattle.lfm_laws.proofs.steady.Start.{start_steady, few_seats, small_budget}
+use Rattle.lfm_laws.proofs.steady.Start.{start_steady, few_seats}
 use Rattle.lfm_condvar_laws.specs.Condvars.{Stage, outside, locking_to_wait, starting, receiving, locking_to_wake, claiming, sending, unlocking, CondvarCore, point_of, condvar_start}
 use Rattle.lfm_condvar_laws.specs.Claims.{Claim, claimed_at, claimed_in, claim_record, claims_on}
 use Rattle.lfm_condvar_laws.specs.Events.{CondvarEvent, begins, waits, wakes, makes, goes_on, happens, run_of}
@@ -121,7 +121,7 @@ pub record Reached (r : CondvarRun) : Type 0 where
 pub run_reaches : (r : CondvarRun) → Reached r
 run_reaches r =
     let l = r.limits in
-    let begun = start_steady l (few_seats l.seats l.budget r.allowed) (small_budget l.seats l.budget r.allowed) in
+    let begun = start_steady l (few_seats l.seats l.budget r.allowed) in
     let goes = run_outcome (condvar_start l) (start_ghost begun.ghost_state) r.events (start_fits l begun.ghost_state begun.fits) in
     record {
       ghost_state = goes.to;

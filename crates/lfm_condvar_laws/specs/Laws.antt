@@ -4,7 +4,7 @@ use Rattle.std.specs.List.{range_with_len}
 use Rattle.lfm_protocol.specs.declared.limits.Limits.{Limits}
 use Rattle.lfm_protocol.specs.declared.points.Point.TheVariants.{Rest, SendWakeExchange}
 use Rattle.lfm_words.specs.declared.wakes.Wake.TheVariants.{Waiting}
-use Rattle.lfm_protocol.specs.Limits.{are_in_limits}
+use Rattle.lfm_protocol.specs.Limits.{are_in_limits, max_budget}
 use Rattle.lfm_protocol.specs.Seats.{seat, wake}
 use Rattle.lfm_protocol.specs.Step.{step}
 use Rattle.lfm_protocol.specs.Turns.{is_open}
@@ -40,9 +40,9 @@ pushes_of r v = claims_on v (push_record (condvar_start r.limits) r.events)
 
 -- The user mutex
 
--- a schedule of the mutex alone reaches the state of the user mutex, so all laws of reached states hold of it
+-- a schedule of the mutex alone reaches the state of the user mutex, within the limits, so all laws of reached states hold of it
 abbrev pub CoresAreReached : Type 0
-CoresAreReached = (r : CondvarRun) → IsReached (reached_by r).mutex
+CoresAreReached = (r : CondvarRun) → IsReached (reached_by r).mutex × ((reached_by r).mutex.budget ≤ max_budget)
 
 -- own calls and steps of seats outside of calls on condvars change the user mutex as they do in a schedule, and change nothing
 -- else

@@ -1,7 +1,8 @@
 //! The laws of the user mutex below the condvars: it behaves as in a schedule of the mutex alone.
 ghost use Rattle.lfm_condvar_laws.specs.Laws.{CoresAreReached, OwnCallsAreFree};
 
-/// The user mutex is always in a state that a schedule of the mutex alone reaches. So all laws of reached states hold of it.
+/// The user mutex is always in a state that a schedule of the mutex alone reaches within the limits. So all laws of reached
+/// states hold.
 ///
 /// Definition: `CoresAreReached` in `specs/Laws.antt`. Proof: `proofs/mutex/MutexRuns.antt`.
 pub fn cores_are_reached()

@@ -28,11 +28,13 @@ pub struct State {
 
 impl Model for State {
     ghost use Rattle.lfm_protocol.specs.Core.{Core};
+    ghost use Rattle.std.specs.Prelude.{◌≤◌};
+    ghost use Rattle.lfm_protocol.specs.Limits.{max_budget};
     ghost use Rattle.lfm_laws.specs.steady.Steady.{Steady};
 
     ghost Value = { Core };
 
-    ghost invariant = { λ m. Steady m.machine };
+    ghost invariant = { λ m. Steady m.machine × (m.machine.budget ≤ max_budget) };
 
     ghost view = { λ m. m.machine };
 }
@@ -81,10 +83,12 @@ impl State {
 /// The invariant of every state, as facts for the proofs of this crate.
 impl State {
     ghost use Rattle.lfm_laws.specs.steady.Steady.{Steady};
+    ghost use Rattle.lfm_protocol.specs.Limits.{max_budget};
 
-    /// Every state is steady. `laws::every_state_is_steady` states the same for callers.
+    /// Every state is steady, with a budget within the limits. `laws::every_state_is_steady` states the same for callers.
     pub(crate) fn steady(&self)
-        ensures { Steady self.now }
+        ensures steady { Steady self.now }
+        ensures budget { self.now.budget ≤ max_budget }
     {
         let _ = &self.machine;
     }

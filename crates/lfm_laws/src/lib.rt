@@ -50,7 +50,7 @@ pub use queue_order::{
     queued_seats_wait_for_few_releases, rounds_can_be_made, somebody_can_serve,
     stamps_are_consecutive, steps_serve,
 };
-pub use ranges::{limits_stay, numbers_stay_in_range, steps_have_room};
+pub use ranges::{limits_stay, numbers_stay_in_range, steps_have_room, steps_have_room_in_limits};
 pub use refusals::{
     begins_are_refused_for_cause, busy_was_busy, refused_begins_change_nothing,
     steps_are_refused_for_cause, steps_outside_of_calls_change_nothing, tries_see_a_holder,

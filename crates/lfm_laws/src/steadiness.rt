@@ -7,6 +7,7 @@ ghost use Rattle.lfm_laws.specs.laws.Steadiness.{
   BeginsTouchOneSeat,
   StepsSeeOneWordAndOneSeat,
   StepsAtATable,
+  StepsAtATableInLimits,
   ReachedAreNarrow,
 };
 
@@ -18,9 +19,8 @@ pub fn states_are_steady()
     ensures { StatesAreSteady }
 {}
 
-/// If some ghost fits a state, a ghost fits the state after any event too. The case of the event leads from one ghost's
-/// abstract mutex to the other's, and the ghost's lists of pushes, of records that left and of answers grow by those of the
-/// event.
+/// If some ghost fits a state, one fits the state after any event. The case of the event leads from one ghost's abstract mutex
+/// to the other's, and the lists of pushes, of records that left and of answers grow by those of the event.
 ///
 /// Definition: `StepsKeepSteady` in `specs/laws/Steadiness.antt`. Proof: `proofs/lawful/runs/KeptSteady.antt`, with the case of
 /// each point in `proofs/steady/StepsKept.antt`.
@@ -47,12 +47,12 @@ pub fn begins_touch_one_seat()
 {}
 
 /// A step on a list of packed numbers changes the one number at its place, the seat and the pop list as the step of the core
-/// does, and a ghost fits the state after it. Its premise that each seat number read from a word is below 65,536 holds for
-/// every reached state.
+/// does, and a ghost fits the state after it. Its premises about numbers hold for every reached state within the limits.
 ///
-/// Definitions: `StepsAtATable` and `ReachedAreNarrow` in `specs/laws/Steadiness.antt`, with `TableStep` in
-/// `specs/table/Carried.antt`. Proofs: `proofs/table/TableSteps.antt` and `proofs/lawful/runs/KeptSteady.antt`.
+/// Definitions: `StepsAtATable`, `StepsAtATableInLimits` and `ReachedAreNarrow` in `specs/laws/Steadiness.antt`, with
+/// `TableStep` in `specs/table/Carried.antt`. Proofs: `proofs/table/TableSteps.antt` and `proofs/lawful/runs/KeptSteady.antt`.
 pub fn steps_at_a_table()
     ensures step { StepsAtATable }
+    ensures in_limits { StepsAtATableInLimits }
     ensures narrow { ReachedAreNarrow }
 {}

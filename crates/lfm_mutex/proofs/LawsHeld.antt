@@ -9,6 +9,7 @@ use Rattle.lfm_table.specs.declared.seat_view.View.{View}
 use Rattle.lfm_mutex.specs.Laws.{IsCore, TablesAreSteady, PostsAreWatched, QuietTablesRest, TakesFindARecord, KnowsItsMutex}
 use Rattle.lfm_protocol.specs.declared.limits.Limits.{Limits}
 use Rattle.lfm_table.specs.Rule.{Held}
+use Rattle.lfm_table.proofs.tables.Actions.{run_budget}
 
 module _ {T : Type 0} (follows : ℕ → T → T → Type 0) (fits : T → ℕ → Type 0) where
   pub core_of : (s : State (Option (Moving T)) (View T)) (h : Held follows fits s) → IsCore s h.core
@@ -18,7 +19,7 @@ module _ {T : Type 0} (follows : ℕ → T → T → Type 0) (fits : T → ℕ �
   steady_of s h = record { ghost_state = h.ghost_state; fits = h.fits }
 
   pub tables_are_steady : TablesAreSteady follows fits
-  tables_are_steady s h = (h.core, core_of s h, steady_of s h, states_are_lawful h.core (steady_of s h))
+  tables_are_steady s h = (h.core, core_of s h, steady_of s h, run_budget h.opened h.actions h.core s.views h.run, states_are_lawful h.core (steady_of s h))
 
   pub posts_are_watched : PostsAreWatched follows fits
   posts_are_watched s h = (h.core, core_of s h, handoffs_are_watched h.core (steady_of s h))

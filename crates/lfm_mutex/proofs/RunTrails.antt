@@ -17,6 +17,7 @@ use Rattle.lfm_protocol.specs.declared.points.Point.TheVariants.{TryOwnerLoad, P
 use Rattle.lfm_protocol.specs.declared.seats.SeatState.{SeatState}
 use Rattle.lfm_protocol.specs.After.{same_link}
 use Rattle.lfm_protocol.specs.Core.{Core}
+use Rattle.lfm_protocol.specs.Limits.{max_budget}
 use Rattle.lfm_protocol.specs.Points.{kind, target, pushed_seat}
 use Rattle.lfm_protocol.specs.Seats.{seat, is_seat}
 use Rattle.lfm_protocol.specs.Step.{start, step}
@@ -32,7 +33,9 @@ use Rattle.lfm_laws.specs.steady.Ghost.{Ghost}
 use Rattle.lfm_laws.specs.steady.Steady.{Fits, Steady}
 use Rattle.lfm_laws.specs.table.Words.{words, index_by, stepped_by, written_by}
 use Rattle.lfm_laws.proofs.lawful.runs.KeptSteady.{reached_are_narrow}
+use Rattle.lfm_laws.proofs.lawful.runs.LimitsKept.{budget-happens}
 use Rattle.lfm_laws.proofs.lawful.runs.Reached.{absent_tested, run_keeps, steady_reached}
+use Rattle.lfm_laws.proofs.steady.Room.{numbers_fit}
 use Rattle.lfm_laws.proofs.steady.frames.Entries.{seat_or_absent}
 use Rattle.lfm_laws.proofs.steady.frames.SameSeats.{seats-begin, seats-step}
 use Rattle.lfm_laws.proofs.steady.frames.Seated.{seat_of_test}
@@ -241,20 +244,29 @@ run_join : (c : Core) (xs ys : List Event) → run_of c (xs ++ ys) ≡ run_of (r
 run_join c [] ys = refl
 run_join c (e ∷ xs) ys = run_join (happens c e).core xs ys
 
-reached_next : (c : Core) (e : Event) → IsReached c → IsReached (happens c e).core
-reached_next c e is = record {
-  limits = is.limits;
-  events = is.events ++ e ∷ [];
-  allowed = is.allowed;
-  here = ap (λ (b : Core). (happens b e).core) is.here ∙ sym (run_join (start is.limits) is.events (e ∷ []));
-}
+-- a state that a schedule reaches under a budget within the limits
+abbrev pub InLimits : Core → Type 0
+InLimits c = IsReached c × (c.budget ≤ max_budget)
 
-step_answer : (c : Core) (s : ℕ) → IsReached c → answered_by s (step c s).turn ≡ answer_noted s (seat c.seats s).point
+reached_next : (c : Core) (e : Event) → InLimits c → InLimits (happens c e).core
+reached_next c e is =
+    let before = is.0 in
+    let same = budget-happens c e in
+    let after : IsReached (happens c e).core = record {
+      limits = before.limits;
+      events = before.events ++ e ∷ [];
+      few = before.few;
+      here = ap (λ (b : Core). (happens b e).core) before.here ∙ sym (run_join (start before.limits) before.events (e ∷ []));
+    } in
+    (after, omega (arith, same, is.1))
+
+step_answer : (c : Core) (s : ℕ) → InLimits c → answered_by s (step c s).turn ≡ answer_noted s (seat c.seats s).point
 step_answer c s is = elim (cases_Bool (is_seat c.seats s)) [
   | inl here ↦
-      let steady = steady_reached c is in
+      let steady = steady_reached c is.0 in
+      let numbers = numbers_fit c steady.ghost_state steady.fits is.1 in
       let x = seat c.seats s in
-      rw here (ap (answered_by s) (turn_of_step c steady.ghost_state s (seat_of_test c.seats s here) steady.fits (reached_are_narrow c is)) ∙ answer_at x s _ (oldest c.popped))
+      rw here (ap (answered_by s) (turn_of_step c steady.ghost_state s (seat_of_test c.seats s here) steady.fits numbers (reached_are_narrow c is.0 is.1)) ∙ answer_at x s _ (oldest c.popped))
   | inr none ↦ rw (none, absent_tested c.seats s none) refl
 ]
 
@@ -271,7 +283,7 @@ answer_of_step : (s t : ℕ) (x : Seen) → (if nat_eq s t then answer_noted s x
 answer_of_step s t x = by_seat (λ b. (if b then answer_noted s x.point else []) ≡ answers_noted t (if b then x ∷ [] else [])) s t
     (λ e. ap (λ (m : ℕ). answer_noted m x.point) e ∙ sym (append-nil (answer_noted t x.point))) refl
 
-made_answers : (c : Core) (s t : ℕ) → IsReached c → filter (of_seat t) (answered_in c (makes s)) ≡ answers_noted t (noted_of c t (Makes s))
+made_answers : (c : Core) (s t : ℕ) → InLimits c → filter (of_seat t) (answered_in c (makes s)) ≡ answers_noted t (noted_of c t (Makes s))
 made_answers c s t is = ap (filter (of_seat t)) (step_answer c s is) ∙ (answers_of_seat s t (seat c.seats s).point ∙ answer_of_step s t (noted c s))
 
 owner_load_answers : (s t n : ℕ) → [] ≡ answers_noted t (if_own s t (seen TryOwnerLoad n))
@@ -281,7 +293,7 @@ answers_join : (t : ℕ) (xs ys : List Seen) → answers_noted t (xs ++ ys) ≡ 
 answers_join t xs ys = flat_map-append (λ (x : Seen). answer_noted t x.point) xs ys
 
 -- By induction on the actions: the answers Held(Queued) of a seat are those that its part records.
-pub answers_told : (c : Core) (t : ℕ) (actions : List Action) → IsReached c → filter (of_seat t) (answer_record c (events_of actions)) ≡ answers_noted t (part_of c t actions)
+pub answers_told : (c : Core) (t : ℕ) (actions : List Action) → InLimits c → filter (of_seat t) (answer_record c (events_of actions)) ≡ answers_noted t (part_of c t actions)
 answers_told c t [] is = refl
 answers_told c t (Begins s call ∷ later) is = answers_told (happens c (begins s call)).core t later (reached_next c (begins s call) is)
 answers_told c t (Makes s ∷ later) is =

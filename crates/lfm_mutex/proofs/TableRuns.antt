@@ -5,7 +5,7 @@ use lib.ListN.{get_elem?}
 use Rattle.lfm_table.specs.Table.{State, stepped}
 use Rattle.lfm_protocol.specs.declared.limits.Limits.{Limits}
 use Rattle.lfm_protocol.specs.Core.{Core, put}
-use Rattle.lfm_protocol.specs.Limits.{are_in_limits}
+use Rattle.lfm_protocol.specs.Limits.{are_in_limits, max_budget}
 use Rattle.lfm_protocol.specs.Queue.{chain, chain_of, queue_of, unwalked}
 use Rattle.lfm_protocol.specs.Seats.{absent, seat}
 use Rattle.lfm_protocol.specs.Step.{made, start}
@@ -25,6 +25,7 @@ use Rattle.lfm_laws.proofs.lawful.rounds.FullRounds.{queued_seats_are_served_wha
 use Rattle.lfm_laws.proofs.lawful.rounds.Runs.{queued_seats_are_served_in_rounds}
 use Rattle.lfm_laws.proofs.lawful.runs.LimitsKept.{limits_stay}
 use Rattle.lfm_laws.proofs.lawful.runs.PushOrder.{answers_are_the_records}
+use Rattle.lfm_laws.proofs.steady.Start.{few_seats, small_budget}
 use Rattle.lfm_laws.proofs.lawful.runs.Reached.{steady_reached}
 use Rattle.lfm_table.specs.declared.rule.Moving.{Moving}
 use Rattle.lfm_table.specs.declared.seat_view.Action.{Action}
@@ -36,14 +37,20 @@ use Rattle.lfm_table.proofs.tables.RuleKept.{led_on}
 use Rattle.lfm_mutex.proofs.LawsHeld.{core_of}
 use Rattle.lfm_mutex.proofs.RunTrails.{answers_told, entries_of_part, pushes_told, rest_is_nil, steps_of_parts}
 use Rattle.lfm_mutex.proofs.ends.OwnerLoads.{owner_keeps, owner_tells}
-use Rattle.lfm_mutex.proofs.ends.SplitsAndJoins.{joins, joins_keep, splits, splits_keep}
-use Rattle.lfm_mutex.proofs.ends.Starts.{starts, starts_at}
+use Rattle.lfm_table.proofs.tables.SplitsAndJoins.{joins, joins_keep, splits, splits_keep}
+use Rattle.lfm_table.proofs.tables.Starts.{starts, starts_at}
 use Rattle.lfm_mutex.specs.Laws.{IsCore}
 use Rattle.lfm_mutex.specs.TableRuns.{HoldsAfter, OtherStepsKeepTheCore, SeatsKnowUpToTheirLastStep, TablesEndCalls, TablesGoOnAsTheCore, TablesGoThroughReachedStates, TablesRunAsTheAbstractMutex, TablesHaveARun, TablesOpenAtTheStart, TablesOvertakeOnce, TablesPushInRounds, TablesServeInPushOrder, TablesServeInRounds, TrailsTellThePushes, TrailsTellTheAnswers, answers_noted, late_part, pushes_noted, popped_since, pushed_since, state_after}
 
 -- at each moment of a run within the limits, the state is one that a schedule reaches
 reached_after : (l : Limits) (actions : List Action) → are_in_limits l.seats l.budget ≡ true → IsReached (state_after l actions)
-reached_after l actions allowed = record { limits = l; events = events_of actions; allowed = allowed; here = refl }
+reached_after l actions allowed = record { limits = l; events = events_of actions; few = few_seats l.seats l.budget allowed; here = refl }
+
+budget_after : (l : Limits) (actions : List Action) → are_in_limits l.seats l.budget ≡ true → (state_after l actions).budget ≤ max_budget
+budget_after l actions allowed =
+    let same : (state_after l actions).budget ≡ l.budget = ap (λ (k : Limits). k.budget) (limits_stay l (events_of actions)) in
+    let small = small_budget l.seats l.budget allowed in
+    omega (arith, same, small)
 
 none_before : (n : ℕ) → 0 + n ≡ n
 none_before n = omega arith
@@ -131,10 +138,11 @@ module _ {T : Type 0} (follows : ℕ → T → T → Type 0) (fits : T → ℕ �
 
   pub tables_go_through_reached_states : TablesGoThroughReachedStates follows fits
   tables_go_through_reached_states s l early late holds =
-      (reached_after l early (in_limits s l (early ++ late) holds), led_join (start l) early late, (λ j v at. trail_parts s l early late j v holds at))
+      let allowed = in_limits s l (early ++ late) holds in
+      (reached_after l early allowed, budget_after l early allowed, led_join (start l) early late, (λ j v at. trail_parts s l early late j v holds at))
 
   pub tables_run_as_the_abstract_mutex : TablesRunAsTheAbstractMutex follows fits
-  tables_run_as_the_abstract_mutex s l actions holds = runs_are_abstract_runs l (events_of actions) (in_limits s l actions holds)
+  tables_run_as_the_abstract_mutex s l actions holds = runs_are_abstract_runs l (events_of actions) (few_seats l.seats l.budget (in_limits s l actions holds))
 
   order : (l : Limits) (early late : List Action) → are_in_limits l.seats l.budget ≡ true
       → queue_of (state_after l early) ++ pushed_since l early late ≡ popped_since l early late ++ queue_of (state_after l (early ++ late))
@@ -148,7 +156,7 @@ module _ {T : Type 0} (follows : ℕ → T → T → Type 0) (fits : T → ℕ �
         (λ early late is. order l early late allowed ∙ ap (λ (d : List Action). popped_since l early late ++ queue_of (state_after l d)) (sym is)),
         ap (λ (q : List Record). q ++ pushed_since l [] actions) (sym (start_queue l)) ∙ order l [] actions allowed,
         (λ k d low. stamps_are_consecutive_in_schedules (start l) (events_of actions) (reached_after l [] allowed) k d low ∙ none_before (k + 1)),
-        answers_are_the_records l (events_of actions) allowed,
+        answers_are_the_records l (events_of actions) (few_seats l.seats l.budget allowed),
       )
 
   pub tables_overtake_once : TablesOvertakeOnce follows fits
@@ -166,7 +174,7 @@ module _ {T : Type 0} (follows : ℕ → T → T → Type 0) (fits : T → ℕ �
       let c = state_after l early in
       let allowed = in_limits s l (early ++ late) holds in
       let reached = reached_after l early allowed in
-      let seats : length c.seats ≡ l.seats = ap (λ (m : Limits). m.seats) (limits_stay l (events_of early) allowed) in (
+      let seats : length c.seats ≡ l.seats = ap (λ (m : Limits). m.seats) (limits_stay l (events_of early)) in (
         (λ has.
             queued_seats_are_served_in_rounds c (events_of late) k reached queued
             (subst (λ (n : ℕ). HasUnownedRounds (n + 8 * k + 7) c (events_of late)) (sym seats) has)),
@@ -183,7 +191,7 @@ module _ {T : Type 0} (follows : ℕ → T → T → Type 0) (fits : T → ℕ �
       let c = state_after l early in
       let allowed = in_limits s l (early ++ late) holds in
       let reached = reached_after l early allowed in
-      let size : length c.seats * c.budget ≡ l.seats * l.budget = ap (λ (m : Limits). m.seats * m.budget) (limits_stay l (events_of early) allowed) in (
+      let size : length c.seats * c.budget ≡ l.seats * l.budget = ap (λ (m : Limits). m.seats * m.budget) (limits_stay l (events_of early)) in (
         (λ has. counted_seats_are_pushed_in_rounds c (events_of late) t reached asks has),
         (λ has.
             counted_seats_are_pushed_within_budgets c (events_of late) t reached asks
@@ -195,7 +203,7 @@ module _ {T : Type 0} (follows : ℕ → T → T → Type 0) (fits : T → ℕ �
   only_seats s l early late holds t out =
       let h = holds.0 in
       let many : length h.core.seats ≡ l.seats =
-      ap (λ (c : Core). length c.seats) h.run.here ∙ (ap (λ (k : Limits). k.seats) (limits_stay h.opened (events_of h.actions) h.run.allowed) ∙ ap (λ (k : Limits). k.seats) holds.1) in
+      ap (λ (c : Core). length c.seats) h.run.here ∙ (ap (λ (k : Limits). k.seats) (limits_stay h.opened (events_of h.actions)) ∙ ap (λ (k : Limits). k.seats) holds.1) in
       let most : length s.views ≤ length h.core.seats = h.few in
       let all = no_part (start h.opened) t h.actions (h.run.others t (⊎_elim (λ (none : t ≡ 0). inl none) (λ (far : l.seats < t). inr (omega (arith, far, most, many))) out)) in
       rest_is_nil (part_of (start l) t early) (late_part l early late t) (sym (part_join (start l) t early late) ∙ ((λ i. part_of (start (sym holds.1 i)) t (sym holds.2 i)) ∙ all))
@@ -203,7 +211,7 @@ module _ {T : Type 0} (follows : ℕ → T → T → Type 0) (fits : T → ℕ �
   pub tables_end_calls : TablesEndCalls follows fits
   tables_end_calls s l early late holds =
       let allowed = in_limits s l (early ++ late) holds in
-      let seats : length (state_after l early).seats ≡ l.seats = ap (λ (k : Limits). k.seats) (limits_stay l (events_of early) allowed) in (
+      let seats : length (state_after l early).seats ≡ l.seats = ap (λ (k : Limits). k.seats) (limits_stay l (events_of early)) in (
         subst (λ (n : ℕ). steps_of_run (state_after l early) (events_of late) ≤ (5 * n + 5) * (n + ended_in_run (state_after l early) (events_of late))) seats
             (some_call_ends_in_schedules (state_after l early) (events_of late) (reached_after l early allowed)),
         steps_of_parts l.seats (state_after l early) late seats (only_seats s l early late holds),
@@ -216,4 +224,5 @@ module _ {T : Type 0} (follows : ℕ → T → T → Type 0) (fits : T → ℕ �
 
   pub trails_tell_the_answers : TrailsTellTheAnswers follows fits
   trails_tell_the_answers s l actions j v holds at =
-      answers_told (start l) (j + 1) actions (reached_after l [] (in_limits s l actions holds)) ∙ ap (answers_noted (j + 1)) (sym (trail_parts s l [] actions j v holds at))
+      let allowed = in_limits s l actions holds in
+      answers_told (start l) (j + 1) actions (reached_after l [] allowed, budget_after l [] allowed) ∙ ap (answers_noted (j + 1)) (sym (trail_parts s l [] actions j v holds at))

@@ -1,12 +1,13 @@
 -- What the rule of the table states about a running mutex at every moment, as facts of the core, and what a seat knows of its
 -- mutex.
-use Rattle.std.specs.Prelude.{◌≡◌, ◌⊎◌, ℕ, ◌+◌, ◌<◌, [], Option, true}
+use Rattle.std.specs.Prelude.{◌≡◌, ◌⊎◌, ℕ, ◌+◌, ◌<◌, ◌≤◌, [], Option, true}
 use mathlib.Core.Option.{some}
 use lib.ListN.{get_elem?}
 use Rattle.lfm_table.specs.Table.{State}
 use Rattle.lfm_protocol.specs.declared.points.Carrier.{Carrier}
 use Rattle.lfm_protocol.specs.declared.points.Point.TheVariants.{TakeClearHead}
 use Rattle.lfm_protocol.specs.Core.{Core}
+use Rattle.lfm_protocol.specs.Limits.{max_budget}
 use Rattle.lfm_protocol.specs.Seats.{seat, unposted}
 use Rattle.lfm_laws.specs.laws.Lawful.{Lawful}
 use Rattle.lfm_laws.specs.laws.Laws.{IsQuiet, IsHeld, IsGranted, has_won}
@@ -27,9 +28,10 @@ pub record IsCore {T : Type 0} (s : State (Option (Moving T)) (View T)) (c : Cor
   pub seats_are : (j : ℕ) (v : View T) → get_elem? s.views j ≡ some v → seat c.seats (j + 1) ≡ v.state
 
 module _ {T : Type 0} (follows : ℕ → T → T → Type 0) (fits : T → ℕ → Type 0) where
-  -- at every moment the words and seats are a steady state of the core, so every law of steady states holds of them
+  -- at every moment the words and seats are a steady state of the core within the limits, so every law of steady states holds of
+  -- them
   abbrev pub TablesAreSteady : Type 0
-  TablesAreSteady = (s : State (Option (Moving T)) (View T)) → Held follows fits s → (c : Core) × IsCore s c × Steady c × Lawful c
+  TablesAreSteady = (s : State (Option (Moving T)) (View T)) → Held follows fits s → (c : Core) × IsCore s c × Steady c × (c.budget ≤ max_budget) × Lawful c
 
   -- every posted handoff is watched
   abbrev pub PostsAreWatched : Type 0

@@ -12,7 +12,7 @@ use Rattle.lfm_protocol.specs.declared.limits.Limits.{Limits}
 use Rattle.lfm_protocol.specs.declared.points.Point.{Point}
 use Rattle.lfm_protocol.specs.declared.points.Point.TheVariants.{EnterOwnerStore, PushExchange, Rest}
 use Rattle.lfm_protocol.specs.declared.seats.SeatState.{SeatState}
-use Rattle.lfm_protocol.specs.Limits.{are_in_limits}
+use Rattle.lfm_protocol.specs.Limits.{are_in_limits, max_budget}
 use Rattle.lfm_protocol.specs.Seats.{seat}
 use Rattle.lfm_protocol.specs.After.{same_link}
 use Rattle.lfm_protocol.specs.Core.{Core, put}
@@ -158,12 +158,13 @@ module _ {T : Type 0} (follows : ℕ → T → T → Type 0) (fits : T → ℕ �
 
   -- The laws of schedules
 
-  -- At each moment of the run the state is one that a schedule reaches. The events since then lead from it to the state that
-  -- the table is, and each trail is its early part followed by its late one. So every law of schedules applies to the table.
+  -- At each moment of the run the state is one that a schedule reaches within the limits. The events since then lead from it to
+  -- the state that the table is, and each trail is its early part followed by its late one. So every law of schedules applies to
+  -- the table.
   abbrev pub TablesGoThroughReachedStates : Type 0
   TablesGoThroughReachedStates =
       (s : State (Option (Moving T)) (View T)) (l : Limits) (early late : List Action) → HoldsAfter l (early ++ late) s
-      → IsReached (state_after l early) × (state_after l (early ++ late) ≡ run_of (state_after l early) (events_of late))
+      → IsReached (state_after l early) × ((state_after l early).budget ≤ max_budget) × (state_after l (early ++ late) ≡ run_of (state_after l early) (events_of late))
       × ((j : ℕ) (v : View T) → get_elem? s.views j ≡ some v → v.trail ≡ part_of (start l) (j + 1) early ++ late_part l early late (j + 1))
 
   -- Refinement. The run, read state by state, is a run of the abstract mutex from the state in which no seat holds, asks or

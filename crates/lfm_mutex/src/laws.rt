@@ -11,8 +11,8 @@ ghost use Rattle.lfm_mutex.specs.calls.Granted.{GrantsAreTold, WakeUpsAreTold};
 
 use lfm_table::Kept;
 
-/// At every moment the words and seats of a running mutex are a steady state of the core, and so a lawful one. So every law of
-/// the core about steady states holds of them.
+/// At every moment the words and seats of a running mutex are a steady state of the core within the limits, and so a lawful
+/// one. So every law of steady states holds.
 ///
 /// Definition: `TablesAreSteady` in `specs/Laws.antt`. Proof: `proofs/LawsHeld.antt`.
 pub fn tables_are_steady<T: Kept>()

@@ -38,8 +38,8 @@ pub fn seats_know_up_to_their_last_step<T: Kept>()
     ensures same { SameTrailsKnowTheSame T }
 {}
 
-/// At each moment of a table's run the state is a reached one, and the events since then lead from it to the table. So every
-/// law of schedules applies.
+/// At each moment of a table's run the state is a reached one within the limits, and the events since then lead from it to the
+/// table. So every law of schedules applies.
 ///
 /// Definition: `TablesGoThroughReachedStates` in `specs/TableRuns.antt`. Proof: `proofs/TableRuns.antt`.
 pub fn tables_go_through_reached_states<T: Kept>()

@@ -1,17 +1,20 @@
 -- Each event on condvars changes the user mutex as some starts of calls and single steps of the mutex do.
-use Rattle.std.proofs.Common.{◌≡◌, ℕ, Bool, true, false, ◌&&◌, List, [], ◌∷◌, ◌++◌, nat_eq, refl, sym, ap, ◌∙◌, if◌then◌else◌}
+use Rattle.std.proofs.Common.{◌≡◌, ℕ, Bool, true, false, ◌&&◌, List, [], ◌∷◌, ◌++◌, nat_eq, refl, sym, ap, ◌∙◌, arith, if◌then◌else◌}
 use Rattle.lfm_protocol.specs.declared.answers.Call.TheVariants.{StartWait, SendLock, Receive}
 use Rattle.lfm_protocol.specs.declared.points.Point.{Point}
 use Rattle.lfm_protocol.specs.declared.points.Point.TheVariants.{Rest, Asleep}
 use Rattle.lfm_protocol.specs.Core.{Core}
 use Rattle.lfm_protocol.specs.Turns.{is_open}
+use Rattle.lfm_laws.specs.laws.Laws.{IsReached}
 use Rattle.lfm_laws.specs.laws.Schedules as Schedules
 use Rattle.lfm_laws.specs.laws.Schedules.{Event, is_call}
 use Rattle.lfm_protocol.specs.Seats.{is_seat}
 use Rattle.lfm_protocol.specs.Step.{begin}
+use Rattle.lfm_laws.proofs.lawful.runs.LimitsKept.{limits_stay}
+use Rattle.lfm_laws.proofs.steady.Start.{few_seats, small_budget}
 use Rattle.lfm_condvar_laws.specs.Condvars.{Waiter, Stage, outside, locking_to_wait, starting, receiving, locking_to_wake, claiming, sending, unlocking, CondvarCore, point_of, is_listed, put_condvar, put_holder, condvar_start}
 use Rattle.lfm_condvar_laws.specs.Events.{CondvarEvent, begins, waits, wakes, makes, is_outside, is_own_call, is_rest, enlists, receives_at, sends_next, removed, removes, goes_on, happens, run_of}
-use Rattle.lfm_condvar_laws.specs.Laws.{CoresAreReached}
+use Rattle.lfm_condvar_laws.specs.Laws.{CoresAreReached, reached_by}
 
 -- some events lead from one state of the user mutex to the other
 record Runs (c d : Core) : Type 0 where
@@ -90,4 +93,8 @@ run_runs k (e ∷ later) =
 pub cores_are_reached : CoresAreReached
 cores_are_reached r =
     let runs = run_runs (condvar_start r.limits) r.events in
-    record { limits = r.limits; events = runs.events; allowed = r.allowed; here = runs.here }
+    let mutex : Core = (reached_by r).mutex in
+    let is : IsReached mutex = record { limits = r.limits; events = runs.events; few = few_seats r.limits.seats r.limits.budget r.allowed; here = runs.here } in
+    let same : mutex.budget ≡ r.limits.budget = ap (λ c. c.budget) runs.here ∙ ap (λ l. l.budget) (limits_stay r.limits runs.events) in
+    let small = small_budget r.limits.seats r.limits.budget r.allowed in
+    (is, omega (arith, same, small))

@@ -11,7 +11,7 @@ use Rattle.lfm_protocol.specs.Turns.{is_open}
 use Rattle.lfm_laws.specs.laws.Events.{pushed_by}
 use Rattle.lfm_laws.specs.laws.Schedules.{is_call}
 use Rattle.lfm_laws.proofs.lawful.bounds.Leaving.{own_made}
-use Rattle.lfm_laws.proofs.steady.Start.{start_steady, few_seats, small_budget}
+use Rattle.lfm_laws.proofs.steady.Start.{start_steady, few_seats}
 use Rattle.lfm_laws.proofs.steady.frames.Sums.{changed_same}
 use Rattle.lfm_condvar_laws.specs.Claims.{claimed_at, claimed_in, claim_record, claims_on}
 use Rattle.lfm_condvar_laws.specs.Condvars.{Waiter, Stage, outside, locking_to_wait, starting, receiving, locking_to_wake, claiming, sending, unlocking, CondvarCore, point_of, is_listed, put_stage, put_condvar, put_holder, condvar_start}
@@ -257,7 +257,7 @@ nothing_pushed k g none =
 pub pushes_are_in_order : PushesAreInOrder
 pushes_are_in_order r v =
     let l = r.limits in
-    let begun = start_steady l (few_seats l.seats l.budget r.allowed) (small_budget l.seats l.budget r.allowed) in
+    let begun = start_steady l (few_seats l.seats l.budget r.allowed) in
     let g = start_ghost begun.ghost_state in
     let run = push_run (condvar_start l) g r.events (λ u. []) (start_fits l begun.ghost_state begun.fits)
     (nothing_pushed (condvar_start l) g (λ s. refl)) in

@@ -1,5 +1,7 @@
 //! The invariant: each `State` is steady. The laws of all states and turns are re-exported.
+ghost use Rattle.std.specs.Prelude.{◌≤◌};
 ghost use Rattle.lfm_laws.specs.steady.Steady.{Steady};
+ghost use Rattle.lfm_protocol.specs.Limits.{max_budget};
 
 use crate::stepped::State;
 pub use lfm_laws::steadiness::{
@@ -7,11 +9,12 @@ pub use lfm_laws::steadiness::{
     steps_touch_one_word_and_one_seat,
 };
 
-/// Every value of type `State` is steady.
+/// Every `State` is steady and within the limits.
 ///
 /// Definition: `Steady` in `crates/lfm_laws/specs/steady/Steady.antt`. Proof: the invariant that `State` carries.
 pub fn every_state_is_steady(state: &State)
-    ensures { Steady state.now }
+    ensures steady { Steady state.now }
+    ensures budget { state.now.budget ≤ max_budget }
 {
     state.steady();
 }

@@ -15,7 +15,7 @@ use Rattle.lfm_protocol.specs.Limits.{max_seats, max_budget}
 use Rattle.lfm_protocol.specs.Points.{kind, target, pushed_seat}
 use Rattle.lfm_protocol.specs.Room.{HasNumbers, CountFits, PopFits, HasRoom}
 use Rattle.lfm_protocol.specs.Seats.{seat, IsSeat}
-use Rattle.lfm_laws.specs.steady.Steady.{ErrandFits, own_unit, again_unit, asking_unit, queued_unit, Fits, Steady}
+use Rattle.lfm_laws.specs.steady.Steady.{ErrandFits, own_unit, again_unit, asking_unit, queued_unit, Fits, NumbersFit, Steady}
 use Rattle.lfm_laws.specs.steady.Views.{is_entered, held_by}
 use Rattle.lfm_laws.proofs.steady.frames.Frames.{place_of_claim}
 use Rattle.lfm_laws.proofs.steady.frames.Seated.{seat_of_point, seat_of_stamp, seat_of_asking}
@@ -43,13 +43,16 @@ pub queued_unit-le : (standing : Standing) → queued_unit standing ≤ 1
 queued_unit-le (queued stamp) = omega arith
 queued_unit-le _ = omega arith
 
--- each push was charged, so pushes are bounded
-pub pushed_fits : (c : Core) (g : Ghost) → Fits c g → g.pushed ≤ max_seats * max_budget
-pushed_fits c g fits =
+-- each push and each post was charged, so they are bounded if the budget is
+pub numbers_fit : (c : Core) (g : Ghost) → Fits c g → c.budget ≤ max_budget → NumbersFit c
+numbers_fit c g fits small =
     let most = sum_bound (length c.seats) c.budget g.pushes (λ s. omega (arith, (fits.each s).pushes, (fits.each s).takes)) in
-    let wide : length c.seats * c.budget ≤ length c.seats * max_budget = mul-le-mul_left (length c.seats) fits.sizes.budget in
+    let wide : length c.seats * c.budget ≤ length c.seats * max_budget = mul-le-mul_left (length c.seats) small in
     let long : length c.seats * max_budget ≤ max_seats * max_budget = omega (arith, fits.sizes.seats) in
-    omega (arith, fits.sums.pushed, most, wide, long)
+    record {
+      stamp = omega (arith, fits.words.stamp, fits.sums.pushed, most, wide, long);
+      posts = λ s. let here = fits.each s in omega (arith, here.posts, here.takes, small);
+    }
 
 pub asking_fits : (c : Core) (g : Ghost) → Fits c g → g.asking ≤ length c.seats
 asking_fits c g fits =
@@ -68,11 +71,8 @@ count_room c g fits =
 
 -- The numbers of the seat
 
-stamp_room : (c : Core) (g : Ghost) (seen : Link) → Fits c g → seen.stamp ≤ c.push.stamp → seen.stamp + 1 < 2 ^ 64
-stamp_room c g seen fits older = omega (arith, older, fits.words.stamp, pushed_fits c g fits)
-
-posts_room : (posts due takes budget : ℕ) → posts + due ≤ takes → takes ≤ budget → budget ≤ max_budget → posts + 1 < 2 ^ 64
-posts_room posts due takes budget paid within small = omega (arith, paid, within, small)
+stamp_room : (c : Core) (seen : Link) → NumbersFit c → seen.stamp ≤ c.push.stamp → seen.stamp + 1 < 2 ^ 64
+stamp_room c seen numbers older = omega (arith, older, numbers.stamp)
 
 -- the seat whose link is loaded next
 walked_seat : (c : Core) (g : Ghost) (s : ℕ) (carrier : Carrier) (next : ℕ) → (seat c.seats s).point ≡ TakeLinkLoad carrier next → Fits c g → IsSeat c.seats next
@@ -81,18 +81,17 @@ walked_seat c g s carrier next at fits =
     let some = knows.0 in
     rw knows.1 (seat_of_stamp c g (g.popped + g.walk) fits (omega (arith, some)) (omega (arith, fits.words.parts)))
 
-numbers_at : (c : Core) (g : Ghost) (s : ℕ) (p : Point) → (seat c.seats s).point ≡ p → Fits c g → HasNumbers (seat c.seats s) p
-numbers_at c g s LockCountSubtract at fits = let deep = rw at at (fits.each s).depth in omega (arith, deep.1)
-numbers_at c g s TryOwnerLoad at fits = let deep = rw at at (fits.each s).depth in omega (arith, deep)
-numbers_at c g s TryHandoffLoad at fits = let paid = rw at at (fits.each s).pushes in omega (arith, paid)
-numbers_at c g s (TryHandoffExchange seen) at fits = let paid = rw at at (fits.each s).pushes in omega (arith, paid)
-numbers_at c g s (LinkStore pusher seen) at fits = let knows = rw at at (fits.each s).knows in stamp_room c g seen fits knows.1.older
-numbers_at c g s (PushExchange pusher seen) at fits = let knows = rw at at (fits.each s).knows in stamp_room c g seen fits knows.1.older
-numbers_at c g s (ReleaseHandoffStore releaser) at fits =
-    let paid = rw at at (fits.each s).posts in posts_room (seat c.seats s).posts _ (seat c.seats s).takes c.budget paid (fits.each s).takes fits.sizes.budget
-numbers_at c g s (TakeLinkLoad carrier next) at fits =
+numbers_at : (c : Core) (g : Ghost) (s : ℕ) (p : Point) → (seat c.seats s).point ≡ p → Fits c g → NumbersFit c → HasNumbers (seat c.seats s) p
+numbers_at c g s LockCountSubtract at fits numbers = let deep = rw at at (fits.each s).depth in omega (arith, deep.1)
+numbers_at c g s TryOwnerLoad at fits numbers = let deep = rw at at (fits.each s).depth in omega (arith, deep)
+numbers_at c g s TryHandoffLoad at fits numbers = let paid = rw at at (fits.each s).pushes in omega (arith, paid)
+numbers_at c g s (TryHandoffExchange seen) at fits numbers = let paid = rw at at (fits.each s).pushes in omega (arith, paid)
+numbers_at c g s (LinkStore pusher seen) at fits numbers = let knows = rw at at (fits.each s).knows in stamp_room c seen numbers knows.1.older
+numbers_at c g s (PushExchange pusher seen) at fits numbers = let knows = rw at at (fits.each s).knows in stamp_room c seen numbers knows.1.older
+numbers_at c g s (ReleaseHandoffStore releaser) at fits numbers = let few = numbers.posts s in omega (arith, few)
+numbers_at c g s (TakeLinkLoad carrier next) at fits numbers =
     let is = walked_seat c g s carrier next at fits in (is.above, omega (arith, is.within, fits.sizes.seats))
-numbers_at c g s _ at fits = tt
+numbers_at c g s _ at fits numbers = tt
 
 -- The count
 
@@ -166,14 +165,18 @@ touches_at c g s (SendWakeExchange t) is at fits = rw at at (fits.each s).knows
 touches_at c g s (SendWakeStore t) is at fits = entered_seat c g s t at fits
 touches_at c g s _ is at fits = is
 
-pub has_room_of_fits : (c : Core) (g : Ghost) (s : ℕ) → Fits c g → IsSeat c.seats s → HasRoom c s
-has_room_of_fits c g s fits is =
+-- the room of the pop list, and the seat that is touched, need no bound
+pub pops_of_fits : (c : Core) (g : Ghost) (s : ℕ) → Fits c g → PopFits (length c.popped) (length c.seats) (kind (seat c.seats s).point)
+pops_of_fits c g s fits = pops_at c g s (seat c.seats s).point refl fits
+
+pub has_room_of_fits : (c : Core) (g : Ghost) (s : ℕ) → Fits c g → NumbersFit c → IsSeat c.seats s → HasRoom c s
+has_room_of_fits c g s fits fit is =
     record {
-      numbers = numbers_at c g s (seat c.seats s).point refl fits;
+      numbers = numbers_at c g s (seat c.seats s).point refl fits fit;
       counts = counts_at c g s (seat c.seats s).point refl fits;
       pops = pops_at c g s (seat c.seats s).point refl fits;
       touches = touches_at c g s (seat c.seats s).point is refl fits;
     }
 
-pub steady_has_room : (c : Core) (s : ℕ) → Steady c → IsSeat c.seats s → HasRoom c s
-steady_has_room c s steady is = has_room_of_fits c steady.ghost_state s steady.fits is
+pub steady_has_room : (c : Core) (s : ℕ) → Steady c → NumbersFit c → IsSeat c.seats s → HasRoom c s
+steady_has_room c s steady fit is = has_room_of_fits c steady.ghost_state s steady.fits fit is

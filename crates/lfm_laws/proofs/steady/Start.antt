@@ -53,8 +53,8 @@ fits_at_start limits s =
       watches = λ place here. absurd (cc);
     }
 
-pub start_fits : (limits : Limits) → limits.seats ≤ max_seats → limits.budget ≤ max_budget → Fits (start limits) at_start
-start_fits limits few small =
+pub start_fits : (limits : Limits) → limits.seats ≤ max_seats → Fits (start limits) at_start
+start_fits limits few =
     let seats = length-replicate limits.seats absent in
     record {
       words = record {
@@ -82,12 +82,11 @@ start_fits limits few small =
         links = length-replicate limits.seats no_link ∙ sym seats;
         wakes = length-replicate limits.seats Quiet ∙ sym seats;
         seats = omega (arith, seats);
-        budget = small;
       };
     }
 
-pub start_steady : (limits : Limits) → limits.seats ≤ max_seats → limits.budget ≤ max_budget → Steady (start limits)
-start_steady limits few small = record { ghost_state = at_start; fits = start_fits limits few small }
+pub start_steady : (limits : Limits) → limits.seats ≤ max_seats → Steady (start limits)
+start_steady limits few = record { ghost_state = at_start; fits = start_fits limits few }
 
 -- the limits that the test allows are those of a steady state
 

@@ -11,8 +11,8 @@ use Rattle.lfm_laws.specs.steady.Ghost.{Responsibility, nobody, owned, granted, 
 use Rattle.lfm_protocol.specs.Points.{kind, target}
 use Rattle.lfm_protocol.specs.Room.{HasRoom}
 use Rattle.lfm_protocol.specs.Seats.{seat, link, unposted, IsSeat}
-use Rattle.lfm_laws.specs.steady.Steady.{HandoffFits, before, cleared, Fits}
-use Rattle.lfm_laws.proofs.steady.Room.{pushed_fits, count_room, has_room_of_fits}
+use Rattle.lfm_laws.specs.steady.Steady.{HandoffFits, before, cleared, Fits, NumbersFit}
+use Rattle.lfm_laws.proofs.steady.Room.{count_room, has_room_of_fits}
 use Rattle.lfm_laws.proofs.steady.frames.Seated.{seat_of_stamp}
 use Rattle.lfm_laws.specs.table.Words.{AreNarrow}
 use Rattle.lfm_laws.proofs.table.Steps.{Exact}
@@ -34,8 +34,8 @@ push_narrow c g fits =
           omega (arith, here, seat_small c g (g.pushed_at g.pushed) fits is)
     ]
 
-pub stamp_narrow : (c : Core) (g : Ghost) → Fits c g → c.push.stamp < 2 ^ 48
-stamp_narrow c g fits = omega (arith, fits.words.stamp, pushed_fits c g fits)
+pub stamp_narrow : (c : Core) → NumbersFit c → c.push.stamp < 2 ^ 48
+stamp_narrow c fit = let few = fit.stamp in omega (arith, few)
 
 -- The handoff word
 
@@ -80,35 +80,35 @@ walked_narrow c g next fits some here =
 
 -- Every point
 
-exact_at : (c : Core) (g : Ghost) (s : ℕ) (p : Point) → IsSeat c.seats s → (seat c.seats s).point ≡ p → Fits c g → AreNarrow c.seats → HasRoom c s
+exact_at : (c : Core) (g : Ghost) (s : ℕ) (p : Point) → IsSeat c.seats s → (seat c.seats s).point ≡ p → Fits c g → NumbersFit c → AreNarrow c.seats → HasRoom c s
     → Exact c (seat c.seats s) s (target p s) (kind p)
-exact_at c g s LockCountAdd is at fits narrow room = count_room c g fits
-exact_at c g s TryCountAdd is at fits narrow room = count_room c g fits
-exact_at c g s (SendCountAdd t) is at fits narrow room = count_room c g fits
-exact_at c g s LockCountSubtract is at fits narrow room = (rw at at room.counts, count_room c g fits)
-exact_at c g s (ReleaseCountSubtract releaser) is at fits narrow room = (rw at at room.counts, count_room c g fits)
-exact_at c g s (PushLoad pusher) is at fits narrow room = push_narrow c g fits
-exact_at c g s (SendPushRecheck t seen) is at fits narrow room = push_narrow c g fits
-exact_at c g s (ReleasePushRecheck releaser) is at fits narrow room = push_narrow c g fits
-exact_at c g s (PushExchange pusher seen) is at fits narrow room = (push_narrow c g fits, rw at (rw at at (narrow s)))
-exact_at c g s (TakeClearHead carrier) is at fits narrow room = (push_narrow c g fits, stamp_narrow c g fits)
-exact_at c g s (TakeLinkLoad carrier next) is at fits narrow room =
+exact_at c g s LockCountAdd is at fits fit narrow room = count_room c g fits
+exact_at c g s TryCountAdd is at fits fit narrow room = count_room c g fits
+exact_at c g s (SendCountAdd t) is at fits fit narrow room = count_room c g fits
+exact_at c g s LockCountSubtract is at fits fit narrow room = (rw at at room.counts, count_room c g fits)
+exact_at c g s (ReleaseCountSubtract releaser) is at fits fit narrow room = (rw at at room.counts, count_room c g fits)
+exact_at c g s (PushLoad pusher) is at fits fit narrow room = push_narrow c g fits
+exact_at c g s (SendPushRecheck t seen) is at fits fit narrow room = push_narrow c g fits
+exact_at c g s (ReleasePushRecheck releaser) is at fits fit narrow room = push_narrow c g fits
+exact_at c g s (PushExchange pusher seen) is at fits fit narrow room = (push_narrow c g fits, rw at (rw at at (narrow s)))
+exact_at c g s (TakeClearHead carrier) is at fits fit narrow room = (push_narrow c g fits, stamp_narrow c fit)
+exact_at c g s (TakeLinkLoad carrier next) is at fits fit narrow room =
     let knows = rw at at (fits.each s).knows in
     (rw at at room.touches, walked_narrow c g next fits knows.0 knows.1)
-exact_at c g s (LinkStore pusher seen) is at fits narrow room = rw at at room.touches
-exact_at c g s TryHandoffLoad is at fits narrow room = handoff_narrow c g fits
-exact_at c g s (PushedHandoffLoad pusher) is at fits narrow room = handoff_narrow c g fits
-exact_at c g s (PushedHandoffExchange pusher seen) is at fits narrow room = (handoff_narrow c g fits, rw at (rw at at (narrow s)))
-exact_at c g s (TryHandoffExchange seen) is at fits narrow room = (handoff_narrow c g fits, rw at (rw at at (narrow s)))
-exact_at c g s (ReleaseHandoffExchange releaser) is at fits narrow room = (handoff_narrow c g fits, rw at (seat_small c g s fits is))
-exact_at c g s (ReceiveWakeLoad sleeper) is at fits narrow room = is
-exact_at c g s (ReceiveWakeStore stamp) is at fits narrow room = is
-exact_at c g s (WaitWakeStore released) is at fits narrow room = is
-exact_at c g s (GrantWakeStore carrier oldest) is at fits narrow room = rw at at room.touches
-exact_at c g s (SendWakeStore t) is at fits narrow room = rw at at room.touches
-exact_at c g s (SendWakeExchange t) is at fits narrow room = rw at at room.touches
-exact_at c g s _ is at fits narrow room = tt
+exact_at c g s (LinkStore pusher seen) is at fits fit narrow room = rw at at room.touches
+exact_at c g s TryHandoffLoad is at fits fit narrow room = handoff_narrow c g fits
+exact_at c g s (PushedHandoffLoad pusher) is at fits fit narrow room = handoff_narrow c g fits
+exact_at c g s (PushedHandoffExchange pusher seen) is at fits fit narrow room = (handoff_narrow c g fits, rw at (rw at at (narrow s)))
+exact_at c g s (TryHandoffExchange seen) is at fits fit narrow room = (handoff_narrow c g fits, rw at (rw at at (narrow s)))
+exact_at c g s (ReleaseHandoffExchange releaser) is at fits fit narrow room = (handoff_narrow c g fits, rw at (seat_small c g s fits is))
+exact_at c g s (ReceiveWakeLoad sleeper) is at fits fit narrow room = is
+exact_at c g s (ReceiveWakeStore stamp) is at fits fit narrow room = is
+exact_at c g s (WaitWakeStore released) is at fits fit narrow room = is
+exact_at c g s (GrantWakeStore carrier oldest) is at fits fit narrow room = rw at at room.touches
+exact_at c g s (SendWakeStore t) is at fits fit narrow room = rw at at room.touches
+exact_at c g s (SendWakeExchange t) is at fits fit narrow room = rw at at room.touches
+exact_at c g s _ is at fits fit narrow room = tt
 
-pub exact_of_fits : (c : Core) (g : Ghost) (s : ℕ) → IsSeat c.seats s → Fits c g → AreNarrow c.seats
+pub exact_of_fits : (c : Core) (g : Ghost) (s : ℕ) → IsSeat c.seats s → Fits c g → NumbersFit c → AreNarrow c.seats
     → Exact c (seat c.seats s) s (target (seat c.seats s).point s) (kind (seat c.seats s).point)
-exact_of_fits c g s is fits narrow = exact_at c g s (seat c.seats s).point is refl fits narrow (has_room_of_fits c g s fits is)
+exact_of_fits c g s is fits fit narrow = exact_at c g s (seat c.seats s).point is refl fits fit narrow (has_room_of_fits c g s fits fit is)

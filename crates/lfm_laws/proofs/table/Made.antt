@@ -7,7 +7,7 @@ use Rattle.lfm_protocol.specs.Core.{Core}
 use Rattle.lfm_laws.specs.steady.Ghost.{Ghost}
 use Rattle.lfm_protocol.specs.Points.{kind, target}
 use Rattle.lfm_protocol.specs.Seats.{seat, with_entry, IsSeat}
-use Rattle.lfm_laws.specs.steady.Steady.{Fits}
+use Rattle.lfm_laws.specs.steady.Steady.{Fits, NumbersFit}
 use Rattle.lfm_protocol.specs.Step.{made, claims_word, step_of}
 use Rattle.lfm_words.specs.declared.wakes.Wake.{Wake}
 use Rattle.lfm_words.specs.declared.wakes.Wake.TheVariants.{Waiting}
@@ -21,39 +21,39 @@ use Rattle.lfm_laws.proofs.table.Steps.{found_by, found_here, words_step_of, sea
 abbrev pub found : Core → ℕ → ℕ
 found c s = slice_index (words c) (index (seat c.seats s) (length c.seats) s)
 
-found_is : (c : Core) (g : Ghost) (s : ℕ) → IsSeat c.seats s → Fits c g → AreNarrow c.seats
+found_is : (c : Core) (g : Ghost) (s : ℕ) → IsSeat c.seats s → Fits c g → NumbersFit c → AreNarrow c.seats
     → found c s ≡ found_by c (target (seat c.seats s).point s) (kind (seat c.seats s).point)
-found_is c g s is fits narrow =
+found_is c g s is fits fit narrow =
     let p = (seat c.seats s).point in
-    found_here c (seat c.seats s) s (target p s) (kind p) fits.sizes (exact_of_fits c g s is fits narrow)
+    found_here c (seat c.seats s) s (target p s) (kind p) fits.sizes (exact_of_fits c g s is fits fit narrow)
 
-pub words_of_step : (c : Core) (g : Ghost) (s : ℕ) → IsSeat c.seats s → Fits c g → AreNarrow c.seats
+pub words_of_step : (c : Core) (g : Ghost) (s : ℕ) → IsSeat c.seats s → Fits c g → NumbersFit c → AreNarrow c.seats
     → words (made c s).core ≡ set (words c) (index (seat c.seats s) (length c.seats) s) (written (seat c.seats s) s (found c s))
-words_of_step c g s is fits narrow =
+words_of_step c g s is fits fit narrow =
     let x = seat c.seats s in
-    words_step_of c s (target x.point s) (kind x.point) fits.sizes (exact_of_fits c g s is fits narrow)
-    ∙ ap (λ n. set (words c) (index x (length c.seats) s) (written_by x s n (kind x.point))) (sym (found_is c g s is fits narrow))
+    words_step_of c s (target x.point s) (kind x.point) fits.sizes (exact_of_fits c g s is fits fit narrow)
+    ∙ ap (λ n. set (words c) (index x (length c.seats) s) (written_by x s n (kind x.point))) (sym (found_is c g s is fits fit narrow))
 
-pub seat_of_step : (c : Core) (g : Ghost) (s : ℕ) → IsSeat c.seats s → Fits c g → AreNarrow c.seats
+pub seat_of_step : (c : Core) (g : Ghost) (s : ℕ) → IsSeat c.seats s → Fits c g → NumbersFit c → AreNarrow c.seats
     → (made c s).core.seats ≡ with_entry c.seats s (stepped_by (seat c.seats s) s (found c s) (oldest c.popped)).seat
-seat_of_step c g s is fits narrow =
+seat_of_step c g s is fits fit narrow =
     let x = seat c.seats s in
-    seats_step_of c s (target x.point s) (kind x.point) (exact_of_fits c g s is fits narrow)
-    ∙ ap (λ n. with_entry c.seats s (stepped_of x s n (oldest c.popped) (kind x.point)).seat) (sym (found_is c g s is fits narrow))
+    seats_step_of c s (target x.point s) (kind x.point) (exact_of_fits c g s is fits fit narrow)
+    ∙ ap (λ n. with_entry c.seats s (stepped_of x s n (oldest c.popped) (kind x.point)).seat) (sym (found_is c g s is fits fit narrow))
 
-pub turn_of_step : (c : Core) (g : Ghost) (s : ℕ) → IsSeat c.seats s → Fits c g → AreNarrow c.seats
+pub turn_of_step : (c : Core) (g : Ghost) (s : ℕ) → IsSeat c.seats s → Fits c g → NumbersFit c → AreNarrow c.seats
     → (made c s).turn ≡ (stepped_by (seat c.seats s) s (found c s) (oldest c.popped)).turn
-turn_of_step c g s is fits narrow =
+turn_of_step c g s is fits fit narrow =
     let x = seat c.seats s in
-    turn_step_of c s (target x.point s) (kind x.point) (exact_of_fits c g s is fits narrow)
-    ∙ ap (λ n. (stepped_of x s n (oldest c.popped) (kind x.point)).turn) (sym (found_is c g s is fits narrow))
+    turn_step_of c s (target x.point s) (kind x.point) (exact_of_fits c g s is fits fit narrow)
+    ∙ ap (λ n. (stepped_of x s n (oldest c.popped) (kind x.point)).turn) (sym (found_is c g s is fits fit narrow))
 
-pub popped_of_step : (c : Core) (g : Ghost) (s : ℕ) → IsSeat c.seats s → Fits c g → AreNarrow c.seats
+pub popped_of_step : (c : Core) (g : Ghost) (s : ℕ) → IsSeat c.seats s → Fits c g → NumbersFit c → AreNarrow c.seats
     → (made c s).core.popped ≡ popped_by_step (seat c.seats s) s (found c s) c.popped
-popped_of_step c g s is fits narrow =
+popped_of_step c g s is fits fit narrow =
     let x = seat c.seats s in
-    popped_step_of c s (target x.point s) (kind x.point) (exact_of_fits c g s is fits narrow)
-    ∙ ap (λ n. popped_of x (target x.point s) n c.popped (kind x.point)) (sym (found_is c g s is fits narrow))
+    popped_step_of c s (target x.point s) (kind x.point) (exact_of_fits c g s is fits fit narrow)
+    ∙ ap (λ n. popped_of x (target x.point s) n c.popped (kind x.point)) (sym (found_is c g s is fits fit narrow))
 
 -- No step changes the budget
 
@@ -84,9 +84,9 @@ pub budget_of_step : (c : Core) (s : ℕ) → (made c s).core.budget ≡ c.budge
 budget_of_step c s = budget_step_of c s (target (seat c.seats s).point s) (kind (seat c.seats s).point)
 
 -- After the step the seat numbers that seats have read still fit the lower half of a word
-pub narrow_of_step : (c : Core) (g : Ghost) (s : ℕ) → IsSeat c.seats s → Fits c g → AreNarrow c.seats → AreNarrow (made c s).core.seats
-narrow_of_step c g s is fits narrow =
+pub narrow_of_step : (c : Core) (g : Ghost) (s : ℕ) → IsSeat c.seats s → Fits c g → NumbersFit c → AreNarrow c.seats → AreNarrow (made c s).core.seats
+narrow_of_step c g s is fits fit narrow =
     let x = seat c.seats s in
     let after = stepped_by x s (found c s) (oldest c.popped) in
-    rw (seat_of_step c g s is fits narrow)
+    rw (seat_of_step c g s is fits fit narrow)
     (narrow_with c.seats s after.seat is (narrow_step x s (found c s) (oldest c.popped) (narrow s)) narrow)

@@ -89,6 +89,5 @@ spent_fits c g s is fits place at deep =
         links = fits.sizes.links ∙ sym same;
         wakes = fits.sizes.wakes ∙ sym same;
         seats = omega (arith, fits.sizes.seats, same);
-        budget = fits.sizes.budget;
       };
     }

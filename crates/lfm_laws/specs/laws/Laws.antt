@@ -1,5 +1,5 @@
 -- The laws of every steady state, and of all calls and single steps from there. Every state that a schedule reaches is steady,
--- for every number of seats and every budget within their limits. Each law is a clause of a public function of `lfm_laws`.
+-- for every number of seats within its limits and every budget. Each law is a clause of a public function of `lfm_laws`.
 use Rattle.std.specs.Prelude.{◌≡◌, ◌⊎◌, ℕ, Bool, true, false, ◌+◌, ◌<◌, ◌≤◌, ◌++◌, Some, List, [], ◌∷◌, length, slice_index_or}
 use Rattle.lfm_model.specs.Abstract.{AbstractMutex, AbstractPlace, all_free, free, owner, passed, posted, carried}
 use Rattle.lfm_model.specs.AbstractRuns.{IsRun, take}
@@ -23,7 +23,7 @@ use Rattle.lfm_laws.specs.laws.Cases.{GoesBy, case_of_event, ReadsRun}
 use Rattle.lfm_protocol.specs.Core.{Core}
 use Rattle.lfm_laws.specs.laws.Events.{case_of_step}
 use Rattle.lfm_laws.specs.laws.Lawful.{IsSent, Lawful}
-use Rattle.lfm_protocol.specs.Limits.{are_in_limits}
+use Rattle.lfm_protocol.specs.Limits.{max_seats}
 use Rattle.lfm_protocol.specs.Turns.{is_open, longest_call}
 use Rattle.lfm_protocol.specs.Place.{place_of}
 use Rattle.lfm_protocol.specs.Queue.{queue_of}
@@ -34,11 +34,11 @@ use Rattle.lfm_laws.specs.steady.Steady.{Steady}
 use Rattle.lfm_protocol.specs.Step.{begin, start}
 use Rattle.lfm_laws.specs.laws.Watched.{IsQueued, Watched}
 
--- a state that some schedule reaches
+-- a state that some schedule reaches, under any budget
 pub record IsReached (c : Core) : Type 0 where
   pub limits : Limits
   pub events : List Event
-  pub allowed : are_in_limits limits.seats limits.budget ≡ true
+  pub few : limits.seats ≤ max_seats
   pub here : c ≡ reached limits events
 
 -- Mutual exclusion
@@ -60,7 +60,7 @@ StatesAreLawful = (c : Core) → Steady c → Lawful c
 -- the readings of a run are a run of the abstract mutex that starts with no seat holding, asking or waiting
 abbrev pub RunsAreAbstractRuns : Type 0
 RunsAreAbstractRuns =
-    (limits : Limits) (events : List Event) → are_in_limits limits.seats limits.budget ≡ true
+    (limits : Limits) (events : List Event) → limits.seats ≤ max_seats
     → Reads (start limits) all_free × ((later : List AbstractMutex) × ReadsRun (start limits) events later × IsRun (all_free ∷ later))
 
 -- the reading after an event follows from the one before by its case, which is that of `case_of_step` if the event is a step
@@ -100,7 +100,7 @@ StampsAreConsecutive =
 -- the answers Held(Queued) are the popped records, or all of these except the last
 abbrev pub AnswersAreTheRecords : Type 0
 AnswersAreTheRecords =
-    (limits : Limits) (events : List Event) → are_in_limits limits.seats limits.budget ≡ true
+    (limits : Limits) (events : List Event) → limits.seats ≤ max_seats
     → (popped_record (start limits) events ≡ answer_record (start limits) events)
     ⊎ ((last : Record) × (popped_record (start limits) events ≡ answer_record (start limits) events ++ last ∷ []))
 

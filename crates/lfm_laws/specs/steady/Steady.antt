@@ -1,6 +1,6 @@
 -- The invariant, which every start of a call and every step keeps: some ghost fits the state. It has one set of facts for each
 -- seat, some facts of the words and the queue, and three sums. No fact is about two arbitrary seats.
-use Rattle.std.specs.Prelude.{◌≡◌, ◌≢◌, ◌⊎◌, ⊤, ℕ, Bool, true, false, ◌+◌, ◌-◌, ◌<◌, ◌≤◌, List, [], ◌∷◌, length, nat_eq, if◌then◌else◌}
+use Rattle.std.specs.Prelude.{◌≡◌, ◌≢◌, ◌⊎◌, ⊤, ℕ, Bool, true, false, ◌+◌, ◌-◌, ◌^◌, ◌<◌, ◌≤◌, List, [], ◌∷◌, length, nat_eq, if◌then◌else◌}
 use Rattle.lfm_model.specs.declared.answers.How.{How}
 use Rattle.lfm_protocol.specs.declared.points.Carrier.{Carrier}
 use Rattle.lfm_protocol.specs.declared.points.Entrant.{Entrant}
@@ -14,7 +14,7 @@ use Rattle.lfm_words.specs.declared.links.Link.{Link}
 use Rattle.lfm_words.specs.declared.pop_lists.Record.{Record}
 use Rattle.lfm_words.specs.declared.wakes.Wake.{Wake}
 use Rattle.lfm_protocol.specs.Core.{Core}
-use Rattle.lfm_protocol.specs.Limits.{max_budget, max_depth, max_seats}
+use Rattle.lfm_protocol.specs.Limits.{max_depth, max_seats}
 use Rattle.lfm_laws.specs.steady.Ghost.{Responsibility, nobody, owned, granted, posted, entering, accepting, leaving, serving, Standing, apart, claimed, asks, queued, Ghost}
 use Rattle.lfm_laws.specs.steady.Numbered.{records}
 use Rattle.lfm_model.specs.Sums.{sum_to}
@@ -317,7 +317,11 @@ pub record SizesFit (c : Core) : Type 0 where
   pub links : length c.links ≡ length c.seats
   pub wakes : length c.wakes ≡ length c.seats
   pub seats : length c.seats ≤ max_seats
-  pub budget : c.budget ≤ max_budget
+
+-- the stamp and the posts fit their words, and so do those of each next step
+pub record NumbersFit (c : Core) : Type 0 where
+  pub stamp : c.push.stamp + 1 < 2 ^ 48
+  pub posts : (s : ℕ) → (seat c.seats s).posts + 1 < 2 ^ 48
 
 pub record Fits (c : Core) (g : Ghost) : Type 0 where
   pub words : WordsFit c g

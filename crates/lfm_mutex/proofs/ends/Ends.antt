@@ -201,7 +201,7 @@ module _ {T : Type 0} (follows : ℕ → T → T → Type 0) (suits : T → ℕ 
 
   ends_run : (s : St) (h : Held follows suits s) (v : View T) → get_elem? s.views 0 ≡ some v → IsFree h.core → EndsRun v
   ends_run s h v at free =
-      let opened : h.opened ≡ v.limits = sym (limits_stay h.opened (events_of h.actions) h.run.allowed) ∙ (ap limits (sym h.run.here) ∙ sym (h.each 0 v at).limits_are) in
+      let opened : h.opened ≡ v.limits = sym (limits_stay h.opened (events_of h.actions)) ∙ (ap limits (sym h.run.here) ∙ sym (h.each 0 v at).limits_are) in
       record {
         actions = h.actions;
         allowed = subst (λ (l : Limits). are_in_limits l.seats l.budget ≡ true) opened h.run.allowed;

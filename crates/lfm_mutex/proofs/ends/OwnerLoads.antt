@@ -22,7 +22,7 @@ use Rattle.lfm_table.proofs.tables.CoreFacts.{owner_told}
 use Rattle.lfm_table.proofs.tables.Actions.{goes_on_by, load_by, load_last, owner_load_part, run_goes_on}
 use Rattle.lfm_table.proofs.tables.StepFacts.{became_depth}
 use Rattle.lfm_table.proofs.tables.RuleKept.{root_on, others_on, length_at}
-use Rattle.lfm_mutex.proofs.ends.OneView.{parts, quiet}
+use Rattle.lfm_table.proofs.tables.OneView.{parts, quiet}
 
 module _ {T : Type 0} (follows : ℕ → T → T → Type 0) (suits : T → ℕ → Type 0) where
   module _ (id : ℕ) (me : Me (Option (Moving T)) (View T)) (user : me.0.role ≡ User) (s : State (Option (Moving T)) (View T)) (h : Held follows suits s) (at : get_elem? s.views id ≡ some me.0) where
@@ -43,7 +43,7 @@ module _ {T : Type 0} (follows : ℕ → T → T → Type 0) (suits : T → ℕ 
 
     loaded_by : RunGoesOnBy (LoadsOwner (id + 1) ∷ []) me.0 Seen
     loaded_by =
-        let opened : h.opened ≡ me.0.limits = sym (limits_stay h.opened (events_of h.actions) h.run.allowed) ∙ (ap limits (sym h.run.here) ∙ sym sits_here.limits_are) in
+        let opened : h.opened ≡ me.0.limits = sym (limits_stay h.opened (events_of h.actions)) ∙ (ap limits (sym h.run.here) ∙ sym sits_here.limits_are) in
         goes_on_by h.opened h.actions h.core s.views h.run (LoadsOwner (id + 1) ∷ []) h.core id me.0 Seen (seen TryOwnerLoad Found) at refl refl load_part (load_by (id + 1)) (load_last (id + 1) (id + 1) refl) refl sits_here.state sits_here.number opened
 
     -- the rule still holds, and the run is extended by this load

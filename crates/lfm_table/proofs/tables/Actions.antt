@@ -13,10 +13,13 @@ use Rattle.lfm_protocol.specs.declared.points.Point.TheVariants.{TryOwnerLoad}
 use Rattle.lfm_protocol.specs.declared.seats.SeatState.{SeatState}
 use Rattle.lfm_protocol.specs.Begin as Begin
 use Rattle.lfm_protocol.specs.Core.{Core, limits, put}
+use Rattle.lfm_protocol.specs.Limits.{max_budget}
 use Rattle.lfm_protocol.specs.Seats.{seat, entry, with_entry, absent, IsSeat}
 use Rattle.lfm_protocol.specs.Step.{begin, step, made, start}
 use Rattle.lfm_laws.specs.laws.Schedules.{Event, begins, makes, happens, reached, run_of}
 use Rattle.lfm_laws.specs.table.Settles.{begun}
+use Rattle.lfm_laws.proofs.lawful.runs.LimitsKept.{limits_stay}
+use Rattle.lfm_laws.proofs.steady.Start.{small_budget}
 use Rattle.lfm_laws.proofs.steady.frames.Entries.{seat-with_same, length-with_entry}
 use Rattle.lfm_laws.proofs.table.Settled.{test_of_seat, with_entry-twice, is_seat-with, limits-put}
 use Rattle.lfm_laws.proofs.table.TableSteps.{found_at}
@@ -402,3 +405,12 @@ run_rests v w g same =
     let nothing : next_part v g.between ≡ [] = append_cancel_left v.trail (next_part v g.between) [] (sym g.trail ∙ (same ∙ sym (append-nil v.trail))) in
     let none : g.between ≡ [] = none_noted (reached v.limits (events_of v.actions)) v.number g.between g.ends nothing in
     g.actions ∙ (ap (λ (d : List Action). v.actions ++ d) none ∙ append-nil v.actions)
+
+-- The budget
+
+-- no action changes the budget, so it stays within the limits
+pub run_budget : {T : Type 0} (l : Limits) (actions : List Action) (c : Core) (views : List (View T)) → HasRun l actions c views → c.budget ≤ max_budget
+run_budget l actions c views run =
+    let same : c.budget ≡ l.budget = ap (λ (d : Core). d.budget) run.here ∙ ap (λ (k : Limits). k.budget) (limits_stay l (events_of actions)) in
+    let small = small_budget l.seats l.budget run.allowed in
+    omega (arith, same, small)

@@ -22,7 +22,7 @@ use Rattle.lfm_laws.specs.steady.Views.{claim_at, claim_of_pusher, claim_to_ente
 use Rattle.lfm_laws.specs.table.Words.{link_of}
 use Rattle.lfm_laws.proofs.steady.frames.Entries.{seat-with_same, length-with_entry}
 use Rattle.lfm_laws.proofs.steady.frames.Sums.{sum_bound_less}
-use Rattle.lfm_laws.proofs.steady.Room.{has_room_of_fits, queued_unit-le}
+use Rattle.lfm_laws.proofs.steady.Room.{pops_of_fits, queued_unit-le}
 use Rattle.lfm_laws.proofs.table.Answered.{answered_at_hold}
 use Rattle.lfm_laws.proofs.table.Exact.{push_narrow}
 use Rattle.lfm_laws.proofs.table.Packing.{link_packed}
@@ -156,7 +156,7 @@ module _ (c : Core) (g : Ghost) (s : ℕ) (p : SeatState) (is : IsSeat c.seats s
   depth_at = subst (λ (x : SeatState). DepthAt x.depth x.point) here (settled.each s).depth
 
   pub room : PopFits (length c.popped) (length c.seats) (kind p.point)
-  room = subst (λ (t : ℕ × SeatState). PopFits (length c.popped) t.0 (kind t.1.point)) (λ i. (length-with_entry c.seats s p i, here i)) (has_room_of_fits d g s settled is_there).pops
+  room = subst (λ (t : ℕ × SeatState). PopFits (length c.popped) t.0 (kind t.1.point)) (λ i. (length-with_entry c.seats s p i, here i)) (pops_of_fits d g s settled)
 
   pub stamp_told : (entrant : Entrant) (stamp : ℕ) → p.point ≡ EnterOwnerStore entrant (How.Queued stamp) → g.answered + 1 ≡ stamp
   stamp_told entrant stamp at = answered_at_hold d g s entrant stamp settled (ap (λ (x : SeatState). x.point) here ∙ at)

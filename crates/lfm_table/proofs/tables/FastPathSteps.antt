@@ -51,7 +51,7 @@ adds_by : (k : Kind) (t n : ℕ) (l : List Record) → adds_no_record k ≡ true
 adds_by Kind.LinkLoad t n l e = absurd (false≢true e)
 adds_by _ t n l e = refl
 
-adds_same : {T : Type 0} (p : SeatState) (s n : ℕ) (a : Option (Moving T)) (k : Kind) → kind p.point ≡ Some k → adds_no_record k ≡ true → a ≡ with_record p s n a
+pub adds_same : {T : Type 0} (p : SeatState) (s n : ℕ) (a : Option (Moving T)) (k : Kind) → kind p.point ≡ Some k → adds_no_record k ≡ true → a ≡ with_record p s n a
 adds_same p s n None k is straight = refl
 adds_same p s n (Some x) k is straight =
     ap (λ (l : List Record). Some (record x { popped = record x.popped { records = l } })) (adds_by k (target p.point s) n x.popped.records straight ∙ ap (λ (j : Option Kind). add_by j (target p.point s) n x.popped.records) (sym is))

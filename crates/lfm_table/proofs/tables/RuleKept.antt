@@ -20,6 +20,7 @@ use Rattle.lfm_protocol.specs.declared.seats.SeatState.{SeatState}
 use Rattle.lfm_protocol.specs.Begin as Begin
 use Rattle.lfm_laws.specs.table.Carried.{carries_value, move, move_of, MovesValue, TableStep}
 use Rattle.lfm_protocol.specs.Core.{Core, limits, put}
+use Rattle.lfm_protocol.specs.Limits.{max_budget}
 use Rattle.lfm_protocol.specs.Step.{made}
 use Rattle.lfm_laws.specs.laws.Events.{answered_by}
 use Rattle.lfm_laws.specs.laws.Schedules.{run_of}
@@ -35,7 +36,7 @@ use Rattle.lfm_laws.specs.table.Settles.{Settles, begun}
 use Rattle.lfm_laws.specs.steady.Steady.{IsSeen}
 use Rattle.lfm_laws.specs.table.Words.{words, index, index_by, written, stepped_by, popped_by_step, link_of}
 use Rattle.lfm_laws.proofs.steady.frames.Entries.{seat-with_same, seat-with_other, length-with_entry}
-use Rattle.lfm_laws.proofs.table.TableSteps.{table_step, found_at}
+use Rattle.lfm_laws.proofs.table.TableSteps.{table_step_in_limits, found_at}
 use Rattle.lfm_laws.proofs.table.Values.{tells_value, carried_alone}
 use Rattle.lfm_table.specs.declared.seat_view.Action.{Action}
 use Rattle.lfm_table.specs.declared.seat_view.Role.{Role}
@@ -49,7 +50,7 @@ use Rattle.lfm_table.specs.Settled.{Became, calls_to}
 use Rattle.lfm_table.specs.Actions.{HasRun, LastIsOwn, RunGoesOnBy, begins_and_step, events_of, if_own, own_of, part_of, told, told_of}
 use Rattle.lfm_table.specs.Steps.{stores, Ready}
 use Rattle.lfm_table.proofs.tables.CoreFacts as core
-use Rattle.lfm_table.proofs.tables.Actions.{goes_on_by, run_goes_on, step_by, step_last, step_run, step_part}
+use Rattle.lfm_table.proofs.tables.Actions.{goes_on_by, run_budget, run_goes_on, step_by, step_last, step_run, step_part}
 use Rattle.lfm_table.proofs.tables.Numbered.{left_own, numbered_same, numbered_next}
 use Rattle.lfm_table.proofs.tables.SettledKept.{settles_of}
 use Rattle.lfm_table.proofs.tables.StepFacts.{release_of, released, shallow_step, no_answer, empty_depth, left_same, left_new, not_release, carrying, list_stays, told_by, told_list, became_depth}
@@ -251,8 +252,11 @@ module _ {T : Type 0} (follows : ℕ → T → T → Type 0) (suits : T → ℕ 
       found_of : stores (kind p.point) ≡ false → k n ≡ n
       found_of no_store = finds n ∙ ap (λ (b : Bool). told_of b (written p num n) n) no_store
 
+      small : c.budget ≤ max_budget
+      small = run_budget h.opened h.actions h.core s.views h.run
+
       ts : TableStep c g num p n
-      ts = subst (λ (m : ℕ). TableStep c g num p m) n_is (table_step c g num p is h.fits h.narrow settles)
+      ts = subst (λ (m : ℕ). TableStep c g num p m) n_is (table_step_in_limits c g num p is h.fits h.narrow small settles)
 
       abbrev st : Begin.Stepped
       st = stepped_by p num (k n) (oldest c.popped)
@@ -347,7 +351,7 @@ module _ {T : Type 0} (follows : ℕ → T → T → Type 0) (suits : T → ℕ 
       run_on found = run_goes_on h.opened h.actions c s.views h.run actions_now ts.after id me.0 (next_view found) (seen p.point (k n)) at leads_now refl part_now only_now last_now refl stands_now
 
       opened_is : h.opened ≡ me.0.limits
-      opened_is = sym (limits_stay h.opened (events_of h.actions) h.run.allowed) ∙ (ap limits (sym h.run.here) ∙ sym sits.limits_are)
+      opened_is = sym (limits_stay h.opened (events_of h.actions)) ∙ (ap limits (sym h.run.here) ∙ sym sits.limits_are)
 
       runs_on : (found : Option T) → RunGoesOnBy actions_now me.0 (next_view found)
       runs_on found = goes_on_by h.opened h.actions c s.views h.run actions_now ts.after id me.0 (next_view found) (seen p.point (k n)) at leads_now refl part_now only_now last_now refl stands_now placed opened_is

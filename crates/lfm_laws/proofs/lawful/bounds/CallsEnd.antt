@@ -19,7 +19,7 @@ use Rattle.lfm_protocol.specs.Step.{step_of, step, claims_word}
 use Rattle.lfm_protocol.specs.Stores.{stored_owner, stored_link, expected_push, exchanged_push, stored_handoff, expected_handoff, stored_wake}
 use Rattle.lfm_laws.proofs.steady.frames.Entries.{seat-with_same, length-with_entry}
 use Rattle.lfm_laws.proofs.lawful.runs.Reached.{made_keeps}
-use Rattle.lfm_laws.proofs.steady.Room.{steady_has_room}
+use Rattle.lfm_laws.proofs.steady.Room.{pops_of_fits}
 use Rattle.lfm_laws.proofs.lawful.bounds.StepsFall.{Lower, count_exchange_lower, count_add_lower, count_subtract_lower, owner_load_lower, owner_store_lower, push_load_lower, push_exchange_lower, clear_head_lower, link_load_lower, link_store_lower, handoff_load_lower, handoff_store_lower, handoff_exchange_lower, wake_load_lower, wake_store_lower, wake_exchange_lower}
 use Rattle.lfm_laws.proofs.lawful.bounds.StepsLeft.{left, left-le}
 use Rattle.lfm_laws.proofs.steady.frames.Seated.{seat_of_test}
@@ -78,7 +78,7 @@ step_falls c s steady =
     elim (cases_Bool (is_seat c.seats s)) [
       | inl known ↦
           let is = seat_of_test c.seats s known in
-          rw known (falls_of c s (target (seat c.seats s).point s) (kind (seat c.seats s).point) is (steady_has_room c s steady is).pops)
+          rw known (falls_of c s (target (seat c.seats s).point s) (kind (seat c.seats s).point) is (pops_of_fits c steady.ghost_state s steady.fits))
       | inr none ↦ rw none (λ goes. absurd (false≢true goes))
     ]
 

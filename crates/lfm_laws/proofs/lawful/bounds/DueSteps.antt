@@ -40,7 +40,7 @@ use Rattle.lfm_laws.proofs.lawful.bounds.CallWeights.{is_walking, room_left}
 use Rattle.lfm_laws.proofs.lawful.bounds.Leaving.{stepped, seat_of_call}
 use Rattle.lfm_laws.proofs.lawful.bounds.ReleaseFalls.{wait_of, walk_room}
 use Rattle.lfm_laws.proofs.lawful.bounds.StepsFall.{same_link_self}
-use Rattle.lfm_laws.proofs.steady.Room.{steady_has_room}
+use Rattle.lfm_laws.proofs.steady.Room.{pops_of_fits}
 use Rattle.lfm_laws.proofs.lawful.bounds.DueAtPoints.{again_unless, due_to_walk, due_to_clear, due_to_exchange, due_at, changes_at, changed_push-le, changed_push_same}
 
 -- The point after a step that leaves the push word unchanged
@@ -347,7 +347,6 @@ pub own_spends : (c : Core) (g : Ghost) (s : ℕ) → Fits c g → is_call (seat
 own_spends c g s fits inside =
     elim (cases_Bool (is_walking (seat c.seats s).point)) [
       | inl walks ↦
-          let room = steady_has_room c s (record { ghost_state = g; fits = fits }) (seat_of_call c s inside) in
-          at_walk c g s (seat c.seats s).point refl fits walks room.pops
+          at_walk c g s (seat c.seats s).point refl fits walks (pops_of_fits c g s fits)
       | inr stands ↦ at_point c s (length c.seats - length (made c s).core.popped) (room_left c) (seat c.seats s).point refl inside stands (omega arith)
     ]

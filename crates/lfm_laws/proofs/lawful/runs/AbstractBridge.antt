@@ -14,7 +14,7 @@ use Rattle.lfm_protocol.specs.Step.{start}
 use Rattle.lfm_laws.proofs.lawful.runs.Reached.{event_goes}
 use Rattle.lfm_laws.proofs.lawful.read.Readings.{reads_ghost, reads_once}
 use Rattle.lfm_laws.proofs.lawful.runs.SameSteps.{same_goes}
-use Rattle.lfm_laws.proofs.steady.Start.{at_start, start_fits, few_seats, small_budget}
+use Rattle.lfm_laws.proofs.steady.Start.{at_start, start_fits}
 
 -- One event
 
@@ -49,8 +49,7 @@ run_reads c g (e ∷ events) fits =
     }
 
 pub runs_are_abstract_runs : RunsAreAbstractRuns
-runs_are_abstract_runs limits events allowed =
-    let few = few_seats limits.seats limits.budget allowed in
-    let fits : Fits (start limits) at_start = start_fits limits few (small_budget limits.seats limits.budget allowed) in
+runs_are_abstract_runs limits events few =
+    let fits : Fits (start limits) at_start = start_fits limits few in
     let rest = run_reads (start limits) at_start events fits in
     (reads_ghost (start limits) at_start fits, (rest.later, rest.reads, rest.run))

@@ -27,7 +27,7 @@ budget_of_two : (c : Core) (b : Bool) (x y : Moved) → x.core.budget ≡ c.budg
 budget_of_two c true x y p q = p
 budget_of_two c false x y p q = q
 
-budget-happens : (c : Core) (e : Event) → (happens c e).core.budget ≡ c.budget
+pub budget-happens : (c : Core) (e : Event) → (happens c e).core.budget ≡ c.budget
 budget-happens c (begins s call) = budget_of_two c (is_seat c.seats s) _ _ refl refl
 budget-happens c (makes s) = budget_of_two c (is_seat c.seats s) _ _ (budget-step_of c s _ _) refl
 
@@ -47,4 +47,4 @@ start_limits : (l : Limits) → limits (start l) ≡ l
 start_limits l i = record { seats = length-replicate l.seats absent i; budget = l.budget }
 
 pub limits_stay : LimitsStay
-limits_stay l events allowed = run_limits (start l) events ∙ start_limits l
+limits_stay l events = run_limits (start l) events ∙ start_limits l

@@ -111,8 +111,8 @@ answers_go g h pushes pops answers on none unheard follow =
     ]
 
 pub answers_are_the_records : AnswersAreTheRecords
-answers_are_the_records limits events allowed =
-    let steady = steady_reached (start limits) (record { limits = limits; events = []; allowed = allowed; here = refl }) in
+answers_are_the_records limits events few =
+    let steady = steady_reached (start limits) (record { limits = limits; events = []; few = few; here = refl }) in
     let words = steady.fits.words in
     let run = run_goes (start limits) steady.ghost_state events steady.fits in
     answers_go steady.ghost_state run.to _ _ _ run.history (omega (arith, words.stamp, words.parts)) (omega (arith, words.stamp, words.parts, words.answers)) run.fits.words.answers

@@ -14,7 +14,7 @@ use Rattle.lfm_protocol.specs.Step.{start}
 use Rattle.lfm_protocol.proofs.SeatLaws.{entry_absent}
 use Rattle.lfm_laws.proofs.steady.frames.Histories.{history_stays}
 pub use Rattle.lfm_laws.proofs.steady.Begins.{begin_keeps}
-use Rattle.lfm_laws.proofs.steady.Start.{start_steady, few_seats, small_budget}
+use Rattle.lfm_laws.proofs.steady.Start.{start_steady}
 use Rattle.lfm_laws.proofs.steady.frames.Seated.{seat_of_test}
 pub use Rattle.lfm_laws.proofs.steady.StepsKept.{made_keeps}
 
@@ -57,5 +57,4 @@ run_keeps c (e ∷ later) steady =
 pub steady_reached : (c : Core) → IsReached c → Steady c
 steady_reached c is =
     rw is.here
-    (run_keeps (start is.limits) is.events (start_steady is.limits (few_seats is.limits.seats is.limits.budget is.allowed)
-    (small_budget is.limits.seats is.limits.budget is.allowed)))
+    (run_keeps (start is.limits) is.events (start_steady is.limits is.few))

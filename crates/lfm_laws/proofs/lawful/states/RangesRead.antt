@@ -7,7 +7,7 @@ use Rattle.lfm_protocol.specs.declared.points.Pusher.{Pusher}
 use Rattle.lfm_protocol.specs.Core.{Core}
 use Rattle.lfm_laws.specs.steady.Ghost.{Responsibility, owned, Standing, apart, asks, queued, Ghost}
 use Rattle.lfm_model.specs.Sums.{sum_to}
-use Rattle.lfm_laws.specs.laws.Ranges.{NumbersStayInRange, StepsHaveRoom}
+use Rattle.lfm_laws.specs.laws.Ranges.{NumbersStayInRange, StepsHaveRoom, StepsHaveRoomInLimits}
 use Rattle.lfm_laws.specs.laws.Reading.{unit_of_recursion}
 use Rattle.lfm_protocol.specs.Limits.{max_depth}
 use Rattle.lfm_protocol.specs.Seats.{seat, IsSeat}
@@ -15,7 +15,7 @@ use Rattle.lfm_laws.specs.steady.Steady.{StandsAt, DepthOfPusher, DepthAt, own_u
 use Rattle.lfm_laws.specs.steady.Views.{claim_at}
 use Rattle.lfm_laws.proofs.lawful.read.ClaimsRead.{held_self, self_claims}
 use Rattle.lfm_laws.proofs.lawful.read.CountRead.{again_read}
-use Rattle.lfm_laws.proofs.steady.Room.{own_unit-le, steady_has_room}
+use Rattle.lfm_laws.proofs.steady.Room.{own_unit-le, numbers_fit, steady_has_room}
 use Rattle.lfm_laws.proofs.steady.frames.Seated.{seat_of_point}
 use Rattle.lfm_laws.proofs.steady.frames.Sums.{sum_add, sum_bound, sum_bound_less}
 
@@ -121,4 +121,8 @@ numbers_stay_in_range c is =
     }
 
 pub steps_have_room : StepsHaveRoom
-steps_have_room c s is seat_is = steady_has_room c s is seat_is
+steps_have_room c s is numbers seat_is = steady_has_room c s is numbers seat_is
+
+pub steps_have_room_in_limits : StepsHaveRoomInLimits
+steps_have_room_in_limits c is small =
+    let numbers = numbers_fit c is.ghost_state is.fits small in (numbers, λ s seat_is. steady_has_room c s is numbers seat_is)

@@ -282,14 +282,13 @@ fits_moved c g s y count owner wakes t x w is more posts fits =
 
 -- there are as many words and seats as before
 pub sizes_after : (c d : Core) (s : ℕ) (y : SeatState) → d.seats ≡ with_entry c.seats s y → length d.links ≡ length c.links → length d.wakes ≡ length c.wakes
-    → d.budget ≡ c.budget → SizesFit c → SizesFit d
-sizes_after c d s y seats links wakes budget sizes =
+    → SizesFit c → SizesFit d
+sizes_after c d s y seats links wakes sizes =
     let same : length d.seats ≡ length c.seats = ap length seats ∙ length-with_entry c.seats s y in
     record {
       links = omega (arith, sizes.links, links, same);
       wakes = omega (arith, sizes.wakes, wakes, same);
       seats = omega (arith, sizes.seats, same);
-      budget = omega (arith, sizes.budget, budget);
     }
 
 -- what remains to be shown for such a move
@@ -310,7 +309,7 @@ moves_on c g s y count owner wakes place answered is fits errands sized woken se
           (fits_moved c h s y count owner wakes s y (wake wakes s) is more (omega (arith, errands.posts_same)) own);
       agents = agents_after c g.standing s y is errands fits.agents;
       sums = rw same (record { asking = fits.sums.asking; queued = fits.sums.queued; pushed = fits.sums.pushed });
-      sizes = sizes_after c _ s y refl refl sized refl fits.sizes;
+      sizes = sizes_after c _ s y refl refl sized fits.sizes;
     }
 
 -- the words fit as before if the count, the owner and the place stay the same

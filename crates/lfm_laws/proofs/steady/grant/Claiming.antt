@@ -122,7 +122,7 @@ claim_moves c g s u y is fits claims =
         sent = λ agent e. let same : agent ≡ s = cc in rw (same, seat-with_same c.seats s y is) claims.claims_now;
       });
       sums = sums_anew c.seats g s u y g.place (claimed s) (rw waits.stands) (rw waits.stands) fits.sums;
-      sizes = sizes_after c _ s y refl refl (length-with_entry c.wakes u Claimed) refl fits.sizes;
+      sizes = sizes_after c _ s y refl refl (length-with_entry c.wakes u Claimed) fits.sizes;
     }
 
 -- The count add for a claimed seat if the count was 0
@@ -228,5 +228,5 @@ bring_moves c g s u y is fits brings =
             sent = λ agent e. cc;
           });
       sums = sums_anew c.seats g s u y (entering s u 0) apart (rw brings.stands) (rw brings.stands) fits.sums;
-      sizes = sizes_after c _ s y refl refl refl refl fits.sizes;
+      sizes = sizes_after c _ s y refl refl refl fits.sizes;
     }

@@ -114,5 +114,5 @@ free_fits c g s t p is fits errands place other rests =
           (λ far. rw gives (granted_seat c g (freed_to g t) t 0 c.owner c.popped (free_wakes c t) (seat c.seats t) (wake c.wakes t) (fits.each t) parts.0 awaits refl waits.1 refl));
       agents = agents_after c g.standing s y is errands fits.agents;
       sums = rw size sums;
-      sizes = sizes_after c _ s y refl refl (length-with_entry c.wakes t (Grant 0)) refl fits.sizes;
+      sizes = sizes_after c _ s y refl refl (length-with_entry c.wakes t (Grant 0)) fits.sizes;
     }

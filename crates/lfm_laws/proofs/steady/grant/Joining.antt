@@ -209,7 +209,7 @@ fits_join c g s u y is other_is fits unasked joins idle other_fits =
           (λ t away differs. sees_join c g s u t y (seat c.seats t) is more unasked away differs) joins.own other_fits;
       agents = agents_join c g s u y is fits joins idle;
       sums = rw same (sums_join (length c.seats) g s u other_is.above other_is.within unasked fits.sums);
-      sizes = sizes_after c _ s y refl refl refl refl fits.sizes;
+      sizes = sizes_after c _ s y refl refl refl fits.sizes;
     }
 
 claims_seat : (s t : ℕ) (standing : Standing) → standing ≡ claimed s → standing ≡ claimed t → t ≡ s

@@ -116,5 +116,5 @@ posts_handoff c g s y watcher is fits step =
       }) step.own;
       agents = λ t. agents_with c.seats (g.standing t) s t y is step.asks_same step.claims_same (fits.agents t);
       sums = rw size (record { asking = fits.sums.asking; queued = fits.sums.queued; pushed = fits.sums.pushed });
-      sizes = sizes_after c _ s y refl refl refl refl fits.sizes;
+      sizes = sizes_after c _ s y refl refl refl fits.sizes;
     }

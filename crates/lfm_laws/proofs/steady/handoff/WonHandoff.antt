@@ -97,5 +97,5 @@ handoff_wins c g s y place is fits wins =
       }) (fits_moved e h s y e.count e.owner e.wakes s y (wake c.wakes s) is (omega (arith, posts)) (omega (arith, posts)) wins.own);
       agents = agents_after c g.standing s y is wins.errands fits.agents;
       sums = rw size (record { asking = fits.sums.asking; queued = fits.sums.queued; pushed = fits.sums.pushed });
-      sizes = sizes_after c _ s y refl refl refl refl fits.sizes;
+      sizes = sizes_after c _ s y refl refl refl fits.sizes;
     }

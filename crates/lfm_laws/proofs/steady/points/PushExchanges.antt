@@ -69,7 +69,7 @@ pushes c g s u seen y is fits step =
       each = each_pushed c g s u seen y is fits step;
       agents = agents_pushed c g s u y is step.errand step.claims fits.agents;
       sums = rw (length-with_entry c.seats s y) (sums_pushed (length c.seats) s u g there.above there.within step.asked fits.sums);
-      sizes = sizes_after c _ s y refl refl refl refl fits.sizes;
+      sizes = sizes_after c _ s y refl refl refl fits.sizes;
     }
 
 -- the abstract mutex queues the seat

@@ -124,5 +124,5 @@ carries_on c g s y head walk popped is fits step =
           (carries_own (carried_core c head popped) (walking g walk) s y (wake c.wakes s) is posts step.serves step.own);
       agents = agents_after c g.standing s y is step.errands fits.agents;
       sums = rw long (record { asking = fits.sums.asking; queued = fits.sums.queued; pushed = fits.sums.pushed });
-      sizes = sizes_after c _ s y refl refl refl refl fits.sizes;
+      sizes = sizes_after c _ s y refl refl refl fits.sizes;
     }

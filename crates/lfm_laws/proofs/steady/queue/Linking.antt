@@ -90,7 +90,7 @@ link_stores c g s u y l is fits errands asked own =
       each = each_after c (put_link c u l) g g s y is refl fits posts (λ t other. refl) (λ t other. sees_link c g s u t y (seat c.seats t) l is posts asked other) own_after;
       agents = agents_after c g.standing s y is errands fits.agents;
       sums = rw (length-with_entry c.seats s y) fits.sums;
-      sizes = sizes_after c _ s y refl (length-with_entry c.links u l) refl refl fits.sizes;
+      sizes = sizes_after c _ s y refl (length-with_entry c.links u l) refl fits.sizes;
     }
 
 -- after the store, what the pusher knows includes its link

@@ -221,5 +221,5 @@ pops_fit c g s y r owner rest wakes place answered is fits pops =
           (λ t other away. sees_popped c g s y r owner rest wakes place answered is fits pops first t other away (seat c.seats t)) pops.own pops.second;
       agents = agents_after c (changed g.standing r.seat apart) s y is pops.errands (agents_apart c g r.seat fits.agents);
       sums = rw size (sums_popped (length c.seats) g r.seat place answered there.above there.within first.stands fits.sums);
-      sizes = sizes_after c _ s y refl refl pops.woken_all refl fits.sizes;
+      sizes = sizes_after c _ s y refl refl pops.woken_all fits.sizes;
     }

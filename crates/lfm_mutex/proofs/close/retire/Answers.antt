@@ -2,7 +2,7 @@ use Rattle.std.proofs.Common.{ℕ, sym, subst}
 use Rattle.lfm_table.specs.Table.{Joins}
 use Rattle.lfm_table.specs.declared.seat_view.View.{View}
 use Rattle.lfm_table.specs.Rule.{Held, with_joined, joined}
-use Rattle.lfm_mutex.proofs.ends.SplitsAndJoins.{joins}
+use Rattle.lfm_table.proofs.tables.SplitsAndJoins.{joins}
 use Rattle.lfm_mutex.proofs.close.retire.Goals as goal
 
 pub join_seat-requires-clause-allowed : goal.join_seat-requires-clause-allowed

@@ -2,7 +2,7 @@ use Rattle.std.proofs.Common.{rules, ◌≡◌, [], ◌∷◌, ◌+◌, ◌*◌,
 use Rattle.lfm_table.specs.Table.{opening}
 use Rattle.lfm_table.specs.declared.rule.Moving.{Moving}
 use Rattle.lfm_table.specs.Rule.{Held, first_view}
-use Rattle.lfm_mutex.proofs.ends.Starts.{starts}
+use Rattle.lfm_table.proofs.tables.Starts.{starts}
 use Rattle.lfm_mutex.proofs.open.new_table.Goals as goal
 
 pub new-requires-3-clause-kept : goal.new-requires-3-clause-kept

@@ -4,4 +4,4 @@ use Rattle.lfm_core.proofs.stepped.State.gather.Goals as goal
 
 pub gather-requires : goal.gather-requires
 gather-requires c =
-    omega (arith, c.requires, queue_few c.self.inside.machine c.self.invariant, ap (λ m. length m.seats) c.self.view_is)
+    omega (arith, c.requires, queue_few c.self.inside.machine c.self.invariant.0, ap (λ m. length m.seats) c.self.view_is)

@@ -11,7 +11,7 @@ use Rattle.lfm_mutex.specs.Close.{Idle, IsFree}
 use Rattle.lfm_table.specs.Reach.{Reached}
 use Rattle.lfm_table.specs.Rule.{Held, joined_of}
 use Rattle.lfm_table.proofs.tables.RuleKept.{length_at}
-use Rattle.lfm_mutex.proofs.ends.OneView.{at_end}
+use Rattle.lfm_table.proofs.tables.OneView.{at_end}
 use Rattle.lfm_protocol.specs.declared.limits.Limits.{Limits}
 use Rattle.lfm_protocol.specs.declared.points.Point.TheVariants.{Rest}
 use Rattle.lfm_protocol.specs.Limits.{are_in_limits}

@@ -7,9 +7,9 @@ use Rattle.lfm_protocol.specs.Seats.{absent}
 use Rattle.lfm_mutex.specs.Fresh.{Fresh}
 use Rattle.lfm_table.specs.Rule.{Held, with_split, split_view}
 use Rattle.lfm_mutex.proofs.Lists.{and_last, and_first}
-use Rattle.lfm_mutex.proofs.ends.FreshSeats.{fresh_seated, fresh_became, fresh_ready}
-use Rattle.lfm_mutex.proofs.ends.SplitsAndJoins.{splits}
-use Rattle.lfm_mutex.proofs.ends.Starts.{limit_facts}
+use Rattle.lfm_table.proofs.tables.FreshSeats.{fresh_seated, fresh_became, fresh_ready}
+use Rattle.lfm_table.proofs.tables.SplitsAndJoins.{splits}
+use Rattle.lfm_table.proofs.tables.Starts.{limit_facts}
 use Rattle.lfm_mutex.proofs.runs.SightParts.{fresh_sight}
 use Rattle.lfm_mutex.proofs.mutex.Mutex.new.Goals as goal
 

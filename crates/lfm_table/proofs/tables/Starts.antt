@@ -17,7 +17,7 @@ use Rattle.lfm_protocol.specs.Seats.{absent, no_link}
 use Rattle.lfm_laws.specs.steady.Steady.{Fits}
 use Rattle.lfm_protocol.specs.Step.{start}
 use Rattle.lfm_laws.specs.table.Words.{words}
-use Rattle.lfm_laws.proofs.steady.Start.{start_steady, few_seats, small_budget}
+use Rattle.lfm_laws.proofs.steady.Start.{start_steady, few_seats}
 use Rattle.lfm_laws.proofs.table.Starts.{start_narrow}
 use Rattle.lfm_table.specs.declared.seat_view.View.{View}
 use Rattle.lfm_table.specs.declared.rule.Moving.{Moving}
@@ -25,7 +25,7 @@ use Rattle.lfm_table.specs.Reach.{Reached}
 use Rattle.lfm_table.specs.Rule.{first_view, Roots, Sits, Held}
 use Rattle.lfm_table.proofs.tables.Actions.{knows_none, stands_first, starts_absent}
 use Rattle.lfm_table.proofs.tables.RuleKept.{stays_reached, some_same}
-use Rattle.lfm_mutex.proofs.ends.OneView.{not_both}
+use Rattle.lfm_table.proofs.tables.OneView.{not_both}
 
 map_replicate : {A : Type 0} (f : A → ℕ) (x : A) (n : ℕ) → f x ≡ 0 → map f (replicate n x) ≡ replicate n 0
 map_replicate f x zero e = refl
@@ -63,7 +63,7 @@ starts {T} follows suits l ws x allowed are none_popped room fit =
     let k : View T = first_view l x.value in
     let few = few_seats l.seats l.budget allowed in
     let some_seat = some_seats l.seats l.budget allowed in
-    let st = start_steady l few (small_budget l.seats l.budget allowed) in
+    let st = start_steady l few in
     let long = length-replicate l.seats absent in
     let none_carries : carries_value k.state ≡ false = refl in
     record {

@@ -16,7 +16,7 @@ use Rattle.lfm_table.specs.Actions.{HasRun}
 use Rattle.lfm_table.specs.Rule.{sum_over, retired, retired_at, split_view, with_split, with_joined, joined, joined_of, Roots, Held}
 use Rattle.lfm_table.proofs.tables.Actions.{SaysTheSame, SaysNothing, run_stays}
 use Rattle.lfm_table.proofs.tables.RuleKept.{total_set, length_at}
-use Rattle.lfm_mutex.proofs.ends.OneView.{at_end, total_end, get_end, not_both, parts, quiet, extends}
+use Rattle.lfm_table.proofs.tables.OneView.{at_end, total_end, get_end, not_both, parts, quiet, extends}
 
 module _ {T : Type 0} (follows : ℕ → T → T → Type 0) (suits : T → ℕ → Type 0) where
   abbrev St : Type 0

@@ -1,0 +1,239 @@
+-- The fast paths of a pool's calls, each as its two steps.
+use Rattle.std.proofs.Common.{◌≡◌, ◌≢◌, ℕ, ◌+◌, ◌*◌, ◌<◌, [], ◌∷◌, ◌++◌, length, nat_eq, nat_lt, if◌then◌else◌, refl, sym, ap, ◌∙◌, subst, arith, tests, length-set, append_assoc, Option, Some, None}
+use Rattle.std.specs.Prelude.{⊤, Bool, true, false}
+use Rattle.std.proofs.lemmas.Bool.{ne_eqb}
+use Rattle.std.proofs.lemmas.List.{set-set}
+use Rattle.atomic_table.specs.Table.{Me}
+use Rattle.lfm_model.specs.declared.answers.How.{How}
+use Rattle.lfm_words.specs.declared.pop_lists.Record.{Record}
+use Rattle.lfm_protocol.specs.declared.answers.Call.{Call}
+use Rattle.lfm_protocol.specs.declared.answers.Answer.TheVariants as Answer
+use Rattle.lfm_model.specs.declared.answers.Unlocked.TheVariants as Unlocked
+use Rattle.lfm_protocol.specs.declared.kinds.Kind.{Kind}
+use Rattle.lfm_protocol.specs.declared.limits.Limits.{Limits}
+use Rattle.lfm_protocol.specs.declared.points.Carrier.{Carrier}
+use Rattle.lfm_protocol.specs.declared.points.Entrant.{Entrant}
+use Rattle.lfm_protocol.specs.declared.points.Point.{Point}
+use Rattle.lfm_protocol.specs.declared.points.Point.TheVariants.{Rest, TryCountExchange, TryOwnerLoad, EnterOwnerStore, ReleaseOwnerStore, ReleaseCountSubtract}
+use Rattle.lfm_protocol.specs.declared.points.Releaser.TheVariants.{Unlocker}
+use Rattle.lfm_protocol.specs.declared.seats.SeatState.{SeatState}
+use Rattle.lfm_protocol.specs.After.{drops_oldest, take}
+use Rattle.lfm_protocol.specs.Begin as Begin
+use Rattle.lfm_laws.specs.table.Carried.{carries_value}
+use Rattle.lfm_laws.specs.table.Words.{stepped_by}
+use Rattle.lfm_table.specs.declared.operations.Access.{Access}
+use Rattle.lfm_table.specs.declared.seat_view.View.{View}
+use Rattle.lfm_table.specs.Actions.{RunGoesOn, seen}
+use Rattle.lfm_table.specs.FastPath.{Fit}
+use Rattle.lfm_table.specs.Rule.{in_hand}
+use Rattle.lfm_table.proofs.tables.Actions.{run_by, run_next, step_last}
+use Rattle.lfm_table.proofs.tables.Started as Started
+use Rattle.lfm_table.proofs.tables.StepFacts.{begin_keeps, made_of}
+use Rattle.lfm_pool.specs.declared.view.PoolView.{PoolView}
+use Rattle.lfm_pool.specs.Tables.{part, with_part, has_link_at}
+use Rattle.lfm_pool.specs.Steps.{hand_if, hand_of, IsAccessOf, LeadsToNoLink, RestsElsewhere, Sits, Stepped, StepsIn}
+use Rattle.lfm_pool.specs.FastPaths.{MayTry, HoldsOnce, Enters, Leaves, KnowsMoreOf}
+use Rattle.lfm_pool.proofs.Steps.{part_same, part_other}
+
+-- Views
+
+pub length_with : (v : PoolView) (m : ℕ) (w : View ⊤) → length (with_part v m w).parts ≡ length v.parts
+length_with v m w = length-set v.parts m w
+
+pub twice_with : (v : PoolView) (m : ℕ) (w x : View ⊤) → with_part (with_part v m w) m x ≡ with_part v m x
+twice_with v m w x = λ i. record { parts = set-set v.parts m w x i }
+
+pub elsewhere_with : (v : PoolView) (m : ℕ) (w : View ⊤) → RestsElsewhere v m → RestsElsewhere (with_part v m w) m
+elsewhere_with v m w rest n less other = rw (part_other v m n w other) (rest n (let l = length_with v m w in omega (arith, l, less)) other)
+
+-- The start of a call
+
+pub sits_begun : (number id : ℕ) (l : Limits) (v : View ⊤) → Sits number id l v.state v → (call : Call) → Sits number id l (Begin.begin v.state l call).seat v
+sits_begun number id l v sits call =
+    let b = Started.begun number (4 + 2 * l.seats) id l v.state (Begin.begin v.state l call).seat (v, in_hand (carries_value v.state)) (hand_of l.seats v.state v) sits.seated sits.became sits.ready sits.rooted call refl in
+    let same : carries_value (Begin.begin v.state l call).seat ≡ carries_value v.state = (begin_keeps v.state l call).0 in
+    subst (λ (c : Bool). Fit number (4 + 2 * l.seats) id l (Begin.begin v.state l call).seat (v, in_hand c) (hand_if c l.seats v)) (sym same)
+    (record { seated = b.seated; became = b.became; ready = b.ready; rooted = sits.rooted })
+
+below : (m n : ℕ) → m < n → nat_lt m n ≡ true
+below m n e = search (tests, arith, e)
+
+pub try_begun : (x : SeatState) (l : Limits) → x.point ≡ Rest → x.depth ≡ 0 → x.takes < l.budget → (Begin.begin x l Call.TryLock).seat ≡ made_of 0 (x.takes + 1) x.posts TryCountExchange
+try_begun x l rests flat charged =
+    let h = below x.takes l.budget charged in
+    let e : (Begin.begin (made_of 0 x.takes x.posts Rest) l Call.TryLock).seat ≡ made_of 0 (x.takes + 1) x.posts TryCountExchange = rw h refl in
+    ap (λ (y : SeatState). (Begin.begin y l Call.TryLock).seat) (λ i. record { depth = flat i; takes = x.takes; posts = x.posts; point = rests i }) ∙ e
+
+pub unlock_begun : (x : SeatState) (l : Limits) → x.point ≡ Rest → x.depth ≡ 1 → (Begin.begin x l Call.Unlock).seat ≡ made_of 1 x.takes x.posts (ReleaseOwnerStore Unlocker)
+unlock_begun x l rests once = ap (λ (y : SeatState). (Begin.begin y l Call.Unlock).seat) (λ i. record { depth = once i; takes = x.takes; posts = x.posts; point = rests i })
+
+-- What each step requires of its point
+
+-- the access is that of the point, takes no record out of the pop list, and leads to no point with a link
+abbrev pub IsOwnStep : ℕ → ℕ → SeatState → Access → Type 0
+IsOwnStep seats number p a = IsAccessOf seats number p a × (drops_oldest p ≡ false) × LeadsToNoLink number p
+
+unlinked_if : (b : Bool) (p q : Point) → has_link_at p ≡ false → has_link_at q ≡ false → has_link_at (if b then p else q) ≡ false
+unlinked_if true p q e f = e
+unlinked_if false p q e f = f
+
+pub exchanges : (seats number t ps : ℕ) → IsOwnStep seats number (made_of 0 t ps TryCountExchange) (Access.CompareExchange 0 0 1)
+exchanges seats number t ps =
+    ((Kind.CountExchange, refl, refl, omega arith, (λ n. refl), refl), refl, λ n o. unlinked_if (nat_eq n 0) (EnterOwnerStore Entrant.Trier How.Free) TryOwnerLoad refl refl)
+
+pub enters : (seats number t ps : ℕ) → IsOwnStep seats number (made_of 0 t ps (EnterOwnerStore Entrant.Trier How.Free)) (Access.Store 1 number)
+enters seats number t ps = ((Kind.OwnerStore, refl, refl, omega arith, (λ n. refl), refl), refl, λ n o. refl)
+
+pub gives_up : (seats number t ps : ℕ) → IsOwnStep seats number (made_of 1 t ps (ReleaseOwnerStore Unlocker)) (Access.Store 1 0)
+gives_up seats number t ps = ((Kind.OwnerStore, refl, refl, omega arith, (λ n. refl), refl), refl, λ n o. refl)
+
+unlinked_take : (s : ℕ) (o : Option Record) → has_link_at (take (Carrier.Releaser Unlocker) s o) ≡ false
+unlinked_take s None = refl
+unlinked_take s (Some r) = refl
+
+subtract_by : (b : Bool) (t ps s : ℕ) (o : Option Record)
+    → has_link_at (if b then Begin.ends (made_of 0 t ps (ReleaseCountSubtract Unlocker)) (Answer.Unlocked Unlocked.Free) else Begin.goes_on (made_of 0 t ps (ReleaseCountSubtract Unlocker)) (take (Carrier.Releaser Unlocker) s o)).seat.point ≡ false
+subtract_by true t ps s o = refl
+subtract_by false t ps s o = unlinked_take s o
+
+pub subtracts : (seats number t ps : ℕ) → IsOwnStep seats number (made_of 0 t ps (ReleaseCountSubtract Unlocker)) (Access.FetchSub 0 1)
+subtracts seats number t ps = ((Kind.CountSubtract, refl, refl, omega arith, (λ n. refl), refl), refl, λ n o. subtract_by (nat_eq n 1) t ps number o)
+
+-- Where each step leads
+
+pub exchanged_free : (t ps s n : ℕ) (o : Option Record) → n ≡ 0 → (stepped_by (made_of 0 t ps TryCountExchange) s n o).seat ≡ made_of 0 t ps (EnterOwnerStore Entrant.Trier How.Free)
+exchanged_free t ps s n o e = rw e refl
+
+pub exchanged_taken : (t ps s n : ℕ) (o : Option Record) → n ≢ 0 → (stepped_by (made_of 0 t ps TryCountExchange) s n o).seat ≡ made_of 0 t ps TryOwnerLoad
+exchanged_taken t ps s n o e = let h = ne_eqb n 0 e in rw h refl
+
+pub subtracted_last : (t ps s n : ℕ) (o : Option Record) → n ≡ 1 → (stepped_by (made_of 0 t ps (ReleaseCountSubtract Unlocker)) s n o).seat ≡ made_of 0 t ps Rest
+subtracted_last t ps s n o e = rw e refl
+
+-- The run
+
+pub goes_on : (number id : ℕ) (l : Limits) (p x : SeatState) (v w : View ⊤) (n : ℕ) → Sits number id l p v → Sits number id l x w → Stepped number p v n w → RunGoesOn v w
+goes_on number id l p x v w n before after did =
+    run_by (after.seated.named ∙ sym before.seated.named) (after.seated.limits_are ∙ sym before.seated.limits_are) (step_last number v.number v.state p (sym before.seated.named)) did.run
+
+-- Two steps of one call
+
+module _ (number id m : ℕ) (l : Limits) (me me1 me2 : Me ℕ PoolView) (here : m < length me.0.parts) where
+  abbrev v : View ⊤
+  v = part me.0 m
+
+  -- the part after the first step
+  pub part_now : (w : View ⊤) → me1 ≡ (with_part me.0 m w, me.1) → part me1.0 m ≡ w
+  part_now w e = ap (λ (z : Me ℕ PoolView). part z.0 m) e ∙ part_same me.0 m w here
+
+  pub length_now : (w : View ⊤) → me1 ≡ (with_part me.0 m w, me.1) → length me1.0.parts ≡ length me.0.parts
+  length_now w e = ap (λ (z : Me ℕ PoolView). length z.0.parts) e ∙ length_with me.0 m w
+
+  pub elsewhere_now : (w : View ⊤) → me1 ≡ (with_part me.0 m w, me.1) → RestsElsewhere me.0 m → RestsElsewhere me1.0 m
+  elsewhere_now w e rest = subst (λ (z : Me ℕ PoolView). RestsElsewhere z.0 m) (sym e) (elsewhere_with me.0 m w rest)
+
+  pub both : (w x : View ⊤) → me1 ≡ (with_part me.0 m w, me.1) → me2 ≡ (with_part me1.0 m x, me1.1) → me2 ≡ (with_part me.0 m x, me.1)
+  both w x e f = f ∙ ap (λ (z : Me ℕ PoolView). (with_part z.0 m x, z.1)) e ∙ (λ i. (twice_with me.0 m w x i, me.1))
+
+  -- try_lock of a free mutex
+  pub entered : (n k : ℕ) → n ≡ 0 → k ≡ number → (may : MayTry number id l (part me.0 m)) → StepsIn number id m l (Begin.begin (part me.0 m).state l Call.TryLock).seat me n me1 → StepsIn number id m l (part me1.0 m).state me1 k me2
+      → KnowsMoreOf m (λ w. Enters number (part me.0 m) w × HoldsOnce number id l w) me me2
+  entered n k free told may first second =
+      let x = (part me.0 m).state in
+      let t : ℕ = x.takes + 1 in
+      let now = part_now first.0 first.1 in
+      let p0 = try_begun x l may.rests may.flat may.charged in
+      let p1 : first.0.state ≡ made_of 0 (x.takes + 1) x.posts (EnterOwnerStore Entrant.Trier How.Free) =
+      first.3.state ∙ ap (λ (y : SeatState). (stepped_by y number n first.3.oldest).seat) p0 ∙ exchanged_free (x.takes + 1) x.posts number n first.3.oldest free
+      in
+      let p1' : (part me1.0 m).state ≡ made_of 0 (x.takes + 1) x.posts (EnterOwnerStore Entrant.Trier How.Free) = ap (λ (y : View ⊤). y.state) now ∙ p1 in
+      let p2 : second.0.state ≡ made_of 1 (x.takes + 1) x.posts Rest = second.3.state ∙ ap (λ (y : SeatState). (stepped_by y number k second.3.oldest).seat) p1' in
+      let trail1 : first.0.trail ≡ (part me.0 m).trail ++ seen TryCountExchange 0 ∷ [] = first.3.trail ∙ ap (λ (y : Point × ℕ). (part me.0 m).trail ++ seen y.0 y.1 ∷ []) (λ i. (ap (λ (z : SeatState). z.point) p0 i, free i)) in
+      let trail2 : second.0.trail ≡ first.0.trail ++ seen (EnterOwnerStore Entrant.Trier How.Free) k ∷ [] =
+      second.3.trail ∙ ap (λ (y : View ⊤ × Point). y.0.trail ++ seen y.1 k ∷ []) (λ i. (now i, ap (λ (z : SeatState). z.point) p1' i))
+      in (
+        second.0,
+        both first.0 second.0 first.1 second.1,
+        (
+          record {
+            trail = subst (λ (i : ℕ). second.0.trail ≡ (part me.0 m).trail ++ (seen TryCountExchange 0 ∷ seen (EnterOwnerStore Entrant.Trier How.Free) i ∷ [])) told (trail2 ∙ ap (λ ts. ts ++ seen (EnterOwnerStore Entrant.Trier How.Free) k ∷ []) trail1 ∙ append_assoc (part me.0 m).trail (seen TryCountExchange 0 ∷ []) (seen (EnterOwnerStore Entrant.Trier How.Free) k ∷ []));
+            takes = ap (λ (z : SeatState). z.takes) p2;
+            run = run_next (goes_on number id l (Begin.begin x l Call.TryLock).seat first.0.state (part me.0 m) first.0 n (sits_begun number id l (part me.0 m) may.sits Call.TryLock) first.2 first.3)
+                (subst (λ (y : View ⊤). RunGoesOn y second.0) now (goes_on number id l (part me1.0 m).state second.0.state (part me1.0 m) second.0 k (subst (λ (y : View ⊤). Sits number id l y.state y) (sym now) first.2) second.2 second.3));
+          },
+          record {
+            sits = second.2;
+            rests = ap (λ (z : SeatState). z.point) p2;
+            once = ap (λ (z : SeatState). z.depth) p2;
+          },
+        ),
+      )
+
+  pub found_taken : (n : ℕ) → n ≢ 0 → (may : MayTry number id l (part me.0 m)) → StepsIn number id m l (Begin.begin (part me.0 m).state l Call.TryLock).seat me n me1
+      → KnowsMoreOf m (λ w. Sits number id l w.state w × (w.state.point ≡ TryOwnerLoad)) me me1
+  found_taken n taken may first =
+      let x = (part me.0 m).state in
+      let p0 = try_begun x l may.rests may.flat may.charged in
+      let p1 = first.3.state ∙ ap (λ (y : SeatState). (stepped_by y number n first.3.oldest).seat) p0 ∙ exchanged_taken (x.takes + 1) x.posts number n first.3.oldest taken in
+      (first.0, first.1, (first.2, ap (λ (z : SeatState). z.point) p1))
+
+  -- what the second step of each requires of its part
+  pub entering : (seats n : ℕ) → n ≡ 0 → (may : MayTry number id l (part me.0 m)) → StepsIn number id m l (Begin.begin (part me.0 m).state l Call.TryLock).seat me n me1
+      → IsOwnStep seats number (part me1.0 m).state (Access.Store 1 number)
+  entering seats n free may first =
+      let x = (part me.0 m).state in
+      let p0 = try_begun x l may.rests may.flat may.charged in
+      let p1 = ap (λ (y : View ⊤). y.state) (part_now first.0 first.1) ∙ first.3.state ∙ ap (λ (y : SeatState). (stepped_by y number n first.3.oldest).seat) p0 ∙ exchanged_free (x.takes + 1) x.posts number n first.3.oldest free in
+      subst (λ (y : SeatState). IsOwnStep seats number y (Access.Store 1 number)) (sym p1) (enters seats number (x.takes + 1) x.posts)
+
+  pub trying : (seats : ℕ) → MayTry number id l (part me.0 m) → IsOwnStep seats number (Begin.begin (part me.0 m).state l Call.TryLock).seat (Access.CompareExchange 0 0 1)
+  trying seats may =
+      let x = (part me.0 m).state in
+      subst (λ (y : SeatState). IsOwnStep seats number y (Access.CompareExchange 0 0 1)) (sym (try_begun x l may.rests may.flat may.charged)) (exchanges seats number (x.takes + 1) x.posts)
+
+  pub releasing : (seats : ℕ) → HoldsOnce number id l (part me.0 m) → IsOwnStep seats number (Begin.begin (part me.0 m).state l Call.Unlock).seat (Access.Store 1 0)
+  releasing seats holds =
+      let x = (part me.0 m).state in
+      subst (λ (y : SeatState). IsOwnStep seats number y (Access.Store 1 0)) (sym (unlock_begun x l holds.rests holds.once)) (gives_up seats number x.takes x.posts)
+
+  pub released : (n : ℕ) → HoldsOnce number id l (part me.0 m) → StepsIn number id m l (Begin.begin (part me.0 m).state l Call.Unlock).seat me n me1
+      → (part me1.0 m).state ≡ made_of 0 (part me.0 m).state.takes (part me.0 m).state.posts (ReleaseCountSubtract Unlocker)
+  released n holds first =
+      let x = (part me.0 m).state in
+      ap (λ (y : View ⊤). y.state) (part_now first.0 first.1) ∙ first.3.state ∙ ap (λ (y : SeatState). (stepped_by y number n first.3.oldest).seat) (unlock_begun x l holds.rests holds.once)
+
+  pub subtracting : (seats n : ℕ) → HoldsOnce number id l (part me.0 m) → StepsIn number id m l (Begin.begin (part me.0 m).state l Call.Unlock).seat me n me1
+      → IsOwnStep seats number (part me1.0 m).state (Access.FetchSub 0 1)
+  subtracting seats n holds first =
+      subst (λ (y : SeatState). IsOwnStep seats number y (Access.FetchSub 0 1)) (sym (released n holds first)) (subtracts seats number (part me.0 m).state.takes (part me.0 m).state.posts)
+
+  -- unlock that leaves the mutex free
+  pub left_free : (n k : ℕ) → n ≡ 0 → k ≡ 1 → (holds : HoldsOnce number id l (part me.0 m)) → StepsIn number id m l (Begin.begin (part me.0 m).state l Call.Unlock).seat me n me1 → StepsIn number id m l (part me1.0 m).state me1 k me2
+      → KnowsMoreOf m (λ w. Leaves (part me.0 m) w × Sits number id l w.state w) me me2
+  left_free n k told last holds first second =
+      let x = (part me.0 m).state in
+      let now = part_now first.0 first.1 in
+      let p0 = unlock_begun x l holds.rests holds.once in
+      let p1 = released n holds first in
+      let p2 : second.0.state ≡ made_of 0 x.takes x.posts Rest = second.3.state ∙ ap (λ (y : SeatState). (stepped_by y number k second.3.oldest).seat) p1 ∙ subtracted_last x.takes x.posts number k second.3.oldest last in
+      let trail1 : first.0.trail ≡ (part me.0 m).trail ++ seen (ReleaseOwnerStore Unlocker) n ∷ [] = first.3.trail ∙ ap (λ (y : Point). (part me.0 m).trail ++ seen y n ∷ []) (ap (λ (z : SeatState). z.point) p0) in
+      let trail2 : second.0.trail ≡ first.0.trail ++ seen (ReleaseCountSubtract Unlocker) 1 ∷ [] =
+      second.3.trail ∙ ap (λ (y : View ⊤ × Point × ℕ). y.0.trail ++ seen y.1 y.2 ∷ []) (λ i. (now i, ap (λ (z : SeatState). z.point) p1 i, last i))
+      in (
+        second.0,
+        both first.0 second.0 first.1 second.1,
+        (
+          record {
+            trail = subst (λ (i : ℕ). second.0.trail ≡ (part me.0 m).trail ++ (seen (ReleaseOwnerStore Unlocker) i ∷ seen (ReleaseCountSubtract Unlocker) 1 ∷ [])) told (trail2 ∙ ap (λ ts. ts ++ seen (ReleaseCountSubtract Unlocker) 1 ∷ []) trail1 ∙ append_assoc (part me.0 m).trail (seen (ReleaseOwnerStore Unlocker) n ∷ []) (seen (ReleaseCountSubtract Unlocker) 1 ∷ []));
+            rests = ap (λ (z : SeatState). z.point) p2;
+            flat = ap (λ (z : SeatState). z.depth) p2;
+            run = run_next (goes_on number id l (Begin.begin x l Call.Unlock).seat first.0.state (part me.0 m) first.0 n (sits_begun number id l (part me.0 m) holds.sits Call.Unlock) first.2 first.3)
+                (subst (λ (y : View ⊤). RunGoesOn y second.0) now (goes_on number id l (part me1.0 m).state second.0.state (part me1.0 m) second.0 k (subst (λ (y : View ⊤). Sits number id l y.state y) (sym now) first.2) second.2 second.3));
+          },
+          second.2,
+        ),
+      )
+
+  pub went_on : (n k : ℕ) → StepsIn number id m l (Begin.begin (part me.0 m).state l Call.Unlock).seat me n me1 → StepsIn number id m l (part me1.0 m).state me1 k me2
+      → KnowsMoreOf m (λ w. Sits number id l w.state w) me me2
+  went_on n k first second = (second.0, both first.0 second.0 first.1 second.1, second.2)

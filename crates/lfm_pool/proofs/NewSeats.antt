@@ -1,0 +1,122 @@
+-- What the first seat of a pool and the seats that are split off it know while the pool opens, and that each may try every
+-- mutex.
+use Rattle.std.proofs.Common.{◌≡◌, ℕ, zero, suc, true, ◌+◌, ◌*◌, ◌<◌, ◌≤◌, [], ◌∷◌, length, map, replicate, get_or, refl, sym, ap, ◌∙◌, subst, arith, tests}
+use Rattle.std.specs.Prelude.{⊤}
+use Rattle.std.proofs.lemmas.List.{length-replicate}
+use Rattle.lfm_protocol.specs.declared.limits.Limits.{Limits}
+use Rattle.lfm_protocol.specs.declared.seats.SeatState.{SeatState}
+use Rattle.lfm_protocol.specs.Limits.{are_in_limits}
+use Rattle.lfm_protocol.specs.Seats.{absent}
+use Rattle.lfm_table.specs.declared.seat_view.Role.TheVariants.{User}
+use Rattle.lfm_table.specs.declared.seat_view.View.{View}
+use Rattle.atomic_table.specs.Table.{Me}
+use Rattle.lfm_table.specs.Rule.{first_view, no_view, split_view, with_split}
+use Rattle.lfm_table.proofs.tables.FreshSeats.{fresh_became, fresh_ready, fresh_seated}
+use Rattle.lfm_table.proofs.tables.Starts.{limit_facts}
+use Rattle.lfm_pool.specs.declared.pool.Pool.{Pool}
+use Rattle.lfm_pool.specs.declared.pool.PoolSeat.{PoolSeat}
+use Rattle.lfm_pool.specs.declared.view.PoolView.{PoolView}
+use Rattle.lfm_pool.specs.Tables.{part, rests}
+use Rattle.lfm_pool.specs.Rule.{MaySplit, left_view, right_view}
+use Rattle.lfm_pool.specs.Steps.{RestsElsewhere, Sits}
+use Rattle.lfm_pool.specs.FastPaths.{MayTry}
+use Rattle.lfm_pool.specs.Belongs.{IsMutex, IsNew, OfPool}
+
+-- One mutex
+
+-- the view of the first seat after it has split k seats off, and that of the next seat that it splits off
+abbrev pub first_after : Limits → ℕ → View ⊤
+first_after l k = record (first_view l tt) { made = k }
+
+abbrev pub split_after : Limits → ℕ → View ⊤
+split_after l k = split_view (first_after l k)
+
+positive_budget : (seats budget : ℕ) → are_in_limits seats budget ≡ true → 0 < budget
+positive_budget seats budget allowed = search (tests, arith, allowed)
+
+-- a seat that has made no call may try
+new_may_try : (number id : ℕ) (l : Limits) (v : View ⊤) → are_in_limits l.seats l.budget ≡ true → v.role ≡ User → v.number ≡ number → v.limits ≡ l → v.state ≡ absent → 0 < number → number ≤ l.seats
+    → (number ≡ 1 → id ≡ 0) → (number ≡ 1 → v.made + 1 ≡ l.seats) → (number ≡ 1 → length v.joined ≡ 0) → MayTry number id l v
+new_may_try number id l v allowed user named limits_are stands above within first made back =
+    let facts = limit_facts l.seats l.budget allowed in
+    let words : ℕ = 4 + 2 * l.seats in
+    let sits : Sits number id l absent v = record {
+      seated = fresh_seated words id number l absent (v, []) refl user named limits_are refl stands;
+      became = fresh_became words id number l absent (v, []) refl user named limits_are refl stands;
+      ready = fresh_ready words id number l absent (v, []) refl user named limits_are refl stands above within;
+      rooted = record { low = above; high = within; few = facts.1; wide = refl; first = first; made = made; back = back };
+    } in
+    record {
+      sits = subst (λ (x : SeatState). Sits number id l x v) (sym stands) sits;
+      rests = ap (λ x. x.point) stands;
+      flat = ap (λ x. x.depth) stands;
+      charged = (let some = positive_budget l.seats l.budget allowed in let none : v.state.takes ≡ 0 = ap (λ x. x.takes) stands in omega (arith, some, none));
+    }
+
+pub first_may_try : (l : Limits) (k : ℕ) → are_in_limits l.seats l.budget ≡ true → k + 1 ≡ l.seats → MayTry 1 0 l (first_after l k)
+first_may_try l k allowed last =
+    new_may_try 1 0 l (first_after l k) allowed refl refl refl refl (omega arith) (omega (arith, last)) (λ e. refl) (λ e. last) (λ e. refl)
+
+pub split_may_try : (id : ℕ) (l : Limits) (k : ℕ) → are_in_limits l.seats l.budget ≡ true → k + 2 ≤ l.seats → MayTry (k + 2) id l (split_after l k)
+split_may_try id l k allowed most =
+    new_may_try (k + 2) id l (split_after l k) allowed refl refl refl refl (omega arith) most (λ e. absurd (omega (arith, e))) (λ e. absurd (omega (arith, e))) (λ e. absurd (omega (arith, e)))
+
+-- All mutexes
+
+-- what a seat of a pool with this many mutexes knows, if it knows the same of each
+abbrev pub same_of_each : ℕ → View ⊤ → PoolView
+same_of_each mutexes v = record { parts = replicate mutexes v }
+
+map_same : {A B : Type 0} (f : A → B) (n : ℕ) (x : A) → map f (replicate n x) ≡ replicate n (f x)
+map_same f zero x = refl
+map_same f (suc n) x = ap (λ ys. f x ∷ ys) (map_same f n x)
+
+pub left_same : (mutexes : ℕ) (l : Limits) (k : ℕ) → left_view (same_of_each mutexes (first_after l k)) ≡ same_of_each mutexes (first_after l (k + 1))
+left_same mutexes l k = λ i. record { parts = map_same with_split mutexes (first_after l k) i }
+
+pub right_same : (mutexes : ℕ) (l : Limits) (k : ℕ) → right_view (same_of_each mutexes (first_after l k)) ≡ same_of_each mutexes (split_after l k)
+right_same mutexes l k = λ i. record { parts = map_same split_view mutexes (first_after l k) i }
+
+same_at : {A : Type 0} (n i : ℕ) (x d : A) → i < n → get_or (replicate n x) i d ≡ x
+same_at zero i x d less = absurd (omega (arith, less))
+same_at (suc n) zero x d less = refl
+same_at (suc n) (suc i) x d less = same_at n i x d (omega (arith, less))
+
+pub part_same_of_each : (mutexes m : ℕ) (v : View ⊤) → m < mutexes → part (same_of_each mutexes v) m ≡ v
+part_same_of_each mutexes m v less = same_at mutexes m v no_view less
+
+pub same_may_split : (mutexes : ℕ) (l : Limits) (k : ℕ) → 0 < mutexes → k + 2 ≤ l.seats → MaySplit (same_of_each mutexes (first_after l k))
+same_may_split mutexes l k some most =
+    let long : length (replicate mutexes (first_after l k)) ≡ mutexes = length-replicate mutexes (first_after l k) in (
+      omega (arith, long, some),
+      λ m less. rw (part_same_of_each mutexes m (first_after l k) (omega (arith, long, less))) (refl, most),
+    )
+
+pub same_rests : (mutexes m : ℕ) (v : View ⊤) → rests v ≡ true → RestsElsewhere (same_of_each mutexes v) m
+same_rests mutexes m v rest n less other =
+    let long : length (replicate mutexes v) ≡ mutexes = length-replicate mutexes v in
+    rw (part_same_of_each mutexes n v (omega (arith, long, less))) rest
+
+-- a seat that knows the same of each mutex, where it rests, has made no step and may try, is new
+pub is_new : (s : PoolSeat) (p : Pool) (number : ℕ) (l : Limits) (v : View ⊤) → s.place.table_id ≡ p.table.shared.table_id → p.limits ≡ l → s.number ≡ number → s.place.me ≡ (same_of_each p.mutexes v, [])
+    → v.trail ≡ [] → rests v ≡ true → MayTry number s.place.id l v → OfPool s p × IsNew number p s
+is_new s p number l v table limits_are named me none rest may =
+    let seen : (m : ℕ) → IsMutex m p → part s.place.me.0 m ≡ v = λ m less. ap (λ (z : Me ℕ PoolView). part z.0 m) me ∙ part_same_of_each p.mutexes m v less in (
+      record { table = table; parts = ap (λ (z : Me ℕ PoolView). length z.0.parts) me ∙ length-replicate p.mutexes v },
+      record {
+        number_is = named;
+        may_try = λ m less. subst (λ (z : ℕ × Limits × View ⊤). MayTry z.0 s.place.id z.1 z.2) (λ i. (sym named i, sym limits_are i, sym (seen m less) i)) may;
+        no_step = λ m less. ap (λ (w : View ⊤). w.trail) (seen m less) ∙ none;
+        elsewhere = λ m. subst (λ (z : Me ℕ PoolView). RestsElsewhere z.0 m) (sym me) (same_rests p.mutexes m v rest);
+      },
+    )
+
+pub first_is_new : (s : PoolSeat) (p : Pool) (l : Limits) (k : ℕ) → are_in_limits l.seats l.budget ≡ true → k + 1 ≡ l.seats → s.place.table_id ≡ p.table.shared.table_id → s.place.id ≡ 0 → p.limits ≡ l
+    → s.number ≡ 1 → s.place.me ≡ (same_of_each p.mutexes (first_after l k), []) → OfPool s p × IsNew 1 p s
+first_is_new s p l k allowed last table id limits_are named me =
+    is_new s p 1 l (first_after l k) table limits_are named me refl refl (subst (λ (i : ℕ). MayTry 1 i l (first_after l k)) (sym id) (first_may_try l k allowed last))
+
+pub split_is_new : (s : PoolSeat) (p : Pool) (l : Limits) (k : ℕ) → are_in_limits l.seats l.budget ≡ true → k + 2 ≤ l.seats → s.place.table_id ≡ p.table.shared.table_id → p.limits ≡ l
+    → s.number ≡ k + 2 → s.place.me ≡ (same_of_each p.mutexes (split_after l k), []) → OfPool s p × IsNew (k + 2) p s
+split_is_new s p l k allowed most table limits_are named me =
+    is_new s p (k + 2) l (split_after l k) table limits_are named me refl refl (split_may_try s.place.id l k allowed most)

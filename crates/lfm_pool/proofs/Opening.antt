@@ -1,0 +1,63 @@
+-- A pool of free mutexes keeps the rule: each table of a mutex is as it is when it opens.
+use Rattle.std.proofs.Common.{◌≡◌, ℕ, zero, suc, ◌+◌, ◌*◌, ◌<◌, List, [], ◌∷◌, length, replicate, get_or, refl, sym, ap, ◌∙◌, Some}
+use Rattle.std.specs.Prelude.{⊤, true, slice_index}
+use Rattle.std.proofs.lemmas.Bool.{false≢true}
+use Rattle.std.proofs.lemmas.List.{length-replicate}
+use mathlib.Core.Option.{some, some-injective, some-ne-none}
+use lib.ListN.{get_elem?}
+use Rattle.atomic_table.specs.Table.{opening}
+use Rattle.lfm_protocol.specs.declared.limits.Limits.{Limits}
+use Rattle.lfm_protocol.specs.Limits.{are_in_limits}
+use Rattle.lfm_table.specs.declared.rule.Moving.{Moving}
+use Rattle.lfm_table.specs.Rule.{first_view}
+use Rattle.lfm_table.proofs.tables.Starts.{starts}
+use Rattle.lfm_pool.proofs.NewSeats.{part_same_of_each}
+use Rattle.lfm_pool.specs.declared.view.PoolView.{PoolView}
+use Rattle.lfm_pool.specs.Tables.{any_follows, any_fits, MutexTable, IsKept, part, rests, has_link}
+use Rattle.lfm_pool.specs.Rule.{own_at, wake_at, HeldPool, first_pool_view}
+
+zero_at : (n i : ℕ) → ◌≡◌ {A = ℕ} (get_or (replicate n 0) i 0) 0
+zero_at zero i = refl
+zero_at (suc n) zero = refl
+zero_at (suc n) (suc i) = zero_at n i
+
+one_at : (v z : PoolView) (j : ℕ) → get_elem? (v ∷ []) j ≡ some z → (j ≡ 0) × (v ≡ z)
+one_at v z zero e = (refl, some-injective v z e)
+one_at v z (suc j) e = absurd (some-ne-none z (sym e))
+
+module _ (mutexes : ℕ) (l : Limits) (allowed : are_in_limits l.seats l.budget ≡ true) where
+  abbrev moving : Moving ⊤
+  moving = record { popped = record { records = []; room = l.seats }; value = tt }
+
+  abbrev table : MutexTable
+  table = opening (replicate (4 + 2 * l.seats) 0) (Some moving ∷ []) (first_view l tt)
+
+  table_opens : IsKept table
+  table_opens = starts any_follows any_fits l (replicate (4 + 2 * l.seats) 0) moving allowed refl refl refl tt
+
+  part_is : (m : ℕ) → m < mutexes → part (first_pool_view mutexes l) m ≡ first_view l tt
+  part_is m less = part_same_of_each mutexes m (first_view l tt) less
+
+  part_at : (j m : ℕ) (z : PoolView) → m < mutexes → get_elem? (first_pool_view mutexes l ∷ []) j ≡ some z → part z m ≡ first_view l tt
+  part_at j m z less e = ap (λ (y : PoolView). part y m) (sym (one_at (first_pool_view mutexes l) z j e).1) ∙ part_is m less
+
+  pub pool_opens : (ws : List ℕ) → ◌≡◌ {A = List ℕ} ws (replicate (mutexes * 8 + l.seats * 2) 0) → HeldPool (opening ws [] (first_pool_view mutexes l))
+  pool_opens ws are =
+      let zero_word : (i : ℕ) → slice_index ws i ≡ 0 = λ i. ap (λ w. get_or w i 0) are ∙ zero_at (mutexes * 8 + l.seats * 2) i in
+      record {
+        mutexes = mutexes;
+        seats = l.seats;
+        tables = λ m. table;
+        kept = λ m less. table_opens;
+        sized = λ m less. length-replicate (4 + 2 * l.seats) 0;
+        long = ap (λ w. length w) are ∙ length-replicate (mutexes * 8 + l.seats * 2) 0;
+        wide = λ j z e. ap (λ (y : PoolView). length y.parts) (sym (one_at (first_pool_view mutexes l) z j e).1) ∙ length-replicate mutexes (first_view l tt);
+        counted = λ m less. refl;
+        parts = λ m j z less e. rw ((one_at (first_pool_view mutexes l) z j e).0, part_at j m z less e) refl;
+        own = λ m i less few. zero_word (own_at m i) ∙ sym (zero_at (4 + 2 * l.seats) i);
+        elsewhere = λ m n j z less less' differ e busy. absurd (false≢true (sym busy ∙ ap rests (part_at j m z less e)));
+        linked = λ m j z less e has. absurd (false≢true (sym (ap has_link (part_at j m z less e)) ∙ has));
+        wakes = λ m j z less e busy. absurd (false≢true (sym busy ∙ ap rests (part_at j m z less e)));
+        quiet = λ j z e all. zero_word (wake_at mutexes j);
+        fresh = λ j far less. zero_word (wake_at mutexes j);
+      }

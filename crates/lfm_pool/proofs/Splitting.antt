@@ -1,0 +1,147 @@
+-- A seat that is split off the first one keeps the rule: it is split off at each table of a mutex.
+use Rattle.std.proofs.Common.{◌≡◌, ◌≢◌, ◌⊎◌, ℕ, zero, suc, ◌+◌, ◌<◌, List, [], ◌∷◌, ◌++◌, length, set, refl, sym, ap, ◌∙◌, subst, ⊎_elim, inl, inr, arith, length-set}
+use Rattle.std.specs.Prelude.{⊤, true, slice_index}
+use Rattle.std.proofs.lemmas.Bool.{false≢true}
+use Rattle.std.proofs.lemmas.List.{get_or-map, length-map, length-append}
+use mathlib.Core.Option.{some, some-ne-none}
+use lib.ListN.{get_elem?}
+use Rattle.atomic_table.specs.Table.{State, Splits}
+use Rattle.atomic_table.proofs.Lists.{at_set, set_here, set_else}
+use Rattle.lfm_table.specs.declared.seat_view.View.{View}
+use Rattle.lfm_table.specs.Rule.{no_view, split_view, with_split}
+use Rattle.lfm_table.proofs.tables.RuleKept.{length_at}
+use Rattle.lfm_table.proofs.tables.OneView.{at_end}
+use Rattle.lfm_table.proofs.tables.SplitsAndJoins.{splits}
+use Rattle.lfm_pool.specs.declared.view.PoolView.{PoolView}
+use Rattle.lfm_pool.proofs.Steps.{seats_of}
+use Rattle.lfm_pool.specs.Tables.{any_follows, any_fits, MutexTable, IsKept, part, rests, has_link}
+use Rattle.lfm_pool.specs.Rule.{wake_at, HeldPool, left_view, right_view, MaySplit}
+
+-- Lists with one more element
+
+end_here : {A : Type 0} (xs : List A) (y : A) → get_elem? (xs ++ y ∷ []) (length xs) ≡ some y
+end_here [] y = refl
+end_here (x ∷ xs) y = end_here xs y
+
+end_before : {A : Type 0} (xs : List A) (y z : A) (j : ℕ) → get_elem? xs j ≡ some z → get_elem? (xs ++ y ∷ []) j ≡ some z
+end_before [] y z j e = absurd (some-ne-none z (sym e))
+end_before (x ∷ xs) y z zero e = e
+end_before (x ∷ xs) y z (suc j) e = end_before xs y z j e
+
+-- Parts
+
+left_part : (v : PoolView) (m : ℕ) → m < length v.parts → part (left_view v) m ≡ with_split (part v m)
+left_part v m less = get_or-map with_split v.parts m no_view no_view less
+
+right_part : (v : PoolView) (m : ℕ) → m < length v.parts → part (right_view v) m ≡ split_view (part v m)
+right_part v m less = get_or-map split_view v.parts m no_view no_view less
+
+module _ (v : PoolView) (may : MaySplit v) (s : State ℕ PoolView) (h : HeldPool s) (at : get_elem? s.views 0 ≡ some v) where
+  within : (m : ℕ) → m < h.mutexes → m < length v.parts
+  within m less = let w = h.wide 0 v at in omega (arith, w, less)
+
+  abbrev views : List PoolView
+  views = set s.views 0 (left_view v)
+
+  abbrev table_views : ℕ → List (View ⊤)
+  table_views m = set (h.tables m).views 0 (with_split (part v m))
+
+  abbrev after : ℕ → MutexTable
+  after m = record { words = (h.tables m).words; homes = (h.tables m).homes; views = set (h.tables m).views 0 (with_split (part v m)) ++ split_view (part v m) ∷ [] }
+
+  kept_after : (m : ℕ) → m < h.mutexes → IsKept (after m)
+  kept_after m less = splits any_follows any_fits (part v m) (may.1 m (within m less)).0 (may.1 m (within m less)).1 (h.tables m) (h.kept m less) (h.parts m 0 v less at)
+
+  lengths : (m : ℕ) → m < h.mutexes → length (table_views m) ≡ length views
+  lengths m less = length-set (h.tables m).views 0 (with_split (part v m)) ∙ h.counted m less ∙ sym (length-set s.views 0 (left_view v))
+
+  -- a seat after it: the first, another, or the new one
+  abbrev Of : ℕ → PoolView → Type 0
+  Of j z = ((j ≡ 0) × (left_view v ≡ z)) ⊎ (((j ≢ 0) × (get_elem? s.views j ≡ some z)) ⊎ ((j ≡ length views) × (right_view v ≡ z)))
+
+  which : (j : ℕ) (z : PoolView) → get_elem? (views ++ right_view v ∷ []) j ≡ some z → Of j z
+  which j z e = ⊎_elim
+      (λ (t : get_elem? (set s.views 0 (left_view v)) j ≡ some z). ⊎_elim (λ (u : (j ≡ 0) × (left_view v ≡ z)). inl u) (λ (u : (j ≢ 0) × (get_elem? s.views j ≡ some z)). inr (inl u)) (at_set s.views 0 j (left_view v) z t))
+      (λ (t : (j ≡ length (set s.views 0 (left_view v))) × (right_view v ≡ z)). inr (inr t))
+      (at_end (set s.views 0 (left_view v)) (right_view v) z j e)
+
+  -- its parts rest, have a link and wait as before; the new seat rests everywhere
+  left_is : (m : ℕ) (z : PoolView) → m < h.mutexes → left_view v ≡ z → part z m ≡ with_split (part v m)
+  left_is m z less e = ap (λ (y : PoolView). part y m) (sym e) ∙ left_part v m (within m less)
+
+  right_is : (m : ℕ) (z : PoolView) → m < h.mutexes → right_view v ≡ z → part z m ≡ split_view (part v m)
+  right_is m z less e = ap (λ (y : PoolView). part y m) (sym e) ∙ right_part v m (within m less)
+
+  left_rests : (m : ℕ) (z : PoolView) → m < h.mutexes → left_view v ≡ z → rests (part z m) ≡ rests (part v m)
+  left_rests m z less e = ap rests (left_is m z less e)
+
+  right_rests : (m : ℕ) (z : PoolView) → m < h.mutexes → right_view v ≡ z → rests (part z m) ≡ true
+  right_rests m z less e = ap rests (right_is m z less e)
+
+  parts_after : (m j : ℕ) (z : PoolView) → m < h.mutexes → get_elem? (views ++ right_view v ∷ []) j ≡ some z → get_elem? (table_views m ++ split_view (part v m) ∷ []) j ≡ some (part z m)
+  parts_after m j z less e = ⊎_elim
+      (λ (t : (j ≡ 0) × (left_view v ≡ z)). rw (t.0, left_is m z less t.1)
+      (end_before (table_views m) (split_view (part v m)) (with_split (part v m)) 0 (set_here (h.tables m).views 0 (with_split (part v m)) (length_at (h.tables m).views 0 (part v m) (h.parts m 0 v less at)))))
+      (λ t. ⊎_elim
+      (λ (u : (j ≢ 0) × (get_elem? s.views j ≡ some z)). end_before (table_views m) (split_view (part v m)) (part z m) j (set_else (h.tables m).views 0 j (with_split (part v m)) u.0 ∙ h.parts m j z less u.1))
+      (λ (u : (j ≡ length views) × (right_view v ≡ z)). rw (right_is m z less u.1)
+      (subst (λ (i : ℕ). get_elem? (table_views m ++ split_view (part v m) ∷ []) i ≡ some (split_view (part v m))) (lengths m less ∙ sym u.0) (end_here (table_views m) (split_view (part v m))))) t)
+      (which j z e)
+
+  held_after : HeldPool (record { words = s.words; homes = s.homes; views = views ++ right_view v ∷ [] })
+  held_after = record {
+    mutexes = h.mutexes;
+    seats = h.seats;
+    tables = after;
+    kept = kept_after;
+    sized = h.sized;
+    long = h.long;
+    wide = λ j z e. ⊎_elim
+        (λ (t : (j ≡ 0) × (left_view v ≡ z)). ap (λ (y : PoolView). length y.parts) (sym t.1) ∙ length-map v.parts with_split ∙ h.wide 0 v at)
+        (λ t. ⊎_elim (λ (u : (j ≢ 0) × (get_elem? s.views j ≡ some z)). h.wide j z u.1)
+        (λ (u : (j ≡ length views) × (right_view v ≡ z)). ap (λ (y : PoolView). length y.parts) (sym u.1) ∙ length-map v.parts split_view ∙ h.wide 0 v at) t)
+        (which j z e);
+    counted = λ m less. length-append (table_views m) (split_view (part v m) ∷ []) ∙ ap (λ (n : ℕ). n + 1) (lengths m less) ∙ sym (length-append views (right_view v ∷ []));
+    parts = parts_after;
+    own = h.own;
+    elsewhere = λ m n j z less less' differ e busy. ⊎_elim
+        (λ (t : (j ≡ 0) × (left_view v ≡ z)). left_rests n z less' t.1 ∙ h.elsewhere m n 0 v less less' differ at (sym (left_rests m z less t.1) ∙ busy))
+        (λ t. ⊎_elim (λ (u : (j ≢ 0) × (get_elem? s.views j ≡ some z)). h.elsewhere m n j z less less' differ u.1 busy)
+        (λ (u : (j ≡ length views) × (right_view v ≡ z)). right_rests n z less' u.1) t)
+        (which j z e);
+    linked = λ m j z less e has. ⊎_elim
+        (λ (t : (j ≡ 0) × (left_view v ≡ z)). rw t.0 (h.linked m 0 v less at (sym (ap has_link (left_is m z less t.1)) ∙ has)))
+        (λ t. ⊎_elim (λ (u : (j ≢ 0) × (get_elem? s.views j ≡ some z)). h.linked m j z less u.1 has)
+        (λ (u : (j ≡ length views) × (right_view v ≡ z)). absurd (false≢true (sym (ap has_link (right_is m z less u.1)) ∙ has))) t)
+        (which j z e);
+    wakes = λ m j z less e busy. ⊎_elim
+        (λ (t : (j ≡ 0) × (left_view v ≡ z)). rw t.0 (h.wakes m 0 v less at (sym (left_rests m z less t.1) ∙ busy)))
+        (λ t. ⊎_elim (λ (u : (j ≢ 0) × (get_elem? s.views j ≡ some z)). h.wakes m j z less u.1 busy)
+        (λ (u : (j ≡ length views) × (right_view v ≡ z)). absurd (false≢true (sym busy ∙ right_rests m z less u.1))) t)
+        (which j z e);
+    quiet = λ j z e all. ⊎_elim
+        (λ (t : (j ≡ 0) × (left_view v ≡ z)). rw t.0 (h.quiet 0 v at (λ m less. sym (left_rests m z less t.1) ∙ all m less)))
+        (λ t. ⊎_elim (λ (u : (j ≢ 0) × (get_elem? s.views j ≡ some z)). h.quiet j z u.1 all)
+        (λ (u : (j ≡ length views) × (right_view v ≡ z)). quiet_new j u.0) t)
+        (which j z e);
+    fresh = λ j far less. h.fresh j (let l = length-set s.views 0 (left_view v) in let k = length-append views (right_view v ∷ []) in omega (arith, l, k, far)) less;
+  } where
+    -- there is room for one more seat, as the first table of a mutex tells
+    room : (j : ℕ) → j ≡ length views → j < h.seats
+    room j e =
+        let some : 0 < h.mutexes = (let w = h.wide 0 v at in let m = may.0 in omega (arith, w, m)) in
+        let here = h.parts 0 0 v some at in
+        let made = ((h.kept 0 some).root (part v 0) here).made in
+        let sits = ap (λ l. l.seats) ((h.kept 0 some).each 0 (part v 0) here).limits_are in
+        let words = seats_of (h.tables 0) (h.kept 0 some) in
+        let most = (may.1 0 may.0).1 in
+        let counted = h.counted 0 some in
+        let sized = h.sized 0 some in
+        let l = length-set s.views 0 (left_view v) in
+        omega (arith, e, l, made, counted, sits, words, sized, most)
+
+    quiet_new : (j : ℕ) → j ≡ length views → slice_index s.words (wake_at h.mutexes j) ≡ 0
+    quiet_new j e = h.fresh j (let l = length-set s.views 0 (left_view v) in omega (arith, l, e)) (room j e)
+
+pub pool_splits : (v : PoolView) → MaySplit v → Splits HeldPool 0 v (left_view v) (right_view v)
+pool_splits v may s h at = held_after v may s h at

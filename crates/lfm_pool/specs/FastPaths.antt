@@ -1,0 +1,46 @@
+-- What the fast paths of the calls need of a seat in one mutex, and what they leave.
+use Rattle.std.specs.Prelude.{◌≡◌, ⊤, ℕ, ◌++◌, ◌+◌, ◌<◌, [], ◌∷◌}
+use Rattle.atomic_table.specs.Table.{Me}
+use Rattle.lfm_model.specs.declared.answers.How.{How}
+use Rattle.lfm_protocol.specs.declared.points.Entrant.{Entrant}
+use Rattle.lfm_protocol.specs.declared.limits.Limits.{Limits}
+use Rattle.lfm_protocol.specs.declared.points.Releaser.TheVariants.{Unlocker}
+use Rattle.lfm_protocol.specs.declared.points.Point.TheVariants.{Rest, TryCountExchange, ReleaseOwnerStore, ReleaseCountSubtract, EnterOwnerStore}
+use Rattle.lfm_table.specs.declared.seat_view.View.{View}
+use Rattle.lfm_table.specs.Actions.{RunGoesOn, seen}
+use Rattle.lfm_pool.specs.declared.view.PoolView.{PoolView}
+use Rattle.lfm_pool.specs.Tables.{with_part}
+use Rattle.lfm_pool.specs.Steps.{Sits}
+
+-- a seat at rest in mutex m that may start a try_lock there
+pub record MayTry (number id : ℕ) (l : Limits) (v : View ⊤) : Type 0 where
+  pub sits : Sits number id l v.state v
+  pub rests : v.state.point ≡ Rest
+  pub flat : v.state.depth ≡ 0
+  pub charged : v.state.takes < l.budget
+
+-- a seat at rest in mutex m that holds it once
+pub record HoldsOnce (number id : ℕ) (l : Limits) (v : View ⊤) : Type 0 where
+  pub sits : Sits number id l v.state v
+  pub rests : v.state.point ≡ Rest
+  pub once : v.state.depth ≡ 1
+
+-- the seat with this number has acquired a free mutex by a try_lock: the exchange found the count at 0, and then it stored its
+-- number as the owner
+pub record Enters (number : ℕ) (v w : View ⊤) : Type 0 where
+  pub trail : w.trail
+      ≡ v.trail ++ (seen TryCountExchange 0 ∷ seen (EnterOwnerStore Entrant.Trier How.Free) number ∷ [])
+  pub takes : w.state.takes ≡ v.state.takes + 1
+  pub run : RunGoesOn v w
+
+-- the seat has released the mutex, which was left free: it stored no owner, and then the subtraction found the count at 1
+pub record Leaves (v w : View ⊤) : Type 0 where
+  pub trail : w.trail
+      ≡ v.trail ++ (seen (ReleaseOwnerStore Unlocker) 0 ∷ seen (ReleaseCountSubtract Unlocker) 1 ∷ [])
+  pub rests : w.state.point ≡ Rest
+  pub flat : w.state.depth ≡ 0
+  pub run : RunGoesOn v w
+
+-- what the seat knows of mutex m has changed, to a view of which this holds, and nothing that it knows of other mutexes
+abbrev pub KnowsMoreOf : ℕ → (View ⊤ → Type 0) → Me ℕ PoolView → Me ℕ PoolView → Type 0
+KnowsMoreOf m says me me' = (w : View ⊤) × (me' ≡ (with_part me.0 m w, me.1)) × says w

@@ -1,0 +1,7 @@
+-- What contracts say of a pool.
+pub mod Belongs
+pub mod FastPaths
+pub mod Rule
+pub mod Seats
+pub mod Steps
+pub mod Tables

@@ -1,0 +1,39 @@
+-- What the contracts of calls say of a seat in one mutex of its pool.
+use Rattle.std.specs.Prelude.{◌≡◌, ℕ}
+use Rattle.lfm_protocol.specs.declared.points.Point.TheVariants.{TryOwnerLoad}
+use Rattle.lfm_pool.specs.declared.pool.Pool.{Pool}
+use Rattle.lfm_pool.specs.declared.pool.PoolSeat.{PoolSeat}
+use Rattle.lfm_pool.specs.FastPaths.{Enters, HoldsOnce, KnowsMoreOf, Leaves, MayTry}
+use Rattle.lfm_pool.specs.Steps.{RestsElsewhere, Sits}
+use Rattle.lfm_pool.specs.Tables.{part}
+
+-- the seat rests in every mutex but m, and may rest in m too
+abbrev pub RestsInOthers : PoolSeat → ℕ → Type 0
+RestsInOthers s m = RestsElsewhere s.place.me.0 m
+
+-- the seat rests in mutex m without a hold, and has a take left there
+abbrev pub MayTryIn : PoolSeat → Pool → ℕ → Type 0
+MayTryIn s p m = MayTry s.number s.place.id p.limits (part s.place.me.0 m)
+
+-- the seat rests in mutex m and holds it once
+abbrev pub HoldsOnceIn : PoolSeat → Pool → ℕ → Type 0
+HoldsOnceIn s p m = HoldsOnce s.number s.place.id p.limits (part s.place.me.0 m)
+
+-- from s to t the seat has acquired mutex m, which was free, by the two steps of a try_lock
+abbrev pub EntersIn : PoolSeat → PoolSeat → Pool → ℕ → Type 0
+EntersIn s t p m =
+    KnowsMoreOf m (λ w. Enters s.number (part s.place.me.0 m) w × HoldsOnce s.number s.place.id p.limits w) s.place.me t.place.me
+
+-- from s to t the seat has begun a try_lock of mutex m, whose next step would load the owner
+abbrev pub FindsTakenIn : PoolSeat → PoolSeat → Pool → ℕ → Type 0
+FindsTakenIn s t p m =
+    KnowsMoreOf m (λ w. Sits s.number s.place.id p.limits w.state w × (w.state.point ≡ TryOwnerLoad)) s.place.me t.place.me
+
+-- from s to t the seat has released mutex m, which is free then, by the two steps of an unlock
+abbrev pub LeavesIn : PoolSeat → PoolSeat → Pool → ℕ → Type 0
+LeavesIn s t p m =
+    KnowsMoreOf m (λ w. Leaves (part s.place.me.0 m) w × Sits s.number s.place.id p.limits w.state w) s.place.me t.place.me
+
+-- from s to t the seat has made steps in mutex m alone, and fits its next one
+abbrev pub GoesOnIn : PoolSeat → PoolSeat → Pool → ℕ → Type 0
+GoesOnIn s t p m = KnowsMoreOf m (λ w. Sits s.number s.place.id p.limits w.state w) s.place.me t.place.me

@@ -1,0 +1,95 @@
+-- What a step of a seat in one mutex of a pool needs, and what it tells.
+use Rattle.std.specs.Prelude.{◌≡◌, ◌≢◌, ⊤, ℕ, Some, None, ◌++◌, ◌+◌, ◌*◌, ◌<◌, Bool, true, false, List, [], ◌∷◌, length, Option}
+use Rattle.atomic_table.specs.Table.{Me}
+use Rattle.lfm_protocol.specs.declared.kinds.Kind.{Kind}
+use Rattle.lfm_protocol.specs.declared.answers.Call.{Call}
+use Rattle.lfm_protocol.specs.declared.limits.Limits.{Limits}
+use Rattle.lfm_protocol.specs.Begin as Begin
+use Rattle.lfm_protocol.specs.declared.seats.SeatState.{SeatState}
+use Rattle.lfm_protocol.specs.Points.{kind, target}
+use Rattle.lfm_words.specs.declared.pop_lists.Record.{Record}
+use Rattle.lfm_laws.specs.table.Carried.{carries_value}
+use Rattle.lfm_laws.specs.table.Words.{index_by, written_by, stepped_by}
+use Rattle.lfm_table.specs.declared.operations.Access.{Access}
+use Rattle.lfm_table.specs.Accesses.{word_at, becomes, is_store}
+use Rattle.lfm_table.specs.Steps.{stores, gives_at, kept_out, put_in}
+use Rattle.lfm_table.specs.declared.seat_view.View.{View}
+use Rattle.lfm_table.specs.Actions.{RunGoesOnBy, begins_and_step, seen}
+use Rattle.lfm_table.specs.FastPath.{Fit}
+use Rattle.lfm_table.specs.Rule.{value_in, in_hand}
+use Rattle.lfm_pool.specs.declared.view.PoolView.{PoolView}
+use Rattle.lfm_pool.specs.Tables.{Slot, part, with_part, rests, has_link_at}
+
+-- Steps
+
+-- the seat rests in every mutex but m
+abbrev pub RestsElsewhere : PoolView → ℕ → Type 0
+RestsElsewhere v m = (n : ℕ) → n < length v.parts → n ≢ m → rests (part v n) ≡ true
+
+-- what the step tells of mutex m, as a step at its table: the seat, which had these slots, has the view w and these slots
+-- now
+abbrev pub TellsOf : ℕ → (ℕ → Me Slot (View ⊤) → Type 0) → Me ℕ PoolView → ℕ → Me ℕ PoolView → Type 0
+TellsOf m tells me n me' =
+    (w : View ⊤) × (slots : List (ℕ × Slot)) × tells n (w, slots) × (me' ≡ (with_part me.0 m w, me.1))
+
+-- the access to one of the four words of a mutex with this many seats that is the step of the seat with this number, whose
+-- data are p
+abbrev pub IsAccessOf : ℕ → ℕ → SeatState → Access → Type 0
+IsAccessOf seats number p a =
+    (k : Kind) × (kind p.point ≡ Some k) × (word_at a ≡ index_by seats (target p.point number) (Some k)) × (word_at a < 4)
+    × ((n : ℕ) → becomes a n ≡ written_by p number n (Some k)) × (is_store a ≡ stores (Some k))
+
+-- a store tells the number that it stores
+abbrev pub IsTold : Access → ℕ → Type 0
+IsTold (Access.Store word new) n = n ≡ new
+IsTold _ n = ⊤
+
+-- a step of a seat with these data leads to no point at which the seat has a link
+abbrev pub LeadsToNoLink : ℕ → SeatState → Type 0
+LeadsToNoLink number p = (n : ℕ) (o : Option Record) → has_link_at (stepped_by p number n o).seat.point ≡ false
+
+-- Parts
+
+-- what the seat has of the pop list and the value of a mutex, at the table of that mutex: nothing, or both
+abbrev pub hand_if : Bool → ℕ → View ⊤ → Slot
+hand_if true seats v = Some (record { popped = record { records = v.popped; room = seats }; value = tt })
+hand_if false seats v = None
+
+abbrev pub hand_of : ℕ → SeatState → View ⊤ → Slot
+hand_of seats p v = hand_if (carries_value p) seats v
+
+-- what of this it keeps while it makes its step, and what is in its slot then
+abbrev pub hand_out : ℕ → SeatState → View ⊤ → Option ⊤
+hand_out seats p v = value_in (kept_out (gives_at p.point) (hand_of seats p v))
+
+abbrev pub slots_out : ℕ → SeatState → View ⊤ → List (ℕ × Slot)
+slots_out seats p v = put_in (gives_at p.point) (hand_of seats p v) (in_hand (carries_value p))
+
+-- the seat with this number, at this place of the table, has the data p of a mutex between two steps
+abbrev pub Sits : ℕ → ℕ → Limits → SeatState → View ⊤ → Type 0
+Sits number id l p v = Fit number (4 + 2 * l.seats) id l p (v, in_hand (carries_value p)) (hand_of l.seats p v)
+
+-- the seat's data p in a mutex before a step, and what it knows of the mutex before it and after it: it found or stored n
+pub record Stepped (number : ℕ) (p : SeatState) (v : View ⊤) (n : ℕ) (w : View ⊤) : Type 0 where
+  pub oldest : Option Record
+  pub state : w.state ≡ (stepped_by p number n oldest).seat
+  pub trail : w.trail ≡ v.trail ++ seen p.point n ∷ []
+  pub run : RunGoesOnBy (begins_and_step number v.state p) v w
+
+-- the step of a seat in mutex m: it knows the same of all other mutexes
+abbrev pub StepsIn : ℕ → ℕ → ℕ → Limits → SeatState → Me ℕ PoolView → ℕ → Me ℕ PoolView → Type 0
+StepsIn number id m l p me n me' =
+    (w : View ⊤) × (me' ≡ (with_part me.0 m w, me.1)) × Sits number id l w.state w × Stepped number p (part me.0 m) n w
+
+-- the seat's data in mutex m, and after it has started this call there
+abbrev pub state_in : PoolView → ℕ → SeatState
+state_in v m = (part v m).state
+
+abbrev pub begun_in : PoolView → ℕ → Limits → Call → SeatState
+begun_in v m l call = (Begin.begin (state_in v m) l call).seat
+
+-- the call whose first step is an access of this kind to a word of a mutex
+abbrev pub call_of : Access → Call
+call_of (Access.CompareExchange word old new) = Call.TryLock
+call_of (Access.FetchAdd word number) = Call.Lock
+call_of _ = Call.Unlock

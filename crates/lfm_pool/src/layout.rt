@@ -1,0 +1,25 @@
+//! The indexes of the words of a pool: eight for each mutex, and then two for each seat. A mutex uses the first four: its
+//! count, owner, handoff and push word. It has eight, the size of a cache line, so that mutexes share no line if the table
+//! begins at one. The words of a seat are its link word and its wake word.
+ghost use Rattle.std.specs.Prelude.{◌≡◌, ◌+◌, ◌*◌, ◌<◌, ◌^◌};
+
+/// The number of words of a mutex.
+pub const MUTEX_WORDS: usize = 8;
+
+/// The number of words of a seat.
+pub const SEAT_WORDS: usize = 2;
+
+/// The count of a mutex, among its words.
+pub const COUNT: usize = 0;
+
+/// Its owner word.
+pub const OWNER: usize = 1;
+
+/// The index of this word of a mutex.
+#[inline(always)]
+pub fn own_at(mutex: usize, word: usize) -> usize
+    requires { mutex * 8 + word < 2 ^ 63 }
+    ensures { result ≡ mutex * 8 + word }
+{
+    mutex * MUTEX_WORDS + word
+}

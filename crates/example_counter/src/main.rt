@@ -50,7 +50,7 @@ fn work<L: Ledger + Send + Sync + 'static, R: Wait>(
     Ok(Worker { seat, share })
 }
 
-/// Runs four threads, and returns the number that the mutex is closed with. It is what they added.
+/// Runs four threads, and returns the number that the mutex is closed with. By `add` and `total` it is what they added.
 fn count<L: Ledger + Send + Sync + 'static, R: Threads + Wait + Sync>(
     rt: &R,
     alloc: Global,

@@ -9,7 +9,7 @@ use Rattle.lfm_condvar.specs.Lists.{GoOnFrom, waiter}
 abbrev pub WaitsBehind : List Waiter → Waiter → Waiters → Type 0
 WaitsBehind ahead x v = (behind : List Waiter) × (v.list.items ≡ ahead ++ x ∷ behind)
 
--- its ticket is one of those that were sent
+-- its ticket is one of those that were taken off
 abbrev pub WasSent : Waiters → Waiter → Type 0
 WasSent w x = x.ticket ≤ w.sent
 

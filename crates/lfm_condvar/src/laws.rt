@@ -28,8 +28,8 @@ pub fn lists_go_as_the_model<T: Kept>()
 {}
 
 /// First come, first served, whichever cond seats change the list of a running condvar: waiters leave it in the order of their
-/// tickets. Until it is sent, a waiter keeps its seat and ticket, and only those ahead of it before are ahead of it. A wake
-/// sends for a ticket the seat whose wait got it.
+/// tickets. Until it has left, a waiter keeps its seat and ticket, and nobody gets ahead of it. A wake sends the seat whose
+/// wait got the ticket.
 ///
 /// Definition: `WaitersAreSentInOrder` in `specs/Order.antt`. Proof: `proofs/Order.antt`.
 pub fn waiters_are_sent_in_order()

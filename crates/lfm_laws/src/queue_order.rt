@@ -76,8 +76,8 @@ pub fn no_seat_overtakes_twice()
     ensures schedules { NoSeatOvertakesTwiceInSchedules }
 {}
 
-/// If only unlocks begin in a run, and receives of seats that have their grant, calls make at most (5N + 5)(o + 2k + 2)
-/// steps while a queued record with k before it has not left the queue; o calls were open before.
+/// If only unlocks begin in a run in which o calls are open at first, and receives of seats that have their grant, calls
+/// make at most (5N + 5)(o + 2k + 2) steps until a queued record with k before it leaves.
 ///
 /// Definitions: `QueuedSeatsAreServedSoon` in `specs/laws/Service.antt`, and `QueuedSeatsAreServedSoonInSchedules` in
 /// `specs/laws/InSchedules.antt`. Proofs: `proofs/lawful/bounds/Served.antt` and `proofs/lawful/runs/InSchedules.antt`.
@@ -107,8 +107,7 @@ pub fn somebody_can_serve()
 {}
 
 /// A call that has counted a seat and has yet to push it does so within 4p + 6 rounds, if p records are pushed meanwhile,
-/// and within 4NB + 2 with a budget of B. Only others' pushes delay it, and only budgets bound these: it is lock freedom in
-/// rounds.
+/// and within 4NB + 2 with a budget of B. Only others' pushes delay it, and only budgets bound those, as in lock freedom.
 ///
 /// Definitions: `CountedSeatsArePushedInRounds` and `CountedSeatsArePushedWithinBudgets` in `specs/laws/BeforePush.antt`.
 /// Proof: `proofs/lawful/rounds/BeforePush.antt`.
@@ -126,9 +125,9 @@ pub fn queued_seats_are_served_in_rounds()
     ensures { QueuedSeatsAreServedInRounds }
 {}
 
-/// Let owners begin no calls but releases. In a *fair round* an owner between two calls at its start begins one, too. Then a
-/// queued record with k before it has left the queue after N + 10k + 9 fair rounds, and as many more as the present owner
-/// needs to release: one for each hold, and one.
+/// Let the owner be between two calls or releasing, and owners begin only releases. In a *fair round* an owner between two
+/// calls at its start begins one. A queued record with k before it has left the queue after N + 10k + 9 fair rounds, one
+/// more for each hold of the present owner, and one.
 ///
 /// Definition: `QueuedSeatsAreServedInFairRounds` in `specs/laws/FairRounds.antt`. Proof:
 /// `proofs/lawful/rounds/FairRounds.antt`.
@@ -136,9 +135,9 @@ pub fn queued_seats_are_served_in_fair_rounds()
     ensures { QueuedSeatsAreServedInFairRounds }
 {}
 
-/// Let owners begin any calls. In a *full round* an owner between two calls at its start begins one that isn't refused. Then
-/// a queued record with k before it has left the queue after 3N + 10k + 12 full rounds, one more for each hold of the
-/// present owner, and five more for each call but releases that owners begin.
+/// Let owners begin other calls too. In a *full round* an owner between two calls at its start begins one that isn't
+/// refused. Then a queued record with k before it has left the queue after 3N + 10k + 12 full rounds, one more for each
+/// hold of the present owner, and five more for each of these.
 ///
 /// Definition: `QueuedSeatsAreServedWhateverOwnersBegin` in `specs/laws/FullRounds.antt`. Proof:
 /// `proofs/lawful/rounds/FullRounds.antt`.
@@ -147,8 +146,7 @@ pub fn queued_seats_are_served_whatever_owners_begin()
 {}
 
 /// From each state a round can be made in which only receives begin, and from each reached state a full one in which owners
-/// begin only releases. If the owner is between two calls or has begun its release, a fair one can be made, and then
-/// another.
+/// begin only releases. Unless the owner is in a call other than its release, a fair one can be made, and then another.
 ///
 /// Definitions: `RoundsCanBeMade` in `specs/laws/Rounds.antt`, `FairRoundsCanBeMade` in `specs/laws/FairRounds.antt`, and
 /// `FullRoundsCanBeMade` in `specs/laws/FullRounds.antt`. Proof: `proofs/lawful/rounds/Made.antt`.

@@ -197,10 +197,10 @@ module _ {T : Type 0} (follows : ℕ → T → T → Type 0) (fits : T → ℕ �
       × ((t : ℕ) → (entries_of_seat (state_after l early) t (events_of late) ≤ 1) × (entries_told (late_part l early late t) ≤ 1))
 
   -- Starvation freedom. Take a record that was queued at an earlier moment, with k before it. It has left the queue if the
-  -- actions since then have N + 8k + 7 rounds that begin while no seat owns. It also has if owners have begun no calls but
-  -- releases since, and the actions have N + 10k + 9 fair rounds, and as many more as the owner of that moment needed to
-  -- release. Whichever calls owners have begun, it has if the actions have 3N + 10k + 12 full rounds, one more for each hold
-  -- of that owner, and five more for each of these calls that isn't a release. A load for `owner` is no step of a round.
+  -- actions since then have N + 8k + 7 rounds that begin while no seat owns. If the owner of that moment rested or released,
+  -- and owners have begun only releases since, N + 10k + 9 fair rounds suffice, and as many more as that owner needed.
+  -- Whichever calls owners have begun, it has if the actions have 3N + 10k + 12 full rounds, one more for each hold of that
+  -- owner, and five more for each of these calls that isn't a release. A load for `owner` is no step of a round.
   abbrev pub TablesServeInRounds : Type 0
   TablesServeInRounds =
       (s : State (Option (Moving T)) (View T)) (l : Limits) (early late : List Action) (k : ℕ) → HoldsAfter l (early ++ late) s

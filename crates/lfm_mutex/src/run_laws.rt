@@ -70,8 +70,8 @@ pub fn tables_overtake_once<T: Kept>()
 {}
 
 /// From each moment of a table's run on, `queued_seats_are_served_in_rounds`, `queued_seats_are_served_in_fair_rounds` and
-/// `queued_seats_are_served_whatever_owners_begin` hold. So a queued thread with k before it waits for at most k + 1
-/// releases, and N + 8k + 7 rounds between holds.
+/// `queued_seats_are_served_whatever_owners_begin` hold. A queued thread behind k waits for its grant at most k + 1 releases,
+/// and N + 8k + 7 rounds between holds.
 ///
 /// Definition: `TablesServeInRounds` in `specs/TableRuns.antt`. Proof: `proofs/TableRuns.antt`.
 pub fn tables_serve_in_rounds<T: Kept>()

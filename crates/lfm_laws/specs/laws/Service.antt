@@ -1,4 +1,4 @@
--- That a queued seat can be served at any moment, and how soon it is served if only calls that serve it begin.
+-- That somebody can go on while a record is queued, and how soon it is served if only calls that serve it begin.
 use Rattle.std.specs.Prelude.{◌≡◌, ⊤, ℕ, true, ◌+◌, ◌*◌, ◌<◌, ◌≤◌, List, [], ◌∷◌, length}
 use Rattle.lfm_protocol.specs.declared.answers.Call.TheVariants.{Unlock, Receive}
 use Rattle.lfm_protocol.specs.declared.points.Point.TheVariants.{Rest, Asleep}

@@ -1,5 +1,5 @@
 -- What calls with a seat did that is in no trail: whom they woke, and whether they looked. The seats that were woken are those
--- to which the steps granted the mutex. Only a call that may wait makes a look.
+-- to which the steps granted the mutex. Calls that may wait make looks, and of the others only `count_from` does.
 use Rattle.std.specs.Prelude.{◌≡◌, ℕ, ◌+◌, List, ◌++◌}
 use Rattle.lfm_mutex.specs.declared.seat.Seat.{Seat}
 use Rattle.lfm_mutex.specs.calls.Sight.{sight}

@@ -115,7 +115,7 @@ sent_waiters_hold_in_rounds r events v ticket first behind x stage queue has =
     let k = reached_by r in
     let rounds = rounds_go (length k.mutex.seats + 8 * length first + 11) k is.ghost_state events is.fits has in
     hold_run k is.ghost_state x.seat v ticket events is.fits stage
-    (queued_seats_hold_in_rounds k.mutex (mutex_record k events) first behind x (cores_are_reached r) queue rounds)
+    (queued_seats_hold_in_rounds k.mutex (mutex_record k events) first behind x (cores_are_reached r).0 queue rounds)
 
 pub granted_waiters_hold_in_rounds : GrantedWaitersHoldInRounds
 granted_waiters_hold_in_rounds r events s v ticket stamp stage word has =

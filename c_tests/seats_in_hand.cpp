@@ -5,9 +5,16 @@
 #include <unistd.h>
 
 #include <atomic>
+#include <cstdlib>
 #include <thread>
 
 #include "expect.hpp"
+#include "ligdrosa.h"
+
+// A program may have functions of these names: the header calls its own.
+inline void made(lfm_status) { std::abort(); }
+inline bool has_acquired(lfm_status) { std::abort(); }
+
 #include "ligdrosa.hpp"
 
 using std::chrono::hours;

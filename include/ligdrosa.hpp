@@ -138,7 +138,7 @@ inline lfm_status made(lfm_status status) {
 }
 
 // Whether a try acquired the mutex. Throws if it was refused for another cause than LFM_BUSY.
-inline bool has_acquired(lfm_status status) { return status != LFM_BUSY && !lfm_is_refused(made(status)); }
+inline bool has_acquired(lfm_status status) { return status != LFM_BUSY && !lfm_is_refused(lfm::made(status)); }
 
 // Locks until this time by a call of ligdrosa.h, or for a clock that the program defines, by spans of time.
 template <class Lock, class By, class Clock, class Duration>
@@ -146,7 +146,7 @@ bool lock_until(Lock &lock, lfm_status (*call)(By *, int, const timespec *), By 
                 const std::chrono::time_point<Clock, Duration> &time) LFM_UNSEEN {
   const timespec at = timespec_of(time);
   const int clock = number_of<Clock>();
-  if (clock >= 0) return has_acquired(call(by, clock, &at));
+  if (clock >= 0) return lfm::has_acquired(call(by, clock, &at));
   while (!lock.try_lock_for(time - Clock::now()))
     if (time <= Clock::now()) return false;
   return true;
@@ -172,7 +172,7 @@ public:
   // It is opened by its first lock. Throws LFM_LIMIT unless there are 1 to 4,095 seats.
   explicit constexpr recursive_mutex(uint64_t most_threads) : raw{nullptr, checked(most_threads), LFM_VERSION} {}
   // It is opened at once. Throws as lfm_mutex_new refuses.
-  recursive_mutex(uint64_t most_threads, uint64_t budget) : raw() { made(lfm_mutex_new(&raw, most_threads, budget)); }
+  recursive_mutex(uint64_t most_threads, uint64_t budget) : raw() { lfm::made(lfm_mutex_new(&raw, most_threads, budget)); }
   recursive_mutex(const recursive_mutex &) = delete;
   recursive_mutex &operator=(const recursive_mutex &) = delete;
   ~recursive_mutex() {
@@ -197,20 +197,20 @@ public:
   // gives none back. A later call of the thread takes a seat anew. Throws LFM_HOLDING if the thread holds.
   void give_seat() {
     const lfm_status status = lfm_seat_give_here(&raw);
-    if (status != LFM_BLANK) made(status);
+    if (status != LFM_BLANK) lfm::made(status);
   }
   // Throws as lfm_lock_here refuses.
-  void lock() LFM_CALL(acquire_capability()) { made(lfm_lock_here(&raw)); }
+  void lock() LFM_CALL(acquire_capability()) { lfm::made(lfm_lock_here(&raw)); }
   // Locks, but queues at once.
-  void lock_in_order() LFM_CALL(acquire_capability()) { made(lfm_lock_in_order_here(&raw)); }
+  void lock_in_order() LFM_CALL(acquire_capability()) { lfm::made(lfm_lock_in_order_here(&raw)); }
   // False if at some moment of the call another thread held the mutex, asked for it or was releasing it. Otherwise throws as
   // lfm_try_lock_here refuses.
-  LFM_MUST_USE bool try_lock() LFM_CALL(try_acquire_capability(true)) { return has_acquired(lfm_try_lock_here(&raw)); }
+  LFM_MUST_USE bool try_lock() LFM_CALL(try_acquire_capability(true)) { return lfm::has_acquired(lfm_try_lock_here(&raw)); }
   // Locks as lock does, but at most until the time is over. It queues, so other threads that queue don't keep it from its turn.
   // After a false the thread may still be queued: its next lock waits from the same place, and try_lock is false until then.
   template <class Rep, class Period>
   LFM_MUST_USE bool try_lock_for(const std::chrono::duration<Rep, Period> &span) LFM_CALL(try_acquire_capability(true)) {
-    return has_acquired(lfm_try_lock_for_here(&raw, nanoseconds_of(span)));
+    return lfm::has_acquired(lfm_try_lock_for_here(&raw, nanoseconds_of(span)));
   }
   template <class Clock, class Duration>
   LFM_MUST_USE bool try_lock_until(const std::chrono::time_point<Clock, Duration> &time)
@@ -218,7 +218,7 @@ public:
     return lock_until(*this, lfm_try_lock_until_here, &raw, time);
   }
   // Throws as lfm_unlock_here refuses.
-  void unlock() LFM_CALL(release_capability()) { made(lfm_unlock_here(&raw)); }
+  void unlock() LFM_CALL(release_capability()) { lfm::made(lfm_unlock_here(&raw)); }
 };
 
 using recursive_timed_mutex = recursive_mutex;
@@ -239,7 +239,7 @@ class mutex {
 
 public:
   // Throws as lfm_mutex_new refuses.
-  explicit mutex(uint64_t seats, uint64_t budget = most_takes) { made(lfm_mutex_new(&raw, seats, budget)); }
+  explicit mutex(uint64_t seats, uint64_t budget = most_takes) { lfm::made(lfm_mutex_new(&raw, seats, budget)); }
   mutex(const mutex &) = delete;
   mutex &operator=(const mutex &) = delete;
   ~mutex() { lfm_mutex_close(&raw); }
@@ -262,7 +262,7 @@ class seat {
 
 public:
   // Throws as lfm_seat_take refuses.
-  explicit seat(mutex &of) { made(lfm_seat_take(of.native_handle(), raw.get())); }
+  explicit seat(mutex &of) { lfm::made(lfm_seat_take(of.native_handle(), raw.get())); }
   // The seat for calls of ligdrosa.h. It is not moved with the object.
   lfm_seat *native_handle() noexcept { return raw.get(); }
   // The seat's number, from 1 on; how often it holds; and how many takes it has left.
@@ -283,23 +283,23 @@ public:
   // Ends the program with a text unless the seat holds the mutex.
   void assert_held() noexcept { lfm_assert_held(of); }
   // Throws as lfm_lock refuses.
-  void lock() { made(lfm_lock(of)); }
+  void lock() { lfm::made(lfm_lock(of)); }
   // Locks, but queues at once.
-  void lock_in_order() { made(lfm_lock_in_order(of)); }
+  void lock_in_order() { lfm::made(lfm_lock_in_order(of)); }
   // False if at some moment of the call another seat held the mutex, asked for it or was releasing it. Otherwise throws as
   // lfm_try_lock refuses.
-  LFM_MUST_USE bool try_lock() { return has_acquired(lfm_try_lock(of)); }
+  LFM_MUST_USE bool try_lock() { return lfm::has_acquired(lfm_try_lock(of)); }
   // Locks as lock does, but at most until the time is over. After a false the seat may still be queued: its next lock waits
   // from the same place, and try_lock is false until then.
   template <class Rep, class Period> LFM_MUST_USE bool try_lock_for(const std::chrono::duration<Rep, Period> &span) {
-    return has_acquired(lfm_try_lock_for(of, nanoseconds_of(span)));
+    return lfm::has_acquired(lfm_try_lock_for(of, nanoseconds_of(span)));
   }
   template <class Clock, class Duration>
   LFM_MUST_USE bool try_lock_until(const std::chrono::time_point<Clock, Duration> &time) {
     return lock_until(*this, lfm_try_lock_until, of, time);
   }
   // Throws as lfm_unlock refuses.
-  void unlock() { made(lfm_unlock(of)); }
+  void unlock() { lfm::made(lfm_unlock(of)); }
 };
 
 // A condition variable for any mutex. Its waits take a std::unique_lock of a recursive_mutex or of a seat_lock. A wait
@@ -320,7 +320,7 @@ class condition_variable {
   }
   lfm_status wait_by(lfm_seat *seat, int clock, const timespec &at) { return lfm_wait_until(&raw, seat, clock, &at); }
   static std::cv_status told(lfm_status status) {
-    return made(status) == LFM_TIMED_OUT ? std::cv_status::timeout : std::cv_status::no_timeout;
+    return lfm::made(status) == LFM_TIMED_OUT ? std::cv_status::timeout : std::cv_status::no_timeout;
   }
 
 public:
@@ -334,7 +334,7 @@ public:
   lfm_condvar *native_handle() noexcept { return &raw; }
 
   // Throws as lfm_wait refuses: LFM_NOT_OWNER, LFM_SPENT, and LFM_NESTED if the lock is not the only hold.
-  template <class Lock> void wait(std::unique_lock<Lock> &lock) { made(wait_by(lock.mutex()->native_handle())); }
+  template <class Lock> void wait(std::unique_lock<Lock> &lock) { lfm::made(wait_by(lock.mutex()->native_handle())); }
   // Waits until the predicate is true.
   template <class Predicate, class Lock> void wait(std::unique_lock<Lock> &lock, Predicate predicate) {
     while (!predicate()) wait(lock);

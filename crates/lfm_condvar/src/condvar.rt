@@ -11,7 +11,7 @@ use lfm_mutex::{Mutex, Pace};
 /// refused as NotWaiting, or send a seat of that mutex. Each call requires that the cond seat is one of this condvar, and the
 /// user seat one of the mutex that is passed.
 ///
-/// Both of these calls are compiled in the crate `lfm_thread_tests`:
+/// Both of these calls are compiled in the crate `lfm_condvar_tests`:
 ///
 /// ```
 /// // the seat holds the mutex: it gives the mutex up, sleeps until a wake sends it, and holds the mutex again

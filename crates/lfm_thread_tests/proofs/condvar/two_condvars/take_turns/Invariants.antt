@@ -1,5 +1,0 @@
-use Rattle.lfm_test_tools.specs.Parts.{OfShared}
-use Rattle.lfm_thread_tests.proofs.condvar.two_condvars.take_turns.Given as goal
-
-abbrev pub invariant-turns : goal.invariant-turns
-invariant-turns g l = OfShared l.part l.shared

@@ -1,6 +1,0 @@
-use Rattle.lfm_thread_tests.specs.Ours.{Ours}
-use Rattle.lfm_thread_tests.proofs.monitor.calls.deepen.Given as goal
-
--- the pass stays the monitor's
-abbrev pub invariant-entering : goal.invariant-entering
-invariant-entering g l = Ours l.pass l.monitor

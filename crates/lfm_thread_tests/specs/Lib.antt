@@ -1,3 +1,0 @@
-pub mod Slots
-pub mod Ours
-pub mod Hands

@@ -2,9 +2,9 @@
 //! wake of another seat sends it.
 
 use crate::driving::on_one_condvar;
+use crate::seeing::sees;
 use crate::steps::{By, Step};
 use lfm_model::{Asked, How, Refusal, SeatNo, Unlocked};
-use lfm_test_tools::seeing::sees;
 use std::test::Fail;
 
 /// The first seat begins to wait, and its receive finds that it was not sent. The second seat sends it, and it acquires the

@@ -24,6 +24,8 @@ mod refused_calls;
 #[cfg(test)]
 mod repeated_waits;
 #[cfg(test)]
+mod seeing;
+#[cfg(test)]
 mod steps;
 #[cfg(test)]
 mod two_condvars;

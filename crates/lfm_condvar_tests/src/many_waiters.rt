@@ -1,7 +1,7 @@
 //! A wake of all: 32 threads wait on one condvar, and each is woken once, in the order of the tickets.
 ghost use Rattle.lfm_test_tools.specs.Parts.{OfShared};
 
-use lfm_test_tools::seeing::sees;
+use crate::seeing::sees;
 use lfm_test_tools::two_condvars::dealing::{Left, shared_in_order};
 use lfm_test_tools::two_condvars::parts::{Part, Shared, Side};
 use lfm_test_tools::two_condvars::tasks::{Task, perform_all};

@@ -3,9 +3,9 @@
 //! its first wake. Both condvars are for user seat 1 alone.
 
 use crate::driving::on_two_condvars;
+use crate::seeing::sees;
 use crate::steps::{By, Step};
 use lfm_model::{Asked, How, Refusal, SeatNo, Unlocked};
-use lfm_test_tools::seeing::sees;
 use std::test::Fail;
 
 /// The other cond seat uses its one take in a wake that finds no waiter, and then has none left. The first seat doesn't hold,

@@ -3,10 +3,10 @@
 ghost use Rattle.lfm_test_tools.specs.Parts.{OfShared};
 
 use crate::driving::{on_one_condvar, on_two_condvars};
+use crate::seeing::sees;
 use crate::steps::{By, Step};
 use lfm_model::{Asked, How, Refusal, SeatNo, Unlocked};
 use lfm_mutex::Holder;
-use lfm_test_tools::seeing::sees;
 use lfm_test_tools::two_condvars::dealing::shared_in_order;
 use lfm_test_tools::two_condvars::parts::{Part, Shared, Side};
 use lfm_test_tools::two_condvars::tasks::{Task, perform_all};

@@ -2,7 +2,7 @@
 //! turn on the condvar of its side, and each turn wakes one thread of the other side.
 ghost use Rattle.lfm_test_tools.specs.Parts.{OfShared};
 
-use lfm_test_tools::seeing::sees;
+use crate::seeing::sees;
 use lfm_test_tools::two_condvars::dealing::{Left, shared_in_order};
 use lfm_test_tools::two_condvars::parts::{Counts, Part, Seen, Shared, Side};
 use lfm_test_tools::two_condvars::tasks::{Task, perform_all};

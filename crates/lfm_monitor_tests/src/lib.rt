@@ -22,6 +22,8 @@ mod producers;
 mod rounds;
 #[cfg(test)]
 mod sections;
+#[cfg(test)]
+mod seeing;
 pub mod slot;
 #[cfg(test)]
 mod steps;

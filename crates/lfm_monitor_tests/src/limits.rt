@@ -1,8 +1,8 @@
 //! Sizes that a monitor can't have.
+use crate::seeing::sees;
 use lfm_model::{NewFault, Total};
 use lfm_monitor::{MAX_CONDITIONS, Monitor};
 use lfm_test_tools::counted::Counted;
-use lfm_test_tools::seeing::sees;
 use std::alloc::Global;
 use std::sync::atomic::{AtomicU64, Ordering};
 

@@ -4,13 +4,13 @@ ghost use Rattle.std.specs.Prelude.{◌≡◌, [], IfSome};
 
 use crate::driving::one_makes;
 use crate::passes::{closed_by_two, monitor_of_two};
+use crate::seeing::sees;
 use crate::steps::{By, Step, make_all};
 use lfm_model::{
     Asked, Entry, How, Locked, Missing, Refusal, SeatNo, Total, TotalOp, Unlocked, What, lawful,
     replay,
 };
 use lfm_monitor::{Monitor, Pass};
-use lfm_test_tools::seeing::sees;
 use std::alloc::Global;
 use std::process::Abort;
 use std::sync::Wait;

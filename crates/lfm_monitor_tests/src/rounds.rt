@@ -1,7 +1,7 @@
 //! Rounds that each pass makes in a thread of its own.
+use crate::seeing::sees;
 use lfm_model::{Refusal, Total, TotalOp};
 use lfm_monitor::{CriticalSection, Monitor, Pass};
-use lfm_test_tools::seeing::sees;
 use std::alloc::{AllocError, Global};
 use std::ops::ControlFlow;
 use std::process::Abort;

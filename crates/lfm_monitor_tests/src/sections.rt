@@ -2,10 +2,10 @@
 //! others. A pass never holds more after a section than before it.
 use crate::calls::{deepen, hold};
 use crate::passes::monitor_of_two;
+use crate::seeing::sees;
 use crate::steps::{By, Step, make_all, make_alone};
 use lfm_model::{Asked, How, Locked, Refusal, SeatNo, Total, TotalOp, Unlocked};
 use lfm_monitor::{CriticalSection, Monitor, Pass};
-use lfm_test_tools::seeing::sees;
 use std::alloc::Global;
 use std::process::Abort;
 use std::sync::Wait;

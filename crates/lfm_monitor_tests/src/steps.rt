@@ -2,9 +2,9 @@
 ghost use Rattle.lfm_monitor_tests.specs.Ours.{Ours};
 
 use crate::calls::apply_until;
+use crate::seeing::answers;
 use lfm_model::{Asked, How, Locked, Refusal, SeatNo, Total, TotalOp, Unlocked};
 use lfm_monitor::{Monitor, Pass};
-use lfm_test_tools::seeing::answers;
 use std::process::Abort;
 use std::sync::Wait;
 

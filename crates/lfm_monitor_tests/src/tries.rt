@@ -2,12 +2,12 @@
 
 use crate::calls::apply_until;
 use crate::driving::{one_makes, two_make};
+use crate::seeing::sees;
 use crate::steps::{By, Step};
 use lfm_model::{
     Asked, Entry, How, Locked, Refusal, SeatNo, Total, TotalOp, Unlocked, What, replay,
 };
 use lfm_monitor::{CriticalSection, Monitor, Pass};
-use lfm_test_tools::seeing::sees;
 use std::alloc::{AllocError, Global};
 use std::ops::ControlFlow;
 use std::sync::Wait;

@@ -1,14 +1,11 @@
-//! What tests and loads share: comparisons of what a test finds with what it wants; what it prints when memory is refused;
-//! readers and writers that fail, or give without end; a value whose drops are counted; a mutex with two seats in hand; and a
-//! mutex with two condvars that threads call, each with a task of its own. Only tests and loads call it, so nothing that a user
-//! needs is here.
+//! What tests and loads share: readers and writers that fail, or give without end; a value whose drops are counted; a mutex with
+//! two seats in hand; and a mutex with two condvars that threads call, each with a task of its own. Only tests and loads call
+//! it, so nothing that a user needs is here.
 #![tactic(auto)]
 
 pub mod adding;
 pub mod counted;
 pub mod devices;
 pub mod locking;
-pub mod refused_memory;
-pub mod seeing;
 pub mod two_condvars;
 pub mod two_seats;

@@ -11,6 +11,8 @@ mod out_of_memory;
 #[cfg(test)]
 mod packing;
 #[cfg(test)]
+mod refused_memory;
+#[cfg(test)]
 mod replaying;
 #[cfg(test)]
 mod rounds;
@@ -18,5 +20,7 @@ mod rounds;
 mod running;
 #[cfg(test)]
 mod scripts;
+#[cfg(test)]
+mod seeing;
 #[cfg(test)]
 mod stepping;

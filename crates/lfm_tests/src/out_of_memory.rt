@@ -4,14 +4,14 @@
 ghost use Rattle.std.specs.Prelude.{All, IfSome};
 ghost use Rattle.lfm_core.specs.text.Grammar.{HasFewSteps};
 
+use crate::refused_memory::{sees_memory, tells_refused};
+use crate::seeing::sees;
 use lfm_core::{Answer, Call, ReplayFault, Schedule, State, Turn, read_schedule, replay, run};
 use lfm_model::{
     Asked, Entry, How, NewFault, Place, SeatNo, Total, TotalOp, Unlocked, What, journals,
 };
 use lfm_mutex::Mutex;
 use lfm_test_tools::counted::Counted;
-use lfm_test_tools::refused_memory::{sees_memory, tells_refused};
-use lfm_test_tools::seeing::sees;
 use lfm_words::{Handoff, PopList};
 use std::alloc::Global;
 use std::process::Abort;

@@ -1,8 +1,8 @@
 //! The words and the pop list, by worked values.
 ghost use Rattle.std.specs.Prelude.{◌≡◌, []};
 
+use crate::seeing::{holds, sees};
 use lfm_model::SeatNo;
-use lfm_test_tools::seeing::{holds, sees};
 use lfm_words::{PopList, Wake, pack_handoff, pack_link, unpack_handoff, unpack_link};
 use std::process::Abort;
 use std::test::Fail;

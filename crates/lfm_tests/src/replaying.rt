@@ -1,11 +1,11 @@
 //! Schedules whose replay succeeds, fails at a read or a write, stops at a limit, or meets a refused line.
 ghost use Rattle.std.specs.Prelude.{◌<◌};
 
+use crate::seeing::sees;
 use lfm_core::{ReplayFault, replay};
 use lfm_test_tools::devices::{
     EndlessReader, FailingReader, FailingWriter, Failure, SingleBytes, UnflushedWriter,
 };
-use lfm_test_tools::seeing::sees;
 use std::alloc::Global;
 use std::io::{Read, Write};
 use std::process::Abort;

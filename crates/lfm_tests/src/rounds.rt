@@ -1,10 +1,10 @@
 //! How many rounds that begin while no seat owns pass before a queued record leaves, and before its seat holds. The laws
 //! `queued_seats_are_served_in_rounds` and `queued_seats_hold_in_rounds` bound them for every schedule. Here one schedule shows
 //! that both bounds are exact for the first record of a queue, at two seats.
+use crate::seeing::sees;
 use lfm_core::points::Point;
 use lfm_core::{Act, Call, Line, State, Turn, read_schedule, run};
 use lfm_model::SeatNo;
-use lfm_test_tools::seeing::sees;
 use lfm_words::Wake;
 use std::alloc::Global;
 use std::process::Abort;

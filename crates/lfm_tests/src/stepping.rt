@@ -1,7 +1,7 @@
 //! The stepped state, called directly.
+use crate::seeing::sees;
 use lfm_core::{Answer, Call, MAX_BUDGET, MAX_SEATS, State, Turn, Why, read_schedule, run};
 use lfm_model::{Asked, How, NewFault, Place, Refusal, SeatNo, Unlocked};
-use lfm_test_tools::seeing::sees;
 use std::alloc::Global;
 use std::process::Abort;
 use std::test::Fail;

@@ -9,6 +9,10 @@ mod mutex;
 #[cfg(test)]
 mod out_of_memory;
 #[cfg(test)]
+mod refused_memory;
+#[cfg(test)]
+mod seeing;
+#[cfg(test)]
 mod sharing;
 #[cfg(test)]
 mod work;

@@ -4,6 +4,8 @@
 ghost use Rattle.lfm_mutex.specs.AllSeats.{SeatsOf};
 ghost use Rattle.lfm_mutex.specs.Belongs.{OfMutex};
 
+use crate::refused_memory::{sees_memory, tells_refused};
+use crate::seeing::sees;
 use crate::work::scripts::{WAITED, WAITING, answered};
 use lfm_condvar::Condvar;
 use lfm_model::{NewFault, Refusal};
@@ -11,8 +13,6 @@ use lfm_monitor::Monitor;
 use lfm_mutex::{Mutex, Seat};
 use lfm_program::{OpenGate, WorkFault};
 use lfm_test_tools::counted::Counted;
-use lfm_test_tools::refused_memory::{sees_memory, tells_refused};
-use lfm_test_tools::seeing::sees;
 use std::alloc::Global;
 use std::process::Abort;
 use std::sync::Wait;

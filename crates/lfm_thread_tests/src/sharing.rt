@@ -1,5 +1,5 @@
 //! Threads that share a value, each with a job of its own.
-use lfm_test_tools::seeing::sees;
+use crate::seeing::sees;
 use lfm_threads::share;
 use std::sync::Barrier;
 use std::test::Fail;

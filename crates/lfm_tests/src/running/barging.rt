@@ -1,7 +1,7 @@
 //! Seats of one thread that lock by `lock_barging`: what they acquire, how many takes it costs, and how they are refused.
 use crate::running::seats::{alone, closed_alone, pair_with};
+use crate::seeing::sees;
 use lfm_model::{Asked, How, Locked, Refusal, SeatNo, Unlocked};
-use lfm_test_tools::seeing::sees;
 use std::test::Fail;
 
 #[test]

@@ -1,9 +1,9 @@
 //! How two seats of one thread hold the mutex and pass it on, call by call.
 use crate::running::calls::{By, Step, make_all, make_alone};
 use crate::running::seats::{alone, closed, closed_alone, lacks_the_second, pair, stays_open};
+use crate::seeing::sees;
 use lfm_core::{Answer, Call, Turn, Why};
 use lfm_model::{Asked, How, Locked, Missing, Refusal, SeatNo, Unlocked};
-use lfm_test_tools::seeing::sees;
 use std::test::Fail;
 
 #[test]

@@ -1,8 +1,8 @@
 //! The numbers of a pace: how often a seat spins and naps before it queues, and how often it then loads its wake word before it
 //! parks.
 use crate::running::seats::alone;
+use crate::seeing::{holds, sees};
 use lfm_mutex::Pace;
-use lfm_test_tools::seeing::{holds, sees};
 use std::test::Fail;
 
 /// The numbers of a pace: its looks, how many seats are near, its spins and its naps.

@@ -3,11 +3,11 @@ ghost use Rattle.lfm_mutex.specs.Belongs.{OfMutex};
 
 use crate::running::calls::{Step, make_alone};
 use crate::running::seats::alone;
+use crate::seeing::sees;
 use lfm_core::MAX_BUDGET;
 use lfm_model::{Asked, How, NewFault, Refusal, Unlocked};
 use lfm_mutex::{Mutex, Seat};
 use lfm_test_tools::counted::Counted;
-use lfm_test_tools::seeing::sees;
 use std::alloc::Global;
 use std::process::Abort;
 use std::sync::Wait;

@@ -1,7 +1,7 @@
 //! Sections of one thread: what they answer and leave, early returns, refusals, and nested sections.
 use crate::running::seats::{alone, closed, closed_alone, pair};
+use crate::seeing::sees;
 use lfm_model::{How, Locked, Refusal, Unlocked};
-use lfm_test_tools::seeing::sees;
 use std::test::Fail;
 
 #[test]

@@ -1,8 +1,8 @@
 //! The calls that return their wake-up to the caller, made in one thread: which seat each wake-up names.
 use crate::running::seats::pair;
+use crate::seeing::sees;
 use lfm_model::{Asked, How, SeatNo, Unlocked};
 use lfm_mutex::WakeUp;
-use lfm_test_tools::seeing::sees;
 use std::test::Fail;
 
 /// The seat that is to be woken.

@@ -1,7 +1,7 @@
 //! The calls that ask for memory. Each test whose name contains `memory` also passes if a request was refused, and then prints
 //! so. A script makes each request of these tests fail in turn.
+use crate::refused_memory::sees_memory;
 use lfm_script::{Command, Script, ScriptLine, WorkFault, commands_by_worker, read_script};
-use lfm_test_tools::refused_memory::sees_memory;
 use std::alloc::Global;
 use std::process::Abort;
 

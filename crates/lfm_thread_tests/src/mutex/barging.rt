@@ -4,10 +4,10 @@ ghost use Rattle.std.specs.Prelude.{All};
 ghost use Rattle.lfm_mutex.specs.Belongs.{OfMutex};
 
 use crate::mutex::paced::paced;
+use crate::seeing::sees;
 use lfm_core::MAX_BUDGET;
 use lfm_model::{How, Locked, Unlocked};
 use lfm_mutex::{Mutex, Pace, Seat};
-use lfm_test_tools::seeing::sees;
 use std::alloc::{AllocError, Global};
 use std::sync::Wait;
 use std::sync::atomic::{AtomicBool, Ordering};

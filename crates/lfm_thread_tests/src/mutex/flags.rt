@@ -2,9 +2,9 @@
 ghost use Rattle.std.specs.Prelude.{◌≡◌, []};
 ghost use Rattle.lfm_mutex.specs.Belongs.{Beside, OfMutex};
 
+use crate::seeing::sees;
 use lfm_model::{Asked, How, Unlocked};
 use lfm_mutex::{Mutex, Seat};
-use lfm_test_tools::seeing::sees;
 use lfm_test_tools::two_seats::mutex_of_two;
 use std::process::Abort;
 use std::test::Fail;

@@ -2,10 +2,10 @@
 ghost use Rattle.std.specs.Prelude.{◌≡◌, ◌<◌, All, vec_len};
 ghost use Rattle.lfm_mutex.specs.Belongs.{Beside, OfMutex};
 
+use crate::seeing::sees;
 use lfm_core::{MAX_BUDGET, MAX_SEATS};
 use lfm_model::{Asked, How, Refusal, SeatNo, Unlocked};
 use lfm_mutex::{Mutex, Seat};
-use lfm_test_tools::seeing::sees;
 use std::process::Abort;
 use std::test::Fail;
 

@@ -3,9 +3,9 @@ ghost use Rattle.lfm_mutex.specs.Belongs.{OfMutex};
 ghost use Rattle.lfm_mutex.specs.calls.Sections.{StandsAs};
 ghost use Rattle.lfm_mutex.specs.calls.Sight.{sight};
 
+use crate::seeing::{holds, sees};
 use lfm_model::Refusal;
 use lfm_mutex::{Mutex, Seat};
-use lfm_test_tools::seeing::{holds, sees};
 use std::alloc::Global;
 use std::sync::atomic::{AtomicU64, Ordering};
 use std::sync::{Barrier, Wait};

@@ -3,10 +3,10 @@ ghost use Rattle.std.specs.Prelude.{All, IfOk};
 ghost use Rattle.lfm_mutex.specs.Belongs.{OfMutex};
 
 use crate::mutex::paced::paced;
+use crate::seeing::{holds, sees};
 use lfm_model::{Locked, Refusal};
 use lfm_mutex::{Holder, Mutex, Pace, Seat};
 use lfm_test_tools::adding::add_one;
-use lfm_test_tools::seeing::{holds, sees};
 use std::alloc::{AllocError, Global};
 use std::process::Abort;
 use std::sync::Wait;

@@ -1,5 +1,5 @@
-//! Comparisons of what a test finds with what it wants. A comparison that ends the test if it fails is proved here once, so
-//! that a test is a list of plain calls.
+//! Comparisons of what a test finds with what it wants. Each is proved here once, so that a test is a list of plain calls. They
+//! end the test if they fail, as no function of a library may, so each crate of tests has its own.
 use std::fmt::Debug;
 use std::process::Abort;
 
@@ -11,9 +11,4 @@ pub fn sees<R: Abort, T: PartialEq + Debug>(rt: &R, what: &str, found: &T, wante
 /// Checks the answer of the step at this index.
 pub fn answers<R: Abort, T: PartialEq + Debug>(rt: &R, at: usize, answer: &T, wanted: &T) {
     assert_eq!(*rt; *answer, *wanted, "step {at}");
-}
-
-/// Checks that this holds.
-pub fn holds<R: Abort>(rt: &R, what: &str, condition: bool) {
-    assert!(rt; condition, "{what}");
 }

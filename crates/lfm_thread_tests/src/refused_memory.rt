@@ -1,0 +1,17 @@
+//! What a test prints if its call answered that memory was refused. A script that refuses memory searches for that line. A test
+//! that passes without it got another answer although a request was refused.
+use crate::seeing::sees;
+use std::fmt::Debug;
+use std::process::Abort;
+
+/// Prints that a call answered that memory was refused.
+pub fn tells_refused<R: Abort + Print>(rt: &R) {
+    let told = println!(rt; "memory was refused");
+    assert!(rt; told.is_ok(), "the line was not written");
+}
+
+/// Checks that a fault is that of refused memory, and prints so.
+pub fn sees_memory<R: Abort + Print, F: PartialEq + Debug>(rt: &R, fault: &F, memory: &F) {
+    sees(rt, "the fault", fault, memory);
+    tells_refused(rt);
+}

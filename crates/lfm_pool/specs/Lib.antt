@@ -2,6 +2,7 @@
 pub mod Belongs
 pub mod FastPaths
 pub mod Rule
+pub mod SeatWords
 pub mod Seats
 pub mod Steps
 pub mod Tables

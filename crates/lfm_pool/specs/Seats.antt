@@ -4,7 +4,9 @@ use Rattle.lfm_protocol.specs.declared.points.Point.TheVariants.{TryOwnerLoad}
 use Rattle.lfm_pool.specs.declared.pool.Pool.{Pool}
 use Rattle.lfm_pool.specs.declared.pool.PoolSeat.{PoolSeat}
 use Rattle.lfm_pool.specs.FastPaths.{Enters, HoldsOnce, KnowsMoreOf, Leaves, MayTry}
-use Rattle.lfm_pool.specs.Steps.{RestsElsewhere, Sits}
+use Rattle.lfm_protocol.specs.declared.answers.Call.TheVariants.{Receive}
+use Rattle.lfm_protocol.specs.declared.seats.SeatState.{SeatState}
+use Rattle.lfm_pool.specs.Steps.{RestsElsewhere, Sits, StepsIn, begun_in, state_in}
 use Rattle.lfm_pool.specs.Tables.{part}
 
 -- the seat rests in every mutex but m, and may rest in m too
@@ -37,3 +39,19 @@ LeavesIn s t p m =
 -- from s to t the seat has made steps in mutex m alone, and fits its next one
 abbrev pub GoesOnIn : PoolSeat → PoolSeat → Pool → ℕ → Type 0
 GoesOnIn s t p m = KnowsMoreOf m (λ w. Sits s.number s.place.id p.limits w.state w) s.place.me t.place.me
+
+-- the seat's data in mutex m
+abbrev pub state_of : PoolSeat → ℕ → SeatState
+state_of s m = state_in s.place.me.0 m
+
+-- the seat is between two steps in mutex m
+abbrev pub SitsIn : PoolSeat → Pool → ℕ → Type 0
+SitsIn s p m = Sits s.number s.place.id p.limits (state_of s m) (part s.place.me.0 m)
+
+-- from s to t the seat has made the next step of its call in mutex m, which found or stored n
+abbrev pub MovesIn : PoolSeat → PoolSeat → Pool → ℕ → ℕ → Type 0
+MovesIn s t p m n = StepsIn s.number s.place.id m p.limits (state_of s m) s.place.me n t.place.me
+
+-- from s to t the seat has begun a receive in mutex m and made its first step, which found n
+abbrev pub ReceivesIn : PoolSeat → PoolSeat → Pool → ℕ → ℕ → Type 0
+ReceivesIn s t p m n = StepsIn s.number s.place.id m p.limits (begun_in s.place.me.0 m p.limits Receive) s.place.me n t.place.me

@@ -7,6 +7,7 @@ pub mod LoneTables
 pub mod NewSeats
 pub mod Opening
 pub mod Parts
+pub mod Pushing
 pub mod Resting
 pub mod SeatWords
 pub mod Splitting

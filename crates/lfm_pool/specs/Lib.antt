@@ -1,6 +1,7 @@
 -- What contracts say of a pool.
 pub mod Belongs
 pub mod FastPaths
+pub mod Push
 pub mod Rule
 pub mod SeatWords
 pub mod Seats

@@ -64,8 +64,8 @@ is_at_seat_word (ReceiveWakeLoad sleeper) = true
 is_at_seat_word (ReceiveWakeStore stamp) = true
 is_at_seat_word _ = false
 
--- the access is the next step in mutex m of the seat with this number, whose data there are p, in a pool of this many mutexes
--- and seats
+-- the access is the next step in mutex m of the seat with this number, whose data there are p, in a pool of this many
+-- mutexes and seats
 abbrev pub IsStepAt : ℕ → ℕ → ℕ → ℕ → SeatState → PoolAccess → Type 0
 IsStepAt mutexes seats m number p a =
     IsAccessOf seats number p a.access × IsWordAt mutexes seats m a.index (word_at a.access)
@@ -97,8 +97,8 @@ slots_out seats p v = put_in (gives_at p.point) (dropped p (hand_of seats p v)) 
 abbrev pub Sits : ℕ → ℕ → Limits → SeatState → View ⊤ → Type 0
 Sits number id l p v = Fit number (4 + 2 * l.seats) id l p (v, in_hand (carries_value p)) (hand_of l.seats p v)
 
--- The seat's data p in a mutex before a step, and what it knows of the mutex before it and after it. It found or stored n. The
--- pop list was `popped` before the step; a seat that carries the value knew that.
+-- The seat's data p in a mutex before a step, and what it knows of the mutex before it and after it. It found or stored n.
+-- The pop list was `popped` before the step; a seat that carries the value knew that.
 pub record Stepped (number : ℕ) (p : SeatState) (v : View ⊤) (n : ℕ) (w : View ⊤) : Type 0 where
   pub popped : List Record
   pub had : carries_value p ≡ true → popped ≡ v.popped

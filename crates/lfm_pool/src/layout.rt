@@ -15,6 +15,9 @@ pub const COUNT: usize = 0;
 /// Its owner word.
 pub const OWNER: usize = 1;
 
+/// Its push word.
+pub const PUSH: usize = 3;
+
 /// The index of this word of a mutex.
 #[inline(always)]
 pub fn own_at(mutex: usize, word: usize) -> usize

@@ -3,14 +3,16 @@
 //! value.
 //!
 //! The crate has the rule that the words of a pool keep, the opening of a pool with its seats, each step on the words of a
-//! mutex and on the link and wake words of seats, and two calls: one acquires a mutex that is free, the other gives up the only
-//! hold of a mutex that no other seat wants. No call uses the steps on the words of seats yet, so a seat can't queue or sleep.
+//! mutex and on the link and wake words of seats, and two calls: one acquires a mutex that is free, the other gives up the
+//! only hold of a mutex that no other seat wants. No call uses the steps on the words of seats yet, so a seat can't queue or
+//! sleep.
 #![tactic(auto)]
 
 mod accesses;
 pub mod fast_paths;
 pub mod layout;
 pub mod pool;
+mod push;
 pub mod rule;
 mod seat_words;
 mod step;

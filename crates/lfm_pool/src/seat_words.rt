@@ -1,7 +1,7 @@
-//! The steps of a seat in one mutex on link words and wake words. A seat stores its own link before it pushes its record, loads
-//! its own wake word to receive a grant, and stores QUIET there once it has found one. A call that carries the responsibility
-//! loads the links of the records that it collects, and stores a grant in the wake word of the seat that it serves: those seats
-//! are queued in this mutex, so that their words are its own.
+//! The steps of a seat in one mutex on link words and wake words. A seat stores its own link before it pushes its record. It
+//! loads its own wake word to receive a grant, and stores QUIET there once it has found one. A call that carries the
+//! responsibility loads the links of the records that it collects, and stores a grant in the wake word of the seat that it
+//! serves: those seats are queued in this mutex, so that their words are its own.
 //!
 //! In each of these functions the seat has to rest in all other mutexes, and nothing changes in them, nor in what the seat
 //! knows of them. None allocates or waits.
@@ -57,8 +57,8 @@ pub fn link_load(pool: &Pool, seat: &mut PoolSeat, mutex: usize, target: u64) ->
     next_at(pool, seat, mutex, PoolAccess { index, access })
 }
 
-/// Stores a grant in the wake word of the seat of this record, which is the oldest of the queue. It wakes nobody: the caller
-/// has to wake the thread of that seat.
+/// Stores a grant in the wake word of the seat of this record, which is the oldest of the queue. It wakes no thread: the
+/// caller has to wake the one of that seat.
 #[inline(always)]
 pub fn grant(pool: &Pool, seat: &mut PoolSeat, mutex: usize, oldest: Record)
     requires belongs { OfPool seat.old pool.now }
@@ -77,8 +77,8 @@ pub fn grant(pool: &Pool, seat: &mut PoolSeat, mutex: usize, oldest: Record)
     next_at(pool, seat, mutex, PoolAccess { index, access });
 }
 
-/// Begins a `receive` of a seat that sleeps in this mutex, and loads its wake word. Returns the word. If it is a grant, the call
-/// is open, and its next step is `wake_store`. Else the call has ended, and the seat sleeps on.
+/// Begins a `receive` of a seat that sleeps in this mutex, and loads its wake word. Returns the word. If it is a grant, the
+/// call is open, and its next step is `wake_store`. Else the call has ended, and the seat sleeps on.
 #[inline(always)]
 pub fn wake_load(pool: &Pool, seat: &mut PoolSeat, mutex: usize) -> u64
     requires belongs { OfPool seat.old pool.now }

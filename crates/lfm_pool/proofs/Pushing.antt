@@ -1,0 +1,83 @@
+-- An attempt to push a record, as its two steps.
+use Rattle.std.proofs.Common.{◌≡◌, ℕ, ◌+◌, ◌<◌, [], ◌∷◌, ◌++◌, length, nat_eq, if◌then◌else◌, refl, sym, ap, ◌∙◌, subst, arith, append_assoc, Option}
+use Rattle.std.specs.Prelude.{⊤, ◌^◌}
+use Rattle.atomic_table.specs.Table.{Me}
+use Rattle.lfm_words.specs.declared.links.Link.{Link}
+use Rattle.lfm_words.specs.declared.pop_lists.Record.{Record}
+use Rattle.lfm_words.specs.Popped.{oldest}
+use Rattle.lfm_words.specs.Words.{link_of, link_word}
+use Rattle.lfm_protocol.specs.After.{same_link}
+use Rattle.lfm_protocol.specs.declared.kinds.Kind.{Kind}
+use Rattle.lfm_protocol.specs.declared.limits.Limits.{Limits}
+use Rattle.lfm_protocol.specs.declared.points.Point.{Point}
+use Rattle.lfm_protocol.specs.declared.points.Point.TheVariants.{LinkStore, PushExchange, PushedHandoffLoad}
+use Rattle.lfm_protocol.specs.declared.points.Pusher.{Pusher}
+use Rattle.lfm_protocol.specs.declared.seats.SeatState.{SeatState}
+use Rattle.lfm_laws.specs.table.Words.{stepped_by}
+use Rattle.lfm_table.specs.declared.operations.Access.{Access}
+use Rattle.lfm_table.specs.declared.seat_view.View.{View}
+use Rattle.lfm_table.specs.Actions.{RunGoesOn, seen}
+use Rattle.lfm_table.proofs.tables.Actions.{run_next}
+use Rattle.lfm_table.proofs.tables.StepFacts.{made_of}
+use Rattle.lfm_pool.specs.declared.view.PoolView.{PoolView}
+use Rattle.lfm_pool.specs.FastPaths.{KnowsMoreOf}
+use Rattle.lfm_pool.specs.Push.{Pushes}
+use Rattle.lfm_pool.specs.SeatWords.{StoresLink}
+use Rattle.lfm_pool.specs.Steps.{IsOwnAccessOf, Sits, StepsIn}
+use Rattle.lfm_pool.specs.Tables.{part, with_part}
+use Rattle.lfm_pool.proofs.FastPaths.{both, goes_on, part_now}
+
+-- the seat after it has stored its link, and after the exchange has found n
+abbrev Linked : SeatState → Link → SeatState
+Linked p loaded = record p { point = PushExchange Pusher.Locker loaded }
+
+abbrev Tried : SeatState → Link → ℕ → SeatState
+Tried p loaded n = record p { point = if same_link (link_of n) loaded then PushedHandoffLoad Pusher.Locker else LinkStore Pusher.Locker (link_of n) }
+
+linked : (p : SeatState) (loaded : Link) → StoresLink loaded p → (s n : ℕ) (o : Option Record) → (stepped_by p s n o).seat ≡ Linked p loaded
+linked p loaded e s n o = ap (λ (q : Point). (stepped_by (made_of p.depth p.takes p.posts q) s n o).seat) e
+
+module _ (number id m : ℕ) (l : Limits) (me me1 me2 : Me ℕ PoolView) (here : m < length me.0.parts) (loaded : Link) (n k : ℕ)
+    (at : StoresLink loaded (part me.0 m).state) (first : StepsIn number id m l (part me.0 m).state me n me1) where
+  abbrev x : SeatState
+  x = (part me.0 m).state
+
+  now : part me1.0 m ≡ first.0
+  now = part_now number id m l me me1 me1 here first.0 first.1
+
+  linked_now : (part me1.0 m).state ≡ Linked x loaded
+  linked_now = ap (λ (y : View ⊤). y.state) now ∙ first.3.state ∙ linked x loaded at number n (oldest first.3.popped)
+
+  pub sits_now : Sits number id l (part me1.0 m).state (part me1.0 m)
+  sits_now = subst (λ (y : View ⊤). Sits number id l y.state y) (sym now) first.2
+
+  -- what the exchange requires
+  pub exchanges_push : (seats s expected new : ℕ) → s ≡ number → expected ≡ link_word loaded → new ≡ link_word (record { stamp = loaded.stamp + 1; next = s })
+      → IsOwnAccessOf seats s (part me1.0 m).state (Access.CompareExchange 3 expected new)
+  exchanges_push seats s expected new same is_expected is_new =
+      subst (λ (y : SeatState × ℕ × ℕ). IsOwnAccessOf seats s y.0 (Access.CompareExchange 3 y.1 y.2)) (λ i. (sym linked_now i, sym is_expected i, sym is_new i))
+      ((Kind.PushExchange, refl, refl, (λ j. refl), refl), omega arith)
+
+  pub pushed : n ≡ link_word (record { stamp = loaded.stamp + 1; next = loaded.next }) → Sits number id l (part me.0 m).state (part me.0 m) → StepsIn number id m l (part me1.0 m).state me1 k me2
+      → KnowsMoreOf m (λ w. Pushes loaded k (part me.0 m) w × Sits number id l w.state w) me me2
+  pushed stored sits second =
+      let tried : second.0.state ≡ Tried x loaded k = second.3.state ∙ ap (λ (y : SeatState). (stepped_by y number k (oldest second.3.popped)).seat) linked_now in
+      let trail1 : first.0.trail ≡ (part me.0 m).trail ++ seen (LinkStore Pusher.Locker loaded) (link_word (record { stamp = loaded.stamp + 1; next = loaded.next })) ∷ [] =
+      first.3.trail ∙ ap (λ (y : Point × ℕ). (part me.0 m).trail ++ seen y.0 y.1 ∷ []) (λ i. (at i, stored i))
+      in
+      let trail2 : second.0.trail ≡ first.0.trail ++ seen (PushExchange Pusher.Locker loaded) k ∷ [] =
+      second.3.trail ∙ ap (λ (y : View ⊤ × Point). y.0.trail ++ seen y.1 k ∷ []) (λ i. (now i, ap (λ (z : SeatState). z.point) linked_now i))
+      in (
+        second.0,
+        both number id m l me me1 me2 here first.0 second.0 first.1 second.1,
+        (
+          record {
+            trail = trail2 ∙ ap (λ ts. ts ++ seen (PushExchange Pusher.Locker loaded) k ∷ []) trail1
+                ∙ append_assoc (part me.0 m).trail (seen (LinkStore Pusher.Locker loaded) (link_word (record { stamp = loaded.stamp + 1; next = loaded.next })) ∷ []) (seen (PushExchange Pusher.Locker loaded) k ∷ []);
+            state = tried;
+            run = run_next (goes_on number id l x first.0.state (part me.0 m) first.0 n sits first.2 first.3)
+                (subst (λ (y : View ⊤). RunGoesOn y second.0) now (goes_on number id l (part me1.0 m).state second.0.state (part me1.0 m) second.0 k sits_now second.2 second.3));
+          },
+          second.2,
+        ),
+      )

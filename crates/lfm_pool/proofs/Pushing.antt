@@ -1,16 +1,23 @@
--- An attempt to push a record, as its two steps.
+-- The steps by which a lock puts its record into the queue.
 use Rattle.std.proofs.Common.{◌≡◌, ℕ, ◌+◌, ◌<◌, [], ◌∷◌, ◌++◌, length, nat_eq, if◌then◌else◌, refl, sym, ap, ◌∙◌, subst, arith, append_assoc, Option}
-use Rattle.std.specs.Prelude.{⊤, ◌^◌}
+use Rattle.std.specs.Prelude.{⊤, Bool, true, false}
 use Rattle.atomic_table.specs.Table.{Me}
 use Rattle.lfm_words.specs.declared.links.Link.{Link}
 use Rattle.lfm_words.specs.declared.pop_lists.Record.{Record}
 use Rattle.lfm_words.specs.Popped.{oldest}
-use Rattle.lfm_words.specs.Words.{link_of, link_word}
+use Rattle.lfm_words.specs.Words.{handoff_of, link_of, link_word}
+use Rattle.lfm_model.specs.declared.answers.Asked.TheVariants as Asked
+use Rattle.lfm_protocol.specs.declared.answers.Answer.{Answer}
+use Rattle.lfm_protocol.specs.declared.answers.Turn.{Turn}
+use Rattle.lfm_protocol.specs.declared.answers.Turn.TheVariants.{Open, Ended}
+use Rattle.lfm_protocol.specs.Points.{kind}
+use Rattle.lfm_protocol.specs.declared.points.Sleeper.TheVariants as Sleeper
 use Rattle.lfm_protocol.specs.After.{same_link}
+use Rattle.lfm_protocol.specs.Begin.{Stepped}
 use Rattle.lfm_protocol.specs.declared.kinds.Kind.{Kind}
 use Rattle.lfm_protocol.specs.declared.limits.Limits.{Limits}
 use Rattle.lfm_protocol.specs.declared.points.Point.{Point}
-use Rattle.lfm_protocol.specs.declared.points.Point.TheVariants.{LinkStore, PushExchange, PushedHandoffLoad}
+use Rattle.lfm_protocol.specs.declared.points.Point.TheVariants.{Asleep, LinkStore, PushExchange, PushedHandoffLoad, PushedHandoffExchange}
 use Rattle.lfm_protocol.specs.declared.points.Pusher.{Pusher}
 use Rattle.lfm_protocol.specs.declared.seats.SeatState.{SeatState}
 use Rattle.lfm_laws.specs.table.Words.{stepped_by}
@@ -21,7 +28,7 @@ use Rattle.lfm_table.proofs.tables.Actions.{run_next}
 use Rattle.lfm_table.proofs.tables.StepFacts.{made_of}
 use Rattle.lfm_pool.specs.declared.view.PoolView.{PoolView}
 use Rattle.lfm_pool.specs.FastPaths.{KnowsMoreOf}
-use Rattle.lfm_pool.specs.Push.{Pushes}
+use Rattle.lfm_pool.specs.Push.{LoadsHandoff, LoadsPush, Pushes, Steps}
 use Rattle.lfm_pool.specs.SeatWords.{StoresLink}
 use Rattle.lfm_pool.specs.Steps.{IsOwnAccessOf, Sits, StepsIn}
 use Rattle.lfm_pool.specs.Tables.{part, with_part}
@@ -81,3 +88,39 @@ module _ (number id m : ℕ) (l : Limits) (me me1 me2 : Me ℕ PoolView) (here :
           second.2,
         ),
       )
+
+-- One step
+
+module _ (number id m : ℕ) (l : Limits) (me me1 : Me ℕ PoolView) (n : ℕ) (p : Point) (q : Point) (at : (part me.0 m).state.point ≡ p)
+    (leads : (d t ps : ℕ) (o : Option Record) → (stepped_by (made_of d t ps p) number n o).seat ≡ made_of d t ps q) where
+  pub one_step : Sits number id l (part me.0 m).state (part me.0 m) → StepsIn number id m l (part me.0 m).state me n me1
+      → KnowsMoreOf m (λ w. Steps p n q (part me.0 m) w × Sits number id l w.state w) me me1
+  one_step sits did =
+      let x = (part me.0 m).state in (
+        did.0,
+        did.1,
+        (
+          record {
+            trail = did.3.trail ∙ ap (λ (y : Point). (part me.0 m).trail ++ seen y n ∷ []) at;
+            state = did.3.state ∙ ap (λ (y : Point). (stepped_by (made_of x.depth x.takes x.posts y) number n (oldest did.3.popped)).seat) at ∙ leads x.depth x.takes x.posts (oldest did.3.popped);
+            run = goes_on number id l x did.0.state (part me.0 m) did.0 n sits did.2 did.3;
+          },
+          did.2,
+        ),
+      )
+
+seat_if : (b : Bool) (d t ps : ℕ) (q r : Point) (u v : Turn) → ◌≡◌ {A = SeatState} (if◌then◌else◌ {A = Stepped} b (record { seat = made_of d t ps q; turn = u }) (record { seat = made_of d t ps r; turn = v })).seat (made_of d t ps (if b then q else r))
+seat_if true d t ps q r u v = refl
+seat_if false d t ps q r u v = refl
+
+-- where the load of the handoff word leads
+pub after_handoff : (s n d t ps : ℕ) (o : Option Record)
+    → (stepped_by (made_of d t ps (PushedHandoffLoad Pusher.Locker)) s n o).seat ≡ made_of d t ps (if nat_eq (handoff_of n).seat 0 then Asleep Sleeper.Locker else PushedHandoffExchange Pusher.Locker (handoff_of n))
+after_handoff s n d t ps o = seat_if (nat_eq (handoff_of n).seat 0) d t ps (Asleep Sleeper.Locker) (PushedHandoffExchange Pusher.Locker (handoff_of n)) (Ended (Answer.Asked Asked.Asleep)) Open
+
+-- what the loads require
+pub loads_push : (seats number : ℕ) (p : SeatState) → LoadsPush p → IsOwnAccessOf seats number p (Access.Load 3)
+loads_push seats number p at = ((Kind.PushLoad, ap kind at, refl, (λ n. refl), refl), omega arith)
+
+pub loads_handoff : (seats number : ℕ) (p : SeatState) → LoadsHandoff p → IsOwnAccessOf seats number p (Access.Load 2)
+loads_handoff seats number p at = ((Kind.HandoffLoad, ap kind at, refl, (λ n. refl), refl), omega arith)

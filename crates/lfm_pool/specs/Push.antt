@@ -1,10 +1,13 @@
--- What an attempt to push a record leaves.
-use Rattle.std.specs.Prelude.{◌≡◌, ⊤, ℕ, ◌++◌, ◌+◌, [], ◌∷◌, if◌then◌else◌}
+-- What the steps leave by which a lock puts its record into the queue.
+use Rattle.std.specs.Prelude.{◌≡◌, ⊤, ℕ, ◌++◌, ◌+◌, [], ◌∷◌, nat_eq, if◌then◌else◌}
 use Rattle.lfm_words.specs.declared.links.Link.{Link}
-use Rattle.lfm_words.specs.Words.{link_of, link_word}
+use Rattle.lfm_words.specs.Words.{handoff_of, link_of, link_word}
 use Rattle.lfm_protocol.specs.After.{same_link}
-use Rattle.lfm_protocol.specs.declared.points.Point.TheVariants.{LinkStore, PushExchange, PushedHandoffLoad}
+use Rattle.lfm_protocol.specs.declared.points.Point.{Point}
+use Rattle.lfm_protocol.specs.declared.points.Point.TheVariants.{Asleep, PushLoad, LinkStore, PushExchange, PushedHandoffLoad, PushedHandoffExchange}
 use Rattle.lfm_protocol.specs.declared.points.Pusher.{Pusher}
+use Rattle.lfm_protocol.specs.declared.points.Sleeper.TheVariants as Sleeper
+use Rattle.lfm_protocol.specs.declared.seats.SeatState.{SeatState}
 use Rattle.lfm_table.specs.declared.seat_view.View.{View}
 use Rattle.lfm_table.specs.Actions.{RunGoesOn, seen}
 use Rattle.lfm_pool.specs.declared.pool.Pool.{Pool}
@@ -25,3 +28,31 @@ pub record Pushes (loaded : Link) (n : ℕ) (v w : View ⊤) : Type 0 where
 abbrev pub PushesIn : PoolSeat → PoolSeat → Pool → ℕ → Link → ℕ → Type 0
 PushesIn s t p m loaded n =
     KnowsMoreOf m (λ w. Pushes loaded n (part s.place.me.0 m) w × Sits s.number s.place.id p.limits w.state w) s.place.me t.place.me
+
+-- a lock loads the push word next
+abbrev pub LoadsPush : SeatState → Type 0
+LoadsPush p = p.point ≡ PushLoad Pusher.Locker
+
+-- a lock has pushed its record, and loads the handoff word next
+abbrev pub LoadsHandoff : SeatState → Type 0
+LoadsHandoff p = p.point ≡ PushedHandoffLoad Pusher.Locker
+
+-- the seat has made one step, at the point p, which found n; it is at the point q now, and has nothing else changed
+pub record Steps (p : Point) (n : ℕ) (q : Point) (v w : View ⊤) : Type 0 where
+  pub trail : w.trail ≡ v.trail ++ seen p n ∷ []
+  pub state : w.state ≡ record v.state { point = q }
+  pub run : RunGoesOn v w
+
+-- from s to t the seat has made such a step in mutex m
+abbrev pub StepsFrom : PoolSeat → PoolSeat → Pool → ℕ → Point → ℕ → Point → Type 0
+StepsFrom s t p m q n r = KnowsMoreOf m (λ w. Steps q n r (part s.place.me.0 m) w × Sits s.number s.place.id p.limits w.state w) s.place.me t.place.me
+
+-- from s to t the seat has loaded the push word n of mutex m, and stores its link next
+abbrev pub LoadsPushIn : PoolSeat → PoolSeat → Pool → ℕ → ℕ → Type 0
+LoadsPushIn s t p m n = StepsFrom s t p m (PushLoad Pusher.Locker) n (LinkStore Pusher.Locker (link_of n))
+
+-- from s to t the seat has loaded the handoff word n of mutex m: it sleeps now, if nothing was posted
+abbrev pub LoadsHandoffIn : PoolSeat → PoolSeat → Pool → ℕ → ℕ → Type 0
+LoadsHandoffIn s t p m n =
+    StepsFrom s t p m (PushedHandoffLoad Pusher.Locker) n
+    (if nat_eq (handoff_of n).seat 0 then Asleep Sleeper.Locker else PushedHandoffExchange Pusher.Locker (handoff_of n))

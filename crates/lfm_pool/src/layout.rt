@@ -15,6 +15,9 @@ pub const COUNT: usize = 0;
 /// Its owner word.
 pub const OWNER: usize = 1;
 
+/// Its handoff word.
+pub const HANDOFF: usize = 2;
+
 /// Its push word.
 pub const PUSH: usize = 3;
 

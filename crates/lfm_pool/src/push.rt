@@ -1,23 +1,51 @@
-//! One attempt of a `lock` to push its record: the two steps after the load of the push word.
+//! The steps by which a `lock` that has found the mutex taken puts its record into the queue: it loads the push word, tries to
+//! push its record, and loads the handoff word once it has pushed. In each of these functions the seat has to rest in all other
+//! mutexes, and nothing changes in them, nor in what the seat knows of them. None allocates or waits.
 ghost use Rattle.lfm_pool.specs.Belongs.{IsMutex, OfPool, SameSeat};
-ghost use Rattle.lfm_pool.specs.Push.{PushesIn};
+ghost use Rattle.lfm_pool.specs.Push.{LoadsHandoff, LoadsHandoffIn, LoadsPush, LoadsPushIn, PushesIn};
 ghost use Rattle.lfm_pool.specs.SeatWords.{StoresLink};
 ghost use Rattle.lfm_pool.specs.Seats.{state_of, RestsInOthers, SitsIn};
 
-use crate::layout::PUSH;
+use crate::layout::{HANDOFF, PUSH};
 use crate::pool::{Pool, PoolSeat};
 use crate::seat_words::link_store;
 use crate::step::next_step;
 use lfm_table::operations::Access;
 use lfm_words::{Link, pack_link};
 
+/// Loads the push word. Returns the word; the next step stores the seat's link after it.
+#[inline(always)]
+pub fn load_push(pool: &Pool, seat: &mut PoolSeat, mutex: usize) -> u64
+    requires belongs { OfPool seat.old pool.now }
+    requires mutex { IsMutex mutex pool.now }
+    requires sits { SitsIn seat.old pool.now mutex }
+    requires elsewhere { RestsInOthers seat.old mutex }
+    requires at { LoadsPush (state_of seat.old mutex) }
+    ensures belongs { SameSeat seat.old seat.new }
+    ensures loads { LoadsPushIn seat.old seat.new pool.now mutex result }
+{
+    next_step(pool, seat, mutex, Access::Load(PUSH))
+}
+
+/// Loads the handoff word after the record was pushed. Returns the word. If nothing is posted in it, the call has ended, and the
+/// seat sleeps until a receive finds a grant. Else the next step tries to take the post over.
+#[inline(always)]
+pub fn load_handoff(pool: &Pool, seat: &mut PoolSeat, mutex: usize) -> u64
+    requires belongs { OfPool seat.old pool.now }
+    requires mutex { IsMutex mutex pool.now }
+    requires sits { SitsIn seat.old pool.now mutex }
+    requires elsewhere { RestsInOthers seat.old mutex }
+    requires at { LoadsHandoff (state_of seat.old mutex) }
+    ensures belongs { SameSeat seat.old seat.new }
+    ensures loads { LoadsHandoffIn seat.old seat.new pool.now mutex result }
+{
+    next_step(pool, seat, mutex, Access::Load(HANDOFF))
+}
+
 /// Stores the seat's link after this push word, which it has loaded, and makes the exchange by which its record becomes the
 /// newest of the push list. Returns the push word that it found. If that is the word that was loaded, the record is in the
 /// queue, and the next step loads the handoff word. Else another seat was faster, and the next step stores the link again, after
 /// the word that was found.
-///
-/// The seat has to rest in all other mutexes. Nothing changes in them, nor in what the seat knows of them. It allocates nothing
-/// and does not wait.
 #[inline(always)]
 pub fn push(pool: &Pool, seat: &mut PoolSeat, mutex: usize, loaded: Link) -> u64
     requires belongs { OfPool seat.old pool.now }

@@ -1,5 +1,5 @@
 -- The fast paths of a pool's calls, each as its two steps.
-use Rattle.std.proofs.Common.{◌≡◌, ◌≢◌, ℕ, ◌+◌, ◌*◌, ◌<◌, [], ◌∷◌, ◌++◌, length, nat_lt, refl, sym, ap, ◌∙◌, subst, arith, tests, length-set, append_assoc, Option}
+use Rattle.std.proofs.Common.{◌≡◌, ◌≢◌, ℕ, ◌+◌, ◌*◌, ◌<◌, List, [], ◌∷◌, ◌++◌, length, nat_lt, refl, sym, ap, ◌∙◌, subst, arith, tests, length-set, append_assoc, Option}
 use Rattle.std.specs.Prelude.{⊤, Bool, true}
 use Rattle.std.proofs.lemmas.Bool.{ne_eqb}
 use Rattle.std.proofs.lemmas.List.{set-set}
@@ -9,6 +9,8 @@ use Rattle.lfm_words.specs.declared.pop_lists.Record.{Record}
 use Rattle.lfm_protocol.specs.declared.answers.Call.{Call}
 use Rattle.lfm_protocol.specs.declared.kinds.Kind.{Kind}
 use Rattle.lfm_protocol.specs.declared.limits.Limits.{Limits}
+use Rattle.lfm_protocol.specs.After.{take}
+use Rattle.lfm_protocol.specs.declared.points.Carrier.{Carrier}
 use Rattle.lfm_protocol.specs.declared.points.Entrant.{Entrant}
 use Rattle.lfm_protocol.specs.declared.points.Point.{Point}
 use Rattle.lfm_protocol.specs.declared.points.Point.TheVariants.{Rest, TryCountExchange, TryOwnerLoad, EnterOwnerStore, ReleaseOwnerStore, ReleaseCountSubtract}
@@ -16,7 +18,7 @@ use Rattle.lfm_protocol.specs.declared.points.Releaser.TheVariants.{Unlocker}
 use Rattle.lfm_protocol.specs.declared.seats.SeatState.{SeatState}
 use Rattle.lfm_protocol.specs.Begin as Begin
 use Rattle.lfm_laws.specs.table.Carried.{carries_value}
-use Rattle.lfm_laws.specs.table.Words.{stepped_by}
+use Rattle.lfm_laws.specs.table.Words.{popped_by_step, stepped_by}
 use Rattle.lfm_table.specs.declared.operations.Access.{Access}
 use Rattle.lfm_table.specs.declared.seat_view.View.{View}
 use Rattle.lfm_table.specs.Actions.{RunGoesOn, seen}
@@ -29,7 +31,7 @@ use Rattle.lfm_pool.specs.declared.view.PoolView.{PoolView}
 use Rattle.lfm_pool.specs.Tables.{part, with_part}
 use Rattle.lfm_words.specs.Popped.{oldest}
 use Rattle.lfm_pool.specs.Steps.{hand_if, hand_of, IsOwnAccessOf, RestsElsewhere, Sits, Stepped, StepsIn}
-use Rattle.lfm_pool.specs.FastPaths.{MayTry, HoldsOnce, Enters, Leaves, KnowsMoreOf}
+use Rattle.lfm_pool.specs.FastPaths.{MayTry, HoldsOnce, Enters, FindsTaken, Leaves, KnowsMoreOf, Serves}
 use Rattle.lfm_pool.proofs.LoneTables.{part_same, part_other}
 
 -- Views
@@ -89,6 +91,9 @@ exchanged_taken t ps s n o e = let h = ne_eqb n 0 e in rw h refl
 
 pub subtracted_last : (t ps s n : ℕ) (o : Option Record) → n ≡ 1 → (stepped_by (made_of 0 t ps (ReleaseCountSubtract Unlocker)) s n o).seat ≡ made_of 0 t ps Rest
 subtracted_last t ps s n o e = rw e refl
+
+pub subtracted_more : (t ps s n : ℕ) (o : Option Record) → n ≢ 1 → (stepped_by (made_of 0 t ps (ReleaseCountSubtract Unlocker)) s n o).seat ≡ made_of 0 t ps (take (Carrier.Releaser Unlocker) s o)
+subtracted_more t ps s n o e = let h = ne_eqb n 1 e in rw h refl
 
 -- The run
 
@@ -150,12 +155,15 @@ module _ (number id m : ℕ) (l : Limits) (me me1 me2 : Me ℕ PoolView) (here :
       )
 
   pub found_taken : (n : ℕ) → n ≢ 0 → (may : MayTry number id l (part me.0 m)) → StepsIn number id m l (Begin.begin (part me.0 m).state l Call.TryLock).seat me n me1
-      → KnowsMoreOf m (λ w. Sits number id l w.state w × (w.state.point ≡ TryOwnerLoad)) me me1
+      → KnowsMoreOf m (λ w. FindsTaken n (part me.0 m) w × Sits number id l w.state w) me me1
   found_taken n taken may first =
       let x = (part me.0 m).state in
       let p0 = try_begun x l may.rests may.flat may.charged in
       let p1 = first.3.state ∙ ap (λ (y : SeatState). (stepped_by y number n (oldest first.3.popped)).seat) p0 ∙ exchanged_taken (x.takes + 1) x.posts number n (oldest first.3.popped) taken in
-      (first.0, first.1, (first.2, ap (λ (z : SeatState). z.point) p1))
+      let deep : x.depth ≡ 0 = may.flat in
+      let trail = first.3.trail ∙ ap (λ (y : SeatState). (part me.0 m).trail ++ seen y.point n ∷ []) p0 in
+      let run = goes_on number id l (Begin.begin x l Call.TryLock).seat first.0.state (part me.0 m) first.0 n (sits_begun number id l (part me.0 m) may.sits Call.TryLock) first.2 first.3 in
+      (first.0, first.1, (record { trail = trail; state = p1 ∙ (λ i. made_of (sym deep i) (x.takes + 1) x.posts TryOwnerLoad); run = run }, first.2))
 
   -- what the second step of each requires of its part
   pub entering : (seats n : ℕ) → n ≡ 0 → (may : MayTry number id l (part me.0 m)) → StepsIn number id m l (Begin.begin (part me.0 m).state l Call.TryLock).seat me n me1
@@ -214,6 +222,37 @@ module _ (number id m : ℕ) (l : Limits) (me me1 me2 : Me ℕ PoolView) (here :
         ),
       )
 
-  pub went_on : (n k : ℕ) → StepsIn number id m l (Begin.begin (part me.0 m).state l Call.Unlock).seat me n me1 → StepsIn number id m l (part me1.0 m).state me1 k me2
-      → KnowsMoreOf m (λ w. Sits number id l w.state w) me me2
-  went_on n k first second = (second.0, both first.0 second.0 first.1 second.1, second.2)
+  -- unlock that has to serve another seat
+  pub left_to_serve : (n k : ℕ) → n ≡ 0 → k ≢ 1 → (holds : HoldsOnce number id l (part me.0 m)) → StepsIn number id m l (Begin.begin (part me.0 m).state l Call.Unlock).seat me n me1 → StepsIn number id m l (part me1.0 m).state me1 k me2
+      → KnowsMoreOf m (λ w. Serves number k (part me.0 m) w × Sits number id l w.state w) me me2
+  left_to_serve n k told more holds first second =
+      let x = (part me.0 m).state in
+      let now = part_now first.0 first.1 in
+      let p0 = unlock_begun x l holds.rests holds.once in
+      let p1 = released n holds first in
+      let listed1 : first.0.popped ≡ (part me.0 m).popped =
+      first.3.listed ∙ ap (λ (y : SeatState). popped_by_step y number n first.3.popped) p0 ∙ first.3.had (ap carries_value p0)
+      in
+      let listed2 : second.3.popped ≡ (part me.0 m).popped = second.3.had (ap carries_value p1) ∙ ap (λ (y : View ⊤). y.popped) now ∙ listed1 in
+      let p2 : second.0.state ≡ made_of 0 x.takes x.posts (take (Carrier.Releaser Unlocker) number (oldest (part me.0 m).popped)) =
+      second.3.state ∙ ap (λ (y : SeatState). (stepped_by y number k (oldest second.3.popped)).seat) p1 ∙ subtracted_more x.takes x.posts number k (oldest second.3.popped) more
+      ∙ ap (λ (r : List Record). made_of 0 x.takes x.posts (take (Carrier.Releaser Unlocker) number (oldest r))) listed2
+      in
+      let trail1 : first.0.trail ≡ (part me.0 m).trail ++ seen (ReleaseOwnerStore Unlocker) 0 ∷ [] =
+      first.3.trail ∙ ap (λ (y : Point × ℕ). (part me.0 m).trail ++ seen y.0 y.1 ∷ []) (λ i. (ap (λ (z : SeatState). z.point) p0 i, told i))
+      in
+      let trail2 : second.0.trail ≡ first.0.trail ++ seen (ReleaseCountSubtract Unlocker) k ∷ [] =
+      second.3.trail ∙ ap (λ (y : View ⊤ × Point). y.0.trail ++ seen y.1 k ∷ []) (λ i. (now i, ap (λ (z : SeatState). z.point) p1 i))
+      in (
+        second.0,
+        both first.0 second.0 first.1 second.1,
+        (
+          record {
+            trail = trail2 ∙ ap (λ ts. ts ++ seen (ReleaseCountSubtract Unlocker) k ∷ []) trail1 ∙ append_assoc (part me.0 m).trail (seen (ReleaseOwnerStore Unlocker) 0 ∷ []) (seen (ReleaseCountSubtract Unlocker) k ∷ []);
+            state = p2;
+            run = run_next (goes_on number id l (Begin.begin x l Call.Unlock).seat first.0.state (part me.0 m) first.0 n (sits_begun number id l (part me.0 m) holds.sits Call.Unlock) first.2 first.3)
+                (subst (λ (y : View ⊤). RunGoesOn y second.0) now (goes_on number id l (part me1.0 m).state second.0.state (part me1.0 m) second.0 k (subst (λ (y : View ⊤). Sits number id l y.state y) (sym now) first.2) second.2 second.3));
+          },
+          second.2,
+        ),
+      )

@@ -31,7 +31,7 @@ use Rattle.lfm_pool.specs.FastPaths.{KnowsMoreOf}
 use Rattle.lfm_pool.specs.Push.{LoadsHandoff, LoadsPush, Pushes, Steps}
 use Rattle.lfm_pool.specs.SeatWords.{StoresLink}
 use Rattle.lfm_pool.specs.Steps.{IsOwnAccessOf, Sits, StepsIn}
-use Rattle.lfm_pool.specs.Tables.{part, with_part}
+use Rattle.lfm_pool.specs.Tables.{part}
 use Rattle.lfm_pool.proofs.FastPaths.{both, goes_on, part_now}
 
 -- the seat after it has stored its link, and after the exchange has found n

@@ -1,6 +1,5 @@
 use Rattle.std.proofs.Common.{ℕ, ◌<◌, refl, sym, ◌∙◌, subst, arith}
 use Rattle.std.specs.Prelude.{length}
-use Rattle.lfm_words.specs.Words.{link_word}
 use Rattle.lfm_pool.specs.Seats.{state_of}
 use Rattle.lfm_pool.specs.Steps.{Sits, StepsIn}
 use Rattle.lfm_pool.specs.Tables.{part}

@@ -1,18 +1,23 @@
 -- The steps by which a lock puts its record into the queue.
-use Rattle.std.proofs.Common.{◌≡◌, ℕ, ◌+◌, ◌<◌, [], ◌∷◌, ◌++◌, length, nat_eq, if◌then◌else◌, refl, sym, ap, ◌∙◌, subst, arith, append_assoc, Option}
+use Rattle.std.proofs.Common.{◌≡◌, ℕ, ◌+◌, ◌<◌, List, [], ◌∷◌, ◌++◌, length, nat_eq, if◌then◌else◌, refl, sym, ap, ◌∙◌, subst, arith, append_assoc, Option}
 use Rattle.std.specs.Prelude.{⊤, Bool, true, false}
 use Rattle.atomic_table.specs.Table.{Me}
 use Rattle.lfm_words.specs.declared.links.Link.{Link}
 use Rattle.lfm_words.specs.declared.pop_lists.Record.{Record}
 use Rattle.lfm_words.specs.Popped.{oldest}
-use Rattle.lfm_words.specs.Words.{handoff_of, link_of, link_word}
+use Rattle.lfm_words.specs.Words.{handoff_of, handoff_word, link_of, link_word}
 use Rattle.lfm_model.specs.declared.answers.Asked.TheVariants as Asked
 use Rattle.lfm_protocol.specs.declared.answers.Answer.{Answer}
 use Rattle.lfm_protocol.specs.declared.answers.Turn.{Turn}
 use Rattle.lfm_protocol.specs.declared.answers.Turn.TheVariants.{Open, Ended}
 use Rattle.lfm_protocol.specs.Points.{kind}
 use Rattle.lfm_protocol.specs.declared.points.Sleeper.TheVariants as Sleeper
-use Rattle.lfm_protocol.specs.After.{same_link}
+use prog.Atomic.{either}
+use Rattle.lfm_words.specs.declared.handoffs.Handoff.{Handoff}
+use Rattle.lfm_protocol.specs.Stores.{expected_handoff_at}
+use Rattle.lfm_protocol.specs.declared.points.Carrier.{Carrier}
+use Rattle.lfm_laws.specs.table.Ready.{IsReady, PacksHandoff}
+use Rattle.lfm_protocol.specs.After.{same_handoff, same_link, take}
 use Rattle.lfm_protocol.specs.Begin.{Stepped}
 use Rattle.lfm_protocol.specs.declared.kinds.Kind.{Kind}
 use Rattle.lfm_protocol.specs.declared.limits.Limits.{Limits}
@@ -20,7 +25,7 @@ use Rattle.lfm_protocol.specs.declared.points.Point.{Point}
 use Rattle.lfm_protocol.specs.declared.points.Point.TheVariants.{Asleep, LinkStore, PushExchange, PushedHandoffLoad, PushedHandoffExchange}
 use Rattle.lfm_protocol.specs.declared.points.Pusher.{Pusher}
 use Rattle.lfm_protocol.specs.declared.seats.SeatState.{SeatState}
-use Rattle.lfm_laws.specs.table.Words.{stepped_by}
+use Rattle.lfm_laws.specs.table.Words.{popped_by_step, stepped_by}
 use Rattle.lfm_table.specs.declared.operations.Access.{Access}
 use Rattle.lfm_table.specs.declared.seat_view.View.{View}
 use Rattle.lfm_table.specs.Actions.{RunGoesOn, seen}
@@ -28,7 +33,7 @@ use Rattle.lfm_table.proofs.tables.Actions.{run_next}
 use Rattle.lfm_table.proofs.tables.StepFacts.{made_of}
 use Rattle.lfm_pool.specs.declared.view.PoolView.{PoolView}
 use Rattle.lfm_pool.specs.FastPaths.{KnowsMoreOf}
-use Rattle.lfm_pool.specs.Push.{LoadsHandoff, LoadsPush, Pushes, Steps}
+use Rattle.lfm_pool.specs.Push.{LoadsHandoff, LoadsPush, Pushes, Steps, TakesOver, TakesPost}
 use Rattle.lfm_pool.specs.SeatWords.{StoresLink}
 use Rattle.lfm_pool.specs.Steps.{IsOwnAccessOf, Sits, StepsIn}
 use Rattle.lfm_pool.specs.Tables.{part}
@@ -124,3 +129,41 @@ loads_push seats number p at = ((Kind.PushLoad, ap kind at, refl, (λ n. refl), 
 
 pub loads_handoff : (seats number : ℕ) (p : SeatState) → LoadsHandoff p → IsOwnAccessOf seats number p (Access.Load 2)
 loads_handoff seats number p at = ((Kind.HandoffLoad, ap kind at, refl, (λ n. refl), refl), omega arith)
+
+-- The exchange of the handoff word
+
+module _ (number : ℕ) (p : SeatState) (posted : Handoff) (at : TakesPost posted p) where
+  pub exchanges_handoff : (seats expected : ℕ) → expected ≡ handoff_word posted → IsOwnAccessOf seats number p (Access.CompareExchange 2 expected 0)
+  exchanges_handoff seats expected is_expected = (
+    (
+      Kind.HandoffExchange,
+      ap kind at,
+      refl,
+      (λ j. ap (λ (e : ℕ). either (nat_eq j e) 0 j) (is_expected ∙ ap (λ (q : Point). handoff_word (expected_handoff_at p number q)) (sym at))),
+      refl,
+    ),
+    omega arith,
+  )
+
+  pub packs_post : (seats : ℕ) → IsReady seats number p → PacksHandoff posted
+  packs_post seats ready = subst (λ (q : Point). PacksHandoff (expected_handoff_at p number q)) at ready.expected_handoff
+
+module _ (number id m : ℕ) (l : Limits) (me me1 : Me ℕ PoolView) (n : ℕ) (posted : Handoff) (at : TakesPost posted (part me.0 m).state) where
+  pub took_over : Sits number id l (part me.0 m).state (part me.0 m) → StepsIn number id m l (part me.0 m).state me n me1
+      → KnowsMoreOf m (λ w. TakesOver number posted n (part me.0 m) w × Sits number id l w.state w) me me1
+  took_over sits did =
+      let x = (part me.0 m).state in
+      let same : did.0.popped ≡ did.3.popped = did.3.listed ∙ ap (λ (y : Point). popped_by_step (made_of x.depth x.takes x.posts y) number n did.3.popped) at in (
+        did.0,
+        did.1,
+        (
+          record {
+            trail = did.3.trail ∙ ap (λ (y : Point). (part me.0 m).trail ++ seen y n ∷ []) at;
+            state = did.3.state ∙ ap (λ (y : Point). (stepped_by (made_of x.depth x.takes x.posts y) number n (oldest did.3.popped)).seat) at
+                ∙ seat_if (same_handoff (handoff_of n) posted) x.depth x.takes x.posts (take Carrier.Locker number (oldest did.3.popped)) (Asleep Sleeper.Locker) Open (Ended (Answer.Asked Asked.Asleep))
+                ∙ ap (λ (r : List Record). made_of x.depth x.takes x.posts (if same_handoff (handoff_of n) posted then take Carrier.Locker number (oldest r) else Asleep Sleeper.Locker)) (sym same);
+            run = goes_on number id l x did.0.state (part me.0 m) did.0 n sits did.2 did.3;
+          },
+          did.2,
+        ),
+      )

@@ -2,7 +2,10 @@
 use Rattle.std.specs.Prelude.{◌≡◌, ⊤, ℕ, ◌++◌, ◌+◌, [], ◌∷◌, nat_eq, if◌then◌else◌}
 use Rattle.lfm_words.specs.declared.links.Link.{Link}
 use Rattle.lfm_words.specs.Words.{handoff_of, link_of, link_word}
-use Rattle.lfm_protocol.specs.After.{same_link}
+use Rattle.lfm_words.specs.declared.handoffs.Handoff.{Handoff}
+use Rattle.lfm_words.specs.Popped.{oldest}
+use Rattle.lfm_protocol.specs.After.{same_handoff, same_link, take}
+use Rattle.lfm_protocol.specs.declared.points.Carrier.{Carrier}
 use Rattle.lfm_protocol.specs.declared.points.Point.{Point}
 use Rattle.lfm_protocol.specs.declared.points.Point.TheVariants.{Asleep, PushLoad, LinkStore, PushExchange, PushedHandoffLoad, PushedHandoffExchange}
 use Rattle.lfm_protocol.specs.declared.points.Pusher.{Pusher}
@@ -56,3 +59,20 @@ abbrev pub LoadsHandoffIn : PoolSeat → PoolSeat → Pool → ℕ → ℕ → T
 LoadsHandoffIn s t p m n =
     StepsFrom s t p m (PushedHandoffLoad Pusher.Locker) n
     (if nat_eq (handoff_of n).seat 0 then Asleep Sleeper.Locker else PushedHandoffExchange Pusher.Locker (handoff_of n))
+
+-- a lock has found this post after its push, and tries to take it over next
+abbrev pub TakesPost : Handoff → SeatState → Type 0
+TakesPost posted p = p.point ≡ PushedHandoffExchange Pusher.Locker posted
+
+-- The exchange of the handoff word found n. If that is the post that was loaded, the seat with this number has the
+-- responsibility: it serves the oldest record of the pop list, or collects the push list first if there is none. Else it sleeps.
+pub record TakesOver (number : ℕ) (posted : Handoff) (n : ℕ) (v w : View ⊤) : Type 0 where
+  pub trail : w.trail ≡ v.trail ++ seen (PushedHandoffExchange Pusher.Locker posted) n ∷ []
+  pub state : w.state
+      ≡ record v.state { point = if same_handoff (handoff_of n) posted then take Carrier.Locker number (oldest w.popped) else Asleep Sleeper.Locker }
+  pub run : RunGoesOn v w
+
+-- from s to t the seat has made that exchange in mutex m
+abbrev pub TakesOverIn : PoolSeat → PoolSeat → Pool → ℕ → Handoff → ℕ → Type 0
+TakesOverIn s t p m posted n =
+    KnowsMoreOf m (λ w. TakesOver s.number posted n (part s.place.me.0 m) w × Sits s.number s.place.id p.limits w.state w) s.place.me t.place.me

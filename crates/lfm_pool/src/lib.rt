@@ -4,8 +4,8 @@
 //!
 //! The crate has the rule that the words of a pool keep, the opening of a pool with its seats, each step on the words of a
 //! mutex and on the link and wake words of seats, and two calls: one acquires a mutex that is free, the other gives up the
-//! only hold of a mutex that no other seat wants. No call uses the steps on the words of seats yet, so a seat can't queue or
-//! sleep.
+//! only hold of a mutex that no other seat wants. No call uses the steps by which a seat queues, serves another and receives,
+//! so a seat can't queue or sleep yet.
 #![tactic(auto)]
 
 mod accesses;

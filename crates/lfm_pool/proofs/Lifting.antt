@@ -51,8 +51,8 @@ module _ (id m : ℕ) (v : PoolView) (here : m < length v.parts) (elsewhere : Re
         ])
         ∙ sym (quiet_wake (h.tables m) (h.kept m within) h.seats id (part v m) (h.sized m within) mine rest)
 
-  -- The step writes x into the word at this index of the pool, and into the same word at the table of m. The seat's view of m
-  -- is w after it.
+  -- The step writes x into the word at this index of the pool, and into the same word at the table of m. The seat's view of
+  -- m is w after it.
   module _ (index word x : ℕ) (slots : List (ℕ × Slot)) (w : View ⊤) (a : Act Slot) (kept : IsKept (stepped (h.tables m) word x id slots w a)) (is : IsWordAt h.mutexes h.seats m index word)
       (linked : has_link w ≡ true → (has_link (part v m) ≡ true) ⊎ (link_at h.mutexes id ≡ index)) (target : (j : ℕ) → IsOfSeat h.mutexes index j → IsBusyIn s id m j) where
     abbrev q : MutexTable

@@ -120,8 +120,8 @@ module _ (id m number mutexes seats : ℕ) (me : Me ℕ PoolView) (p : SeatState
 
     -- What the pool needs of it
 
-    -- the step does the same with the pool's word as with the table's; it gains a link by storing it; and the seat whose word it
-    -- is does not rest in the mutex
+    -- the step does the same with the pool's word as with the table's; it gains a link by storing it; and the seat whose
+    -- word it is does not rest in the mutex
     abbrev Lifts : Type 0
     Lifts = ((f found ≡ f found_there) × (k found ≡ k found_there)) × ((n : ℕ) (o : Option Record) → has_link_at (stepped_by p number n o).seat.point ≡ true → (has_link_at p.point ≡ true) ⊎ (link_at h.mutexes id ≡ X))
         × ((j : ℕ) → IsOfSeat h.mutexes X j → IsBusyIn s id m j)

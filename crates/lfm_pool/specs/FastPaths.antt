@@ -28,8 +28,8 @@ pub record HoldsOnce (number id : ℕ) (l : Limits) (v : View ⊤) : Type 0 wher
   pub rests : v.state.point ≡ Rest
   pub once : v.state.depth ≡ 1
 
--- the seat with this number has acquired a free mutex by a try_lock: the exchange found the count at 0, and then it stored its
--- number as the owner
+-- the seat with this number has acquired a free mutex by a try_lock: the exchange found the count at 0, and then it stored
+-- its number as the owner
 pub record Enters (number : ℕ) (v w : View ⊤) : Type 0 where
   pub trail : w.trail
       ≡ v.trail ++ (seen TryCountExchange 0 ∷ seen (EnterOwnerStore Entrant.Trier How.Free) number ∷ [])

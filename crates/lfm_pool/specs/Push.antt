@@ -19,8 +19,8 @@ use Rattle.lfm_pool.specs.FastPaths.{KnowsMoreOf}
 use Rattle.lfm_pool.specs.Steps.{Sits}
 use Rattle.lfm_pool.specs.Tables.{part}
 
--- The seat, which had loaded the push word `loaded`, has stored its link, and its exchange has found n. Its record was pushed
--- if that is the word that it had loaded; else it has loaded n.
+-- The seat, which had loaded the push word `loaded`, has stored its link, and its exchange has found n. Its record was
+-- pushed if that is the word that it had loaded; else it has loaded n.
 pub record Pushes (loaded : Link) (n : ℕ) (v w : View ⊤) : Type 0 where
   pub trail : w.trail
       ≡ v.trail ++ (seen (LinkStore Pusher.Locker loaded) (link_word (record { stamp = loaded.stamp + 1; next = loaded.next })) ∷ seen (PushExchange Pusher.Locker loaded) n ∷ [])
@@ -65,7 +65,8 @@ abbrev pub TakesPost : Handoff → SeatState → Type 0
 TakesPost posted p = p.point ≡ PushedHandoffExchange Pusher.Locker posted
 
 -- The exchange of the handoff word found n. If that is the post that was loaded, the seat with this number has the
--- responsibility: it serves the oldest record of the pop list, or collects the push list first if there is none. Else it sleeps.
+-- responsibility: it serves the oldest record of the pop list, or collects the push list first if there is none. Else it
+-- sleeps.
 pub record TakesOver (number : ℕ) (posted : Handoff) (n : ℕ) (v w : View ⊤) : Type 0 where
   pub trail : w.trail ≡ v.trail ++ seen (PushedHandoffExchange Pusher.Locker posted) n ∷ []
   pub state : w.state

@@ -35,8 +35,8 @@ pub fn enter_if_free(pool: &Pool, seat: &mut PoolSeat, mutex: usize) -> u64
 
 /// Begins an `unlock` of this mutex and makes its first two steps: it stores that there is no owner, and subtracts itself
 /// from the count. Returns the count that it found. If that is 1, no other seat wanted the mutex: it is free, the call has
-/// ended, and the seat rests here without a hold. If it is another number, the call is open, and its next step grants the oldest
-/// record of the pop list, or clears the head of the push word if there is none.
+/// ended, and the seat rests here without a hold. If it is another number, the call is open, and its next step grants the
+/// oldest record of the pop list, or clears the head of the push word if there is none.
 ///
 /// The seat has to rest in all mutexes, and to hold this one once. It may hold other mutexes. Nothing changes in them, nor
 /// in what the seat knows of them. It allocates nothing and does not wait.

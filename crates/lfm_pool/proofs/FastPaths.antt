@@ -1,26 +1,24 @@
 -- The fast paths of a pool's calls, each as its two steps.
-use Rattle.std.proofs.Common.{◌≡◌, ◌≢◌, ℕ, ◌+◌, ◌*◌, ◌<◌, [], ◌∷◌, ◌++◌, length, nat_eq, nat_lt, if◌then◌else◌, refl, sym, ap, ◌∙◌, subst, arith, tests, length-set, append_assoc, Option, Some, None}
-use Rattle.std.specs.Prelude.{⊤, Bool, true, false}
+use Rattle.std.proofs.Common.{◌≡◌, ◌≢◌, ℕ, ◌+◌, ◌*◌, ◌<◌, List, [], ◌∷◌, ◌++◌, length, nat_lt, refl, sym, ap, ◌∙◌, subst, arith, tests, length-set, append_assoc, Option}
+use Rattle.std.specs.Prelude.{⊤, Bool, true}
 use Rattle.std.proofs.lemmas.Bool.{ne_eqb}
 use Rattle.std.proofs.lemmas.List.{set-set}
 use Rattle.atomic_table.specs.Table.{Me}
 use Rattle.lfm_model.specs.declared.answers.How.{How}
 use Rattle.lfm_words.specs.declared.pop_lists.Record.{Record}
 use Rattle.lfm_protocol.specs.declared.answers.Call.{Call}
-use Rattle.lfm_protocol.specs.declared.answers.Answer.TheVariants as Answer
-use Rattle.lfm_model.specs.declared.answers.Unlocked.TheVariants as Unlocked
 use Rattle.lfm_protocol.specs.declared.kinds.Kind.{Kind}
 use Rattle.lfm_protocol.specs.declared.limits.Limits.{Limits}
+use Rattle.lfm_protocol.specs.After.{take}
 use Rattle.lfm_protocol.specs.declared.points.Carrier.{Carrier}
 use Rattle.lfm_protocol.specs.declared.points.Entrant.{Entrant}
 use Rattle.lfm_protocol.specs.declared.points.Point.{Point}
 use Rattle.lfm_protocol.specs.declared.points.Point.TheVariants.{Rest, TryCountExchange, TryOwnerLoad, EnterOwnerStore, ReleaseOwnerStore, ReleaseCountSubtract}
 use Rattle.lfm_protocol.specs.declared.points.Releaser.TheVariants.{Unlocker}
 use Rattle.lfm_protocol.specs.declared.seats.SeatState.{SeatState}
-use Rattle.lfm_protocol.specs.After.{drops_oldest, take}
 use Rattle.lfm_protocol.specs.Begin as Begin
 use Rattle.lfm_laws.specs.table.Carried.{carries_value}
-use Rattle.lfm_laws.specs.table.Words.{stepped_by}
+use Rattle.lfm_laws.specs.table.Words.{popped_by_step, stepped_by}
 use Rattle.lfm_table.specs.declared.operations.Access.{Access}
 use Rattle.lfm_table.specs.declared.seat_view.View.{View}
 use Rattle.lfm_table.specs.Actions.{RunGoesOn, seen}
@@ -30,10 +28,11 @@ use Rattle.lfm_table.proofs.tables.Actions.{run_by, run_next, step_last}
 use Rattle.lfm_table.proofs.tables.Started as Started
 use Rattle.lfm_table.proofs.tables.StepFacts.{begin_keeps, made_of}
 use Rattle.lfm_pool.specs.declared.view.PoolView.{PoolView}
-use Rattle.lfm_pool.specs.Tables.{part, with_part, has_link_at}
-use Rattle.lfm_pool.specs.Steps.{hand_if, hand_of, IsAccessOf, LeadsToNoLink, RestsElsewhere, Sits, Stepped, StepsIn}
-use Rattle.lfm_pool.specs.FastPaths.{MayTry, HoldsOnce, Enters, Leaves, KnowsMoreOf}
-use Rattle.lfm_pool.proofs.Steps.{part_same, part_other}
+use Rattle.lfm_pool.specs.Tables.{part, with_part}
+use Rattle.lfm_words.specs.Popped.{oldest}
+use Rattle.lfm_pool.specs.Steps.{hand_if, hand_of, IsOwnAccessOf, RestsElsewhere, Sits, Stepped, StepsIn}
+use Rattle.lfm_pool.specs.FastPaths.{MayTry, HoldsOnce, Enters, FindsTaken, Leaves, KnowsMoreOf, Serves}
+use Rattle.lfm_pool.proofs.LoneTables.{part_same, part_other}
 
 -- Views
 
@@ -69,35 +68,18 @@ unlock_begun x l rests once = ap (λ (y : SeatState). (Begin.begin y l Call.Unlo
 
 -- What each step requires of its point
 
--- the access is that of the point, takes no record out of the pop list, and leads to no point with a link
-abbrev pub IsOwnStep : ℕ → ℕ → SeatState → Access → Type 0
-IsOwnStep seats number p a = IsAccessOf seats number p a × (drops_oldest p ≡ false) × LeadsToNoLink number p
-
-unlinked_if : (b : Bool) (p q : Point) → has_link_at p ≡ false → has_link_at q ≡ false → has_link_at (if b then p else q) ≡ false
-unlinked_if true p q e f = e
-unlinked_if false p q e f = f
-
-pub exchanges : (seats number t ps : ℕ) → IsOwnStep seats number (made_of 0 t ps TryCountExchange) (Access.CompareExchange 0 0 1)
+pub exchanges : (seats number t ps : ℕ) → IsOwnAccessOf seats number (made_of 0 t ps TryCountExchange) (Access.CompareExchange 0 0 1)
 exchanges seats number t ps =
-    ((Kind.CountExchange, refl, refl, omega arith, (λ n. refl), refl), refl, λ n o. unlinked_if (nat_eq n 0) (EnterOwnerStore Entrant.Trier How.Free) TryOwnerLoad refl refl)
+    ((Kind.CountExchange, refl, refl, (λ n. refl), refl), omega arith)
 
-pub enters : (seats number t ps : ℕ) → IsOwnStep seats number (made_of 0 t ps (EnterOwnerStore Entrant.Trier How.Free)) (Access.Store 1 number)
-enters seats number t ps = ((Kind.OwnerStore, refl, refl, omega arith, (λ n. refl), refl), refl, λ n o. refl)
+pub enters : (seats number t ps : ℕ) → IsOwnAccessOf seats number (made_of 0 t ps (EnterOwnerStore Entrant.Trier How.Free)) (Access.Store 1 number)
+enters seats number t ps = ((Kind.OwnerStore, refl, refl, (λ n. refl), refl), omega arith)
 
-pub gives_up : (seats number t ps : ℕ) → IsOwnStep seats number (made_of 1 t ps (ReleaseOwnerStore Unlocker)) (Access.Store 1 0)
-gives_up seats number t ps = ((Kind.OwnerStore, refl, refl, omega arith, (λ n. refl), refl), refl, λ n o. refl)
+pub gives_up : (seats number t ps : ℕ) → IsOwnAccessOf seats number (made_of 1 t ps (ReleaseOwnerStore Unlocker)) (Access.Store 1 0)
+gives_up seats number t ps = ((Kind.OwnerStore, refl, refl, (λ n. refl), refl), omega arith)
 
-unlinked_take : (s : ℕ) (o : Option Record) → has_link_at (take (Carrier.Releaser Unlocker) s o) ≡ false
-unlinked_take s None = refl
-unlinked_take s (Some r) = refl
-
-subtract_by : (b : Bool) (t ps s : ℕ) (o : Option Record)
-    → has_link_at (if b then Begin.ends (made_of 0 t ps (ReleaseCountSubtract Unlocker)) (Answer.Unlocked Unlocked.Free) else Begin.goes_on (made_of 0 t ps (ReleaseCountSubtract Unlocker)) (take (Carrier.Releaser Unlocker) s o)).seat.point ≡ false
-subtract_by true t ps s o = refl
-subtract_by false t ps s o = unlinked_take s o
-
-pub subtracts : (seats number t ps : ℕ) → IsOwnStep seats number (made_of 0 t ps (ReleaseCountSubtract Unlocker)) (Access.FetchSub 0 1)
-subtracts seats number t ps = ((Kind.CountSubtract, refl, refl, omega arith, (λ n. refl), refl), refl, λ n o. subtract_by (nat_eq n 1) t ps number o)
+pub subtracts : (seats number t ps : ℕ) → IsOwnAccessOf seats number (made_of 0 t ps (ReleaseCountSubtract Unlocker)) (Access.FetchSub 0 1)
+subtracts seats number t ps = ((Kind.CountSubtract, refl, refl, (λ n. refl), refl), omega arith)
 
 -- Where each step leads
 
@@ -109,6 +91,9 @@ exchanged_taken t ps s n o e = let h = ne_eqb n 0 e in rw h refl
 
 pub subtracted_last : (t ps s n : ℕ) (o : Option Record) → n ≡ 1 → (stepped_by (made_of 0 t ps (ReleaseCountSubtract Unlocker)) s n o).seat ≡ made_of 0 t ps Rest
 subtracted_last t ps s n o e = rw e refl
+
+pub subtracted_more : (t ps s n : ℕ) (o : Option Record) → n ≢ 1 → (stepped_by (made_of 0 t ps (ReleaseCountSubtract Unlocker)) s n o).seat ≡ made_of 0 t ps (take (Carrier.Releaser Unlocker) s o)
+subtracted_more t ps s n o e = let h = ne_eqb n 1 e in rw h refl
 
 -- The run
 
@@ -144,10 +129,10 @@ module _ (number id m : ℕ) (l : Limits) (me me1 me2 : Me ℕ PoolView) (here :
       let now = part_now first.0 first.1 in
       let p0 = try_begun x l may.rests may.flat may.charged in
       let p1 : first.0.state ≡ made_of 0 (x.takes + 1) x.posts (EnterOwnerStore Entrant.Trier How.Free) =
-      first.3.state ∙ ap (λ (y : SeatState). (stepped_by y number n first.3.oldest).seat) p0 ∙ exchanged_free (x.takes + 1) x.posts number n first.3.oldest free
+      first.3.state ∙ ap (λ (y : SeatState). (stepped_by y number n (oldest first.3.popped)).seat) p0 ∙ exchanged_free (x.takes + 1) x.posts number n (oldest first.3.popped) free
       in
       let p1' : (part me1.0 m).state ≡ made_of 0 (x.takes + 1) x.posts (EnterOwnerStore Entrant.Trier How.Free) = ap (λ (y : View ⊤). y.state) now ∙ p1 in
-      let p2 : second.0.state ≡ made_of 1 (x.takes + 1) x.posts Rest = second.3.state ∙ ap (λ (y : SeatState). (stepped_by y number k second.3.oldest).seat) p1' in
+      let p2 : second.0.state ≡ made_of 1 (x.takes + 1) x.posts Rest = second.3.state ∙ ap (λ (y : SeatState). (stepped_by y number k (oldest second.3.popped)).seat) p1' in
       let trail1 : first.0.trail ≡ (part me.0 m).trail ++ seen TryCountExchange 0 ∷ [] = first.3.trail ∙ ap (λ (y : Point × ℕ). (part me.0 m).trail ++ seen y.0 y.1 ∷ []) (λ i. (ap (λ (z : SeatState). z.point) p0 i, free i)) in
       let trail2 : second.0.trail ≡ first.0.trail ++ seen (EnterOwnerStore Entrant.Trier How.Free) k ∷ [] =
       second.3.trail ∙ ap (λ (y : View ⊤ × Point). y.0.trail ++ seen y.1 k ∷ []) (λ i. (now i, ap (λ (z : SeatState). z.point) p1' i))
@@ -170,42 +155,45 @@ module _ (number id m : ℕ) (l : Limits) (me me1 me2 : Me ℕ PoolView) (here :
       )
 
   pub found_taken : (n : ℕ) → n ≢ 0 → (may : MayTry number id l (part me.0 m)) → StepsIn number id m l (Begin.begin (part me.0 m).state l Call.TryLock).seat me n me1
-      → KnowsMoreOf m (λ w. Sits number id l w.state w × (w.state.point ≡ TryOwnerLoad)) me me1
+      → KnowsMoreOf m (λ w. FindsTaken n (part me.0 m) w × Sits number id l w.state w) me me1
   found_taken n taken may first =
       let x = (part me.0 m).state in
       let p0 = try_begun x l may.rests may.flat may.charged in
-      let p1 = first.3.state ∙ ap (λ (y : SeatState). (stepped_by y number n first.3.oldest).seat) p0 ∙ exchanged_taken (x.takes + 1) x.posts number n first.3.oldest taken in
-      (first.0, first.1, (first.2, ap (λ (z : SeatState). z.point) p1))
+      let p1 = first.3.state ∙ ap (λ (y : SeatState). (stepped_by y number n (oldest first.3.popped)).seat) p0 ∙ exchanged_taken (x.takes + 1) x.posts number n (oldest first.3.popped) taken in
+      let deep : x.depth ≡ 0 = may.flat in
+      let trail = first.3.trail ∙ ap (λ (y : SeatState). (part me.0 m).trail ++ seen y.point n ∷ []) p0 in
+      let run = goes_on number id l (Begin.begin x l Call.TryLock).seat first.0.state (part me.0 m) first.0 n (sits_begun number id l (part me.0 m) may.sits Call.TryLock) first.2 first.3 in
+      (first.0, first.1, (record { trail = trail; state = p1 ∙ (λ i. made_of (sym deep i) (x.takes + 1) x.posts TryOwnerLoad); run = run }, first.2))
 
   -- what the second step of each requires of its part
   pub entering : (seats n : ℕ) → n ≡ 0 → (may : MayTry number id l (part me.0 m)) → StepsIn number id m l (Begin.begin (part me.0 m).state l Call.TryLock).seat me n me1
-      → IsOwnStep seats number (part me1.0 m).state (Access.Store 1 number)
+      → IsOwnAccessOf seats number (part me1.0 m).state (Access.Store 1 number)
   entering seats n free may first =
       let x = (part me.0 m).state in
       let p0 = try_begun x l may.rests may.flat may.charged in
-      let p1 = ap (λ (y : View ⊤). y.state) (part_now first.0 first.1) ∙ first.3.state ∙ ap (λ (y : SeatState). (stepped_by y number n first.3.oldest).seat) p0 ∙ exchanged_free (x.takes + 1) x.posts number n first.3.oldest free in
-      subst (λ (y : SeatState). IsOwnStep seats number y (Access.Store 1 number)) (sym p1) (enters seats number (x.takes + 1) x.posts)
+      let p1 = ap (λ (y : View ⊤). y.state) (part_now first.0 first.1) ∙ first.3.state ∙ ap (λ (y : SeatState). (stepped_by y number n (oldest first.3.popped)).seat) p0 ∙ exchanged_free (x.takes + 1) x.posts number n (oldest first.3.popped) free in
+      subst (λ (y : SeatState). IsOwnAccessOf seats number y (Access.Store 1 number)) (sym p1) (enters seats number (x.takes + 1) x.posts)
 
-  pub trying : (seats : ℕ) → MayTry number id l (part me.0 m) → IsOwnStep seats number (Begin.begin (part me.0 m).state l Call.TryLock).seat (Access.CompareExchange 0 0 1)
+  pub trying : (seats : ℕ) → MayTry number id l (part me.0 m) → IsOwnAccessOf seats number (Begin.begin (part me.0 m).state l Call.TryLock).seat (Access.CompareExchange 0 0 1)
   trying seats may =
       let x = (part me.0 m).state in
-      subst (λ (y : SeatState). IsOwnStep seats number y (Access.CompareExchange 0 0 1)) (sym (try_begun x l may.rests may.flat may.charged)) (exchanges seats number (x.takes + 1) x.posts)
+      subst (λ (y : SeatState). IsOwnAccessOf seats number y (Access.CompareExchange 0 0 1)) (sym (try_begun x l may.rests may.flat may.charged)) (exchanges seats number (x.takes + 1) x.posts)
 
-  pub releasing : (seats : ℕ) → HoldsOnce number id l (part me.0 m) → IsOwnStep seats number (Begin.begin (part me.0 m).state l Call.Unlock).seat (Access.Store 1 0)
+  pub releasing : (seats : ℕ) → HoldsOnce number id l (part me.0 m) → IsOwnAccessOf seats number (Begin.begin (part me.0 m).state l Call.Unlock).seat (Access.Store 1 0)
   releasing seats holds =
       let x = (part me.0 m).state in
-      subst (λ (y : SeatState). IsOwnStep seats number y (Access.Store 1 0)) (sym (unlock_begun x l holds.rests holds.once)) (gives_up seats number x.takes x.posts)
+      subst (λ (y : SeatState). IsOwnAccessOf seats number y (Access.Store 1 0)) (sym (unlock_begun x l holds.rests holds.once)) (gives_up seats number x.takes x.posts)
 
   pub released : (n : ℕ) → HoldsOnce number id l (part me.0 m) → StepsIn number id m l (Begin.begin (part me.0 m).state l Call.Unlock).seat me n me1
       → (part me1.0 m).state ≡ made_of 0 (part me.0 m).state.takes (part me.0 m).state.posts (ReleaseCountSubtract Unlocker)
   released n holds first =
       let x = (part me.0 m).state in
-      ap (λ (y : View ⊤). y.state) (part_now first.0 first.1) ∙ first.3.state ∙ ap (λ (y : SeatState). (stepped_by y number n first.3.oldest).seat) (unlock_begun x l holds.rests holds.once)
+      ap (λ (y : View ⊤). y.state) (part_now first.0 first.1) ∙ first.3.state ∙ ap (λ (y : SeatState). (stepped_by y number n (oldest first.3.popped)).seat) (unlock_begun x l holds.rests holds.once)
 
   pub subtracting : (seats n : ℕ) → HoldsOnce number id l (part me.0 m) → StepsIn number id m l (Begin.begin (part me.0 m).state l Call.Unlock).seat me n me1
-      → IsOwnStep seats number (part me1.0 m).state (Access.FetchSub 0 1)
+      → IsOwnAccessOf seats number (part me1.0 m).state (Access.FetchSub 0 1)
   subtracting seats n holds first =
-      subst (λ (y : SeatState). IsOwnStep seats number y (Access.FetchSub 0 1)) (sym (released n holds first)) (subtracts seats number (part me.0 m).state.takes (part me.0 m).state.posts)
+      subst (λ (y : SeatState). IsOwnAccessOf seats number y (Access.FetchSub 0 1)) (sym (released n holds first)) (subtracts seats number (part me.0 m).state.takes (part me.0 m).state.posts)
 
   -- unlock that leaves the mutex free
   pub left_free : (n k : ℕ) → n ≡ 0 → k ≡ 1 → (holds : HoldsOnce number id l (part me.0 m)) → StepsIn number id m l (Begin.begin (part me.0 m).state l Call.Unlock).seat me n me1 → StepsIn number id m l (part me1.0 m).state me1 k me2
@@ -215,7 +203,7 @@ module _ (number id m : ℕ) (l : Limits) (me me1 me2 : Me ℕ PoolView) (here :
       let now = part_now first.0 first.1 in
       let p0 = unlock_begun x l holds.rests holds.once in
       let p1 = released n holds first in
-      let p2 : second.0.state ≡ made_of 0 x.takes x.posts Rest = second.3.state ∙ ap (λ (y : SeatState). (stepped_by y number k second.3.oldest).seat) p1 ∙ subtracted_last x.takes x.posts number k second.3.oldest last in
+      let p2 : second.0.state ≡ made_of 0 x.takes x.posts Rest = second.3.state ∙ ap (λ (y : SeatState). (stepped_by y number k (oldest second.3.popped)).seat) p1 ∙ subtracted_last x.takes x.posts number k (oldest second.3.popped) last in
       let trail1 : first.0.trail ≡ (part me.0 m).trail ++ seen (ReleaseOwnerStore Unlocker) n ∷ [] = first.3.trail ∙ ap (λ (y : Point). (part me.0 m).trail ++ seen y n ∷ []) (ap (λ (z : SeatState). z.point) p0) in
       let trail2 : second.0.trail ≡ first.0.trail ++ seen (ReleaseCountSubtract Unlocker) 1 ∷ [] =
       second.3.trail ∙ ap (λ (y : View ⊤ × Point × ℕ). y.0.trail ++ seen y.1 y.2 ∷ []) (λ i. (now i, ap (λ (z : SeatState). z.point) p1 i, last i))
@@ -234,6 +222,37 @@ module _ (number id m : ℕ) (l : Limits) (me me1 me2 : Me ℕ PoolView) (here :
         ),
       )
 
-  pub went_on : (n k : ℕ) → StepsIn number id m l (Begin.begin (part me.0 m).state l Call.Unlock).seat me n me1 → StepsIn number id m l (part me1.0 m).state me1 k me2
-      → KnowsMoreOf m (λ w. Sits number id l w.state w) me me2
-  went_on n k first second = (second.0, both first.0 second.0 first.1 second.1, second.2)
+  -- unlock that has to serve another seat
+  pub left_to_serve : (n k : ℕ) → n ≡ 0 → k ≢ 1 → (holds : HoldsOnce number id l (part me.0 m)) → StepsIn number id m l (Begin.begin (part me.0 m).state l Call.Unlock).seat me n me1 → StepsIn number id m l (part me1.0 m).state me1 k me2
+      → KnowsMoreOf m (λ w. Serves number k (part me.0 m) w × Sits number id l w.state w) me me2
+  left_to_serve n k told more holds first second =
+      let x = (part me.0 m).state in
+      let now = part_now first.0 first.1 in
+      let p0 = unlock_begun x l holds.rests holds.once in
+      let p1 = released n holds first in
+      let listed1 : first.0.popped ≡ (part me.0 m).popped =
+      first.3.listed ∙ ap (λ (y : SeatState). popped_by_step y number n first.3.popped) p0 ∙ first.3.had (ap carries_value p0)
+      in
+      let listed2 : second.3.popped ≡ (part me.0 m).popped = second.3.had (ap carries_value p1) ∙ ap (λ (y : View ⊤). y.popped) now ∙ listed1 in
+      let p2 : second.0.state ≡ made_of 0 x.takes x.posts (take (Carrier.Releaser Unlocker) number (oldest (part me.0 m).popped)) =
+      second.3.state ∙ ap (λ (y : SeatState). (stepped_by y number k (oldest second.3.popped)).seat) p1 ∙ subtracted_more x.takes x.posts number k (oldest second.3.popped) more
+      ∙ ap (λ (r : List Record). made_of 0 x.takes x.posts (take (Carrier.Releaser Unlocker) number (oldest r))) listed2
+      in
+      let trail1 : first.0.trail ≡ (part me.0 m).trail ++ seen (ReleaseOwnerStore Unlocker) 0 ∷ [] =
+      first.3.trail ∙ ap (λ (y : Point × ℕ). (part me.0 m).trail ++ seen y.0 y.1 ∷ []) (λ i. (ap (λ (z : SeatState). z.point) p0 i, told i))
+      in
+      let trail2 : second.0.trail ≡ first.0.trail ++ seen (ReleaseCountSubtract Unlocker) k ∷ [] =
+      second.3.trail ∙ ap (λ (y : View ⊤ × Point). y.0.trail ++ seen y.1 k ∷ []) (λ i. (now i, ap (λ (z : SeatState). z.point) p1 i))
+      in (
+        second.0,
+        both first.0 second.0 first.1 second.1,
+        (
+          record {
+            trail = trail2 ∙ ap (λ ts. ts ++ seen (ReleaseCountSubtract Unlocker) k ∷ []) trail1 ∙ append_assoc (part me.0 m).trail (seen (ReleaseOwnerStore Unlocker) 0 ∷ []) (seen (ReleaseCountSubtract Unlocker) k ∷ []);
+            state = p2;
+            run = run_next (goes_on number id l (Begin.begin x l Call.Unlock).seat first.0.state (part me.0 m) first.0 n (sits_begun number id l (part me.0 m) holds.sits Call.Unlock) first.2 first.3)
+                (subst (λ (y : View ⊤). RunGoesOn y second.0) now (goes_on number id l (part me1.0 m).state second.0.state (part me1.0 m) second.0 k (subst (λ (y : View ⊤). Sits number id l y.state y) (sym now) first.2) second.2 second.3));
+          },
+          second.2,
+        ),
+      )

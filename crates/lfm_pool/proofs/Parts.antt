@@ -1,36 +1,22 @@
 -- A step of a seat in one mutex, by what holds of its part of the view.
-use Rattle.std.proofs.Common.{◌≡◌, ℕ, ◌+◌, ◌*◌, ◌<◌, List, ◌∷◌, refl, sym, ap, ◌∙◌, subst, arith, Some, None}
+use Rattle.std.proofs.Common.{◌≡◌, ℕ, ◌+◌, ◌*◌, List, ◌∷◌, refl, sym, ap, ◌∙◌, subst, Some, None}
 use Rattle.std.specs.Prelude.{⊤, Bool, true, false}
 use Rattle.std.proofs.lemmas.Bool.{false≢true}
 use Rattle.atomic_table.specs.Table.{Me, rest}
-use Rattle.lfm_protocol.specs.declared.kinds.Kind.{Kind}
 use Rattle.lfm_protocol.specs.declared.limits.Limits.{Limits}
 use Rattle.lfm_protocol.specs.declared.seats.SeatState.{SeatState}
-use Rattle.lfm_protocol.specs.After.{drops_oldest}
-use Rattle.lfm_protocol.specs.Points.{kind, target}
 use Rattle.lfm_laws.specs.table.Carried.{carries_value}
-use Rattle.lfm_laws.specs.table.Words.{index_by, stepped_by}
+use Rattle.lfm_laws.specs.table.Words.{stepped_by, popped_by_step}
 use Rattle.lfm_words.specs.Popped.{oldest}
-use Rattle.lfm_table.specs.declared.operations.Access.{Access}
 use Rattle.lfm_table.specs.declared.seat_view.View.{View}
 use Rattle.lfm_table.specs.declared.rule.Moving.{Moving}
 use Rattle.lfm_table.specs.FastPath.{Fit}
 use Rattle.lfm_table.specs.Rule.{Advanced, in_hand, is_carried}
 use Rattle.lfm_table.specs.Actions.{RunGoesOnBy, begins_and_step}
-use Rattle.lfm_table.specs.Steps as Steps
-use Rattle.lfm_table.specs.Steps.{CanMake, gives_at, kept_out, put_in, add_by, with_record, Took, oldest_in}
-use Rattle.lfm_table.proofs.tables.FastPathSteps.{adds_no_record, adds_same, drops_same}
+use Rattle.lfm_table.specs.Steps.{CanMake, gives_at, dropped, kept_out, with_record, Took, oldest_in}
 use Rattle.lfm_table.proofs.tables.SeatKept as Kept
 use Rattle.lfm_pool.specs.Tables.{any_follows, any_fits, Slot}
-use Rattle.lfm_pool.specs.Steps.{IsAccessOf, hand_if, hand_of, hand_out, slots_out, Sits, Stepped}
-
--- an access to a word of a mutex adds no record to its pop list
-straight_by : (seats t : ℕ) (k : Kind) → index_by seats t (Some k) < 4 → 0 < t → adds_no_record k ≡ true
-straight_by seats t Kind.LinkLoad low some = absurd (omega (arith, low, some))
-straight_by seats t _ low some = refl
-
-pub own_straight : (seats number : ℕ) (p : SeatState) (a : Access) (is : IsAccessOf seats number p a) → 0 < target p.point number → adds_no_record is.0 ≡ true
-own_straight seats number p a is some = straight_by seats (target p.point number) is.0 (subst (λ (i : ℕ). i < 4) is.2 is.3) some
+use Rattle.lfm_pool.specs.Steps.{hand_if, hand_of, hand_out, slots_out, Sits, Stepped}
 
 -- A seat with nothing of a mutex, or with its pop list and no value, has what its view says
 
@@ -44,38 +30,36 @@ hand_by true seats v None carried listed room = absurd (false≢true carried)
 hand_by false seats v (Some x) carried listed room = absurd (false≢true (sym carried))
 hand_by false seats v None carried listed room = refl
 
-module _ (number id : ℕ) (l : Limits) (p : SeatState) (v : View ⊤) (sits : Sits number id l p v) (k : Kind) (is : kind p.point ≡ Some k) (straight : adds_no_record k ≡ true) (keeps : drops_oldest p ≡ false) where
+module _ (number id : ℕ) (l : Limits) (p : SeatState) (v : View ⊤) (sits : Sits number id l p v) where
   abbrev a1 : Slot
-  a1 = kept_out (gives_at p.point) (hand_of l.seats p v)
+  a1 = kept_out (gives_at p.point) (dropped p (hand_of l.seats p v))
 
   abbrev m0 : Me Slot (View ⊤)
   m0 = (v, slots_out l.seats p v)
 
-  out : kept_out (gives_at p.point) (hand_of l.seats p v) ≡ kept_out (gives_at p.point) (Steps.dropped p (hand_of l.seats p v))
-  out = ap (λ (z : Slot). kept_out (gives_at p.point) z) (drops_same p (hand_of l.seats p v) keeps)
-
-  put : ◌≡◌ {A = Me Slot (View ⊤)} (v, slots_out l.seats p v) (v, put_in (gives_at p.point) (Steps.dropped p (hand_of l.seats p v)) (in_hand (carries_value p)))
-  put = ap (λ (z : Slot). (v, put_in (gives_at p.point) z (in_hand (carries_value p)))) (drops_same p (hand_of l.seats p v) keeps)
-
   pub can_step : CanMake any_follows any_fits p (hand_out l.seats p v) number l.seats (4 + 2 * l.seats) (v, slots_out l.seats p v)
   can_step =
       Kept.can_make any_follows any_fits number (4 + 2 * l.seats) id l p (v, in_hand (carries_value p)) (hand_of l.seats p v) sits.seated sits.became sits.ready sits.rooted
-      (kept_out (gives_at p.point) (hand_of l.seats p v)) (v, slots_out l.seats p v) out put (λ r at x e. (tt, λ y f. tt))
+      (kept_out (gives_at p.point) (dropped p (hand_of l.seats p v))) (v, slots_out l.seats p v) refl refl (λ r at x e. (tt, λ y f. tt))
 
   module _ (n : ℕ) (w : View ⊤) (after : List (ℕ × Slot)) (did : Advanced any_follows any_fits p (hand_out l.seats p v) (v, slots_out l.seats p v) n (w, after)) where
-    abbrev Taken : Bool → Bool → Type 0
-    Taken b c = (a3 : Slot) × (slots : List (ℕ × Slot)) × Took b c a1 (w, after) a3 (w, slots)
+    -- what the seat has after the step, before it takes the value out of the slot
+    abbrev a2 : Slot
+    a2 = with_record p number n a1
 
-    taken : (b c : Bool) → is_carried a1 ≡ b → carries_value (stepped_by p number n None).seat ≡ c → Taken b c
-    taken true c e f = (a1, after, (refl, refl))
-    taken false false e f = (a1, after, (refl, refl))
+    abbrev Taken : Bool → Bool → Type 0
+    Taken b c = (a3 : Slot) × (slots : List (ℕ × Slot)) × Took b c a2 (w, after) a3 (w, slots)
+
+    taken : (b c : Bool) → is_carried a2 ≡ b → carries_value (stepped_by p number n None).seat ≡ c → Taken b c
+    taken true c e f = (a2, after, (refl, refl))
+    taken false false e f = (a2, after, (refl, refl))
     taken false true e f =
         let there = Kept.slot_there any_follows any_fits number (4 + 2 * l.seats) id l p (v, in_hand (carries_value p)) (hand_of l.seats p v) sits.seated sits.became sits.ready sits.rooted
-        n a1 a1 (v, slots_out l.seats p v) (w, after) out put did (adds_same p number n a1 k is straight) e f in
+        n a1 a2 (v, slots_out l.seats p v) (w, after) refl refl did refl e f in
         (there.0, (0, None) ∷ rest after, (there.1, refl))
 
-    abbrev got : Taken (is_carried a1) (carries_value (stepped_by p number n None).seat)
-    got = taken (is_carried a1) (carries_value (stepped_by p number n None).seat) refl refl
+    abbrev got : Taken (is_carried a2) (carries_value (stepped_by p number n None).seat)
+    got = taken (is_carried a2) (carries_value (stepped_by p number n None).seat) refl refl
 
     abbrev q : SeatState
     q = (stepped_by p number n (oldest_in got.0)).seat
@@ -83,7 +67,7 @@ module _ (number id : ℕ) (l : Limits) (p : SeatState) (v : View ⊤) (sits : S
     abbrev made : Kept.Made any_follows any_fits number (4 + 2 * l.seats) id l p (v, in_hand (carries_value p)) (hand_of l.seats p v) sits.seated sits.became sits.ready sits.rooted (stepped_by p number n (oldest_in got.0)).turn (stepped_by p number n (oldest_in got.0)).seat got.0 (w, got.1)
     made =
         Kept.made any_follows any_fits number (4 + 2 * l.seats) id l p (v, in_hand (carries_value p)) (hand_of l.seats p v) sits.seated sits.became sits.ready sits.rooted
-        n a1 a1 got.0 (v, slots_out l.seats p v) (w, after) (w, got.1) (stepped_by p number n (oldest_in got.0)).seat (stepped_by p number n (oldest_in got.0)).turn out put did (adds_same p number n a1 k is straight) got.2 refl refl
+        n a1 a2 got.0 (v, slots_out l.seats p v) (w, after) (w, got.1) (stepped_by p number n (oldest_in got.0)).seat (stepped_by p number n (oldest_in got.0)).turn refl refl did refl got.2 refl refl
 
     state_is : q ≡ w.state
     state_is = made.event.seat_is ∙ sym made.event.did.state
@@ -99,8 +83,10 @@ module _ (number id : ℕ) (l : Limits) (p : SeatState) (v : View ⊤) (sits : S
 
     pub stepped : Stepped number p v n w
     stepped = record {
-      oldest = oldest did.popped;
+      popped = did.popped;
+      had = did.had;
       state = did.state ∙ ap (λ (i : ℕ). (stepped_by p i n (oldest did.popped)).seat) sits.seated.named;
+      listed = did.listed ∙ ap (λ (i : ℕ). popped_by_step p i n did.popped) sits.seated.named;
       trail = did.trail;
       run = subst (λ (i : ℕ). RunGoesOnBy (begins_and_step i v.state p) v w) sits.seated.named did.run;
     }

@@ -13,7 +13,7 @@ use Rattle.lfm_table.proofs.tables.RuleKept.{length_at}
 use Rattle.lfm_table.proofs.tables.OneView.{at_end}
 use Rattle.lfm_table.proofs.tables.SplitsAndJoins.{splits}
 use Rattle.lfm_pool.specs.declared.view.PoolView.{PoolView}
-use Rattle.lfm_pool.proofs.Steps.{seats_of}
+use Rattle.lfm_pool.proofs.LoneTables.{seats_of}
 use Rattle.lfm_pool.specs.Tables.{any_follows, any_fits, MutexTable, IsKept, part, rests, has_link}
 use Rattle.lfm_pool.specs.Rule.{wake_at, HeldPool, left_view, right_view, MaySplit}
 

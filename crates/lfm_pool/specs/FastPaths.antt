@@ -2,10 +2,13 @@
 use Rattle.std.specs.Prelude.{◌≡◌, ⊤, ℕ, ◌++◌, ◌+◌, ◌<◌, [], ◌∷◌}
 use Rattle.atomic_table.specs.Table.{Me}
 use Rattle.lfm_model.specs.declared.answers.How.{How}
+use Rattle.lfm_words.specs.Popped.{oldest}
+use Rattle.lfm_protocol.specs.After.{take}
+use Rattle.lfm_protocol.specs.declared.points.Carrier.{Carrier}
 use Rattle.lfm_protocol.specs.declared.points.Entrant.{Entrant}
 use Rattle.lfm_protocol.specs.declared.limits.Limits.{Limits}
 use Rattle.lfm_protocol.specs.declared.points.Releaser.TheVariants.{Unlocker}
-use Rattle.lfm_protocol.specs.declared.points.Point.TheVariants.{Rest, TryCountExchange, ReleaseOwnerStore, ReleaseCountSubtract, EnterOwnerStore}
+use Rattle.lfm_protocol.specs.declared.points.Point.TheVariants.{Rest, TryCountExchange, TryOwnerLoad, ReleaseOwnerStore, ReleaseCountSubtract, EnterOwnerStore}
 use Rattle.lfm_table.specs.declared.seat_view.View.{View}
 use Rattle.lfm_table.specs.Actions.{RunGoesOn, seen}
 use Rattle.lfm_pool.specs.declared.view.PoolView.{PoolView}
@@ -25,8 +28,8 @@ pub record HoldsOnce (number id : ℕ) (l : Limits) (v : View ⊤) : Type 0 wher
   pub rests : v.state.point ≡ Rest
   pub once : v.state.depth ≡ 1
 
--- the seat with this number has acquired a free mutex by a try_lock: the exchange found the count at 0, and then it stored its
--- number as the owner
+-- the seat with this number has acquired a free mutex by a try_lock: the exchange found the count at 0, and then it stored
+-- its number as the owner
 pub record Enters (number : ℕ) (v w : View ⊤) : Type 0 where
   pub trail : w.trail
       ≡ v.trail ++ (seen TryCountExchange 0 ∷ seen (EnterOwnerStore Entrant.Trier How.Free) number ∷ [])
@@ -39,6 +42,21 @@ pub record Leaves (v w : View ⊤) : Type 0 where
       ≡ v.trail ++ (seen (ReleaseOwnerStore Unlocker) 0 ∷ seen (ReleaseCountSubtract Unlocker) 1 ∷ [])
   pub rests : w.state.point ≡ Rest
   pub flat : w.state.depth ≡ 0
+  pub run : RunGoesOn v w
+
+-- the exchange of a try_lock found the count n, which is not 0: the owner is loaded next
+pub record FindsTaken (n : ℕ) (v w : View ⊤) : Type 0 where
+  pub trail : w.trail ≡ v.trail ++ seen TryCountExchange n ∷ []
+  pub state : w.state ≡ record v.state { takes = v.state.takes + 1; point = TryOwnerLoad }
+  pub run : RunGoesOn v w
+
+-- The seat has released the mutex and has the responsibility, since the subtraction found the count n, which is not 1: it
+-- serves the oldest record of the pop list, or collects the push list first if there is none.
+pub record Serves (number n : ℕ) (v w : View ⊤) : Type 0 where
+  pub trail : w.trail
+      ≡ v.trail ++ (seen (ReleaseOwnerStore Unlocker) 0 ∷ seen (ReleaseCountSubtract Unlocker) n ∷ [])
+  pub state : w.state
+      ≡ record v.state { depth = 0; point = take (Carrier.Releaser Unlocker) number (oldest v.popped) }
   pub run : RunGoesOn v w
 
 -- what the seat knows of mutex m has changed, to a view of which this holds, and nothing that it knows of other mutexes

@@ -1,10 +1,11 @@
 -- What the contracts of calls say of a seat in one mutex of its pool.
-use Rattle.std.specs.Prelude.{◌≡◌, ℕ}
-use Rattle.lfm_protocol.specs.declared.points.Point.TheVariants.{TryOwnerLoad}
+use Rattle.std.specs.Prelude.{ℕ}
 use Rattle.lfm_pool.specs.declared.pool.Pool.{Pool}
 use Rattle.lfm_pool.specs.declared.pool.PoolSeat.{PoolSeat}
-use Rattle.lfm_pool.specs.FastPaths.{Enters, HoldsOnce, KnowsMoreOf, Leaves, MayTry}
-use Rattle.lfm_pool.specs.Steps.{RestsElsewhere, Sits}
+use Rattle.lfm_pool.specs.FastPaths.{Enters, FindsTaken, HoldsOnce, KnowsMoreOf, Leaves, MayTry, Serves}
+use Rattle.lfm_protocol.specs.declared.answers.Call.TheVariants.{Receive}
+use Rattle.lfm_protocol.specs.declared.seats.SeatState.{SeatState}
+use Rattle.lfm_pool.specs.Steps.{RestsElsewhere, Sits, StepsIn, begun_in, state_in}
 use Rattle.lfm_pool.specs.Tables.{part}
 
 -- the seat rests in every mutex but m, and may rest in m too
@@ -24,16 +25,33 @@ abbrev pub EntersIn : PoolSeat → PoolSeat → Pool → ℕ → Type 0
 EntersIn s t p m =
     KnowsMoreOf m (λ w. Enters s.number (part s.place.me.0 m) w × HoldsOnce s.number s.place.id p.limits w) s.place.me t.place.me
 
--- from s to t the seat has begun a try_lock of mutex m, whose next step would load the owner
-abbrev pub FindsTakenIn : PoolSeat → PoolSeat → Pool → ℕ → Type 0
-FindsTakenIn s t p m =
-    KnowsMoreOf m (λ w. Sits s.number s.place.id p.limits w.state w × (w.state.point ≡ TryOwnerLoad)) s.place.me t.place.me
+-- from s to t the seat has begun a try_lock of mutex m, which is taken: its first step found the count n
+abbrev pub FindsTakenIn : PoolSeat → PoolSeat → Pool → ℕ → ℕ → Type 0
+FindsTakenIn s t p m n =
+    KnowsMoreOf m (λ w. FindsTaken n (part s.place.me.0 m) w × Sits s.number s.place.id p.limits w.state w) s.place.me t.place.me
 
 -- from s to t the seat has released mutex m, which is free then, by the two steps of an unlock
 abbrev pub LeavesIn : PoolSeat → PoolSeat → Pool → ℕ → Type 0
 LeavesIn s t p m =
     KnowsMoreOf m (λ w. Leaves (part s.place.me.0 m) w × Sits s.number s.place.id p.limits w.state w) s.place.me t.place.me
 
--- from s to t the seat has made steps in mutex m alone, and fits its next one
-abbrev pub GoesOnIn : PoolSeat → PoolSeat → Pool → ℕ → Type 0
-GoesOnIn s t p m = KnowsMoreOf m (λ w. Sits s.number s.place.id p.limits w.state w) s.place.me t.place.me
+-- from s to t the seat has released mutex m, which others want: the call is open, and the subtraction found the count n
+abbrev pub ServesIn : PoolSeat → PoolSeat → Pool → ℕ → ℕ → Type 0
+ServesIn s t p m n =
+    KnowsMoreOf m (λ w. Serves s.number n (part s.place.me.0 m) w × Sits s.number s.place.id p.limits w.state w) s.place.me t.place.me
+
+-- the seat's data in mutex m
+abbrev pub state_of : PoolSeat → ℕ → SeatState
+state_of s m = state_in s.place.me.0 m
+
+-- the seat is between two steps in mutex m
+abbrev pub SitsIn : PoolSeat → Pool → ℕ → Type 0
+SitsIn s p m = Sits s.number s.place.id p.limits (state_of s m) (part s.place.me.0 m)
+
+-- from s to t the seat has made the next step of its call in mutex m, which found or stored n
+abbrev pub MovesIn : PoolSeat → PoolSeat → Pool → ℕ → ℕ → Type 0
+MovesIn s t p m n = StepsIn s.number s.place.id m p.limits (state_of s m) s.place.me n t.place.me
+
+-- from s to t the seat has begun a receive in mutex m and made its first step, which found n
+abbrev pub ReceivesIn : PoolSeat → PoolSeat → Pool → ℕ → ℕ → Type 0
+ReceivesIn s t p m n = StepsIn s.number s.place.id m p.limits (begun_in s.place.me.0 m p.limits Receive) s.place.me n t.place.me

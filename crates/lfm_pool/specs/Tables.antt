@@ -6,6 +6,7 @@ use Rattle.lfm_model.specs.declared.answers.How.{How}
 use Rattle.lfm_protocol.specs.declared.points.Carrier.{Carrier}
 use Rattle.lfm_protocol.specs.declared.points.Entrant.{Entrant}
 use Rattle.lfm_protocol.specs.declared.points.Point.{Point}
+use Rattle.lfm_protocol.specs.declared.points.Pusher.{Pusher}
 use Rattle.lfm_protocol.specs.declared.points.Point.TheVariants.{Rest, Asleep, PushExchange, PushedHandoffLoad, PushedHandoffExchange, TakeClearHead, TakeLinkLoad, GrantWakeStore, EnterOwnerStore, ReceiveWakeLoad}
 use Rattle.lfm_table.specs.declared.rule.Moving.{Moving}
 use Rattle.lfm_table.specs.declared.seat_view.View.{View}
@@ -47,12 +48,12 @@ rests_at _ = false
 abbrev pub rests : View ⊤ → Bool
 rests v = rests_at v.state.point
 
--- the record of a seat at this point may be in the push list, or has just been written to be put there
+-- the record of a seat at this point may be in the queue, or has just been written to be pushed
 abbrev pub has_link_at : Point → Bool
 has_link_at (Asleep sleeper) = true
-has_link_at (PushExchange pusher seen) = true
-has_link_at (PushedHandoffLoad pusher) = true
-has_link_at (PushedHandoffExchange pusher seen) = true
+has_link_at (PushExchange Pusher.Locker seen) = true
+has_link_at (PushedHandoffLoad Pusher.Locker) = true
+has_link_at (PushedHandoffExchange Pusher.Locker seen) = true
 has_link_at (TakeClearHead Carrier.Locker) = true
 has_link_at (TakeLinkLoad Carrier.Locker next) = true
 has_link_at (GrantWakeStore Carrier.Locker oldest) = true

@@ -15,6 +15,12 @@ pub const COUNT: usize = 0;
 /// Its owner word.
 pub const OWNER: usize = 1;
 
+/// Its handoff word.
+pub const HANDOFF: usize = 2;
+
+/// Its push word.
+pub const PUSH: usize = 3;
+
 /// The index of this word of a mutex.
 #[inline(always)]
 pub fn own_at(mutex: usize, word: usize) -> usize
@@ -22,4 +28,24 @@ pub fn own_at(mutex: usize, word: usize) -> usize
     ensures { result ≡ mutex * 8 + word }
 {
     mutex * MUTEX_WORDS + word
+}
+
+/// The index of the link word of the seat with this number, in a pool of this many mutexes.
+#[inline(always)]
+pub fn link_at(mutexes: usize, number: u64) -> usize
+    requires many { mutexes < 2 ^ 32 }
+    requires number { (0 < number) × (number < 2 ^ 16) }
+    ensures { result + 2 ≡ mutexes * 8 + number * 2 }
+{
+    mutexes * MUTEX_WORDS + (number as usize - 1) * SEAT_WORDS
+}
+
+/// The index of its wake word.
+#[inline(always)]
+pub fn wake_at(mutexes: usize, number: u64) -> usize
+    requires many { mutexes < 2 ^ 32 }
+    requires number { (0 < number) × (number < 2 ^ 16) }
+    ensures { result + 1 ≡ mutexes * 8 + number * 2 }
+{
+    link_at(mutexes, number) + 1
 }

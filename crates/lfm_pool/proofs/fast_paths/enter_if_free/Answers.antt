@@ -4,8 +4,8 @@ use Rattle.std.specs.Prelude.{⊤, length}
 use Rattle.lfm_table.specs.declared.operations.Access.{Access}
 use Rattle.lfm_table.specs.declared.seat_view.View.{View}
 use Rattle.lfm_pool.specs.Tables.{part}
-use Rattle.lfm_pool.specs.Steps.{Sits, StepsIn}
-use Rattle.lfm_pool.proofs.FastPaths.{IsOwnStep, sits_begun, trying, entering, entered, found_taken, part_now, length_now, elsewhere_now}
+use Rattle.lfm_pool.specs.Steps.{IsOwnAccessOf, Sits, StepsIn}
+use Rattle.lfm_pool.proofs.FastPaths.{sits_begun, trying, entering, entered, found_taken, part_now, length_now, elsewhere_now}
 use Rattle.lfm_pool.proofs.fast_paths.enter_if_free.Goals as goal
 
 pub first_step-found-requires-clause-sits : goal.first_step-found-requires-clause-sits
@@ -14,15 +14,7 @@ first_step-found-requires-clause-sits c =
 
 pub first_step-found-requires-clause-is_next : goal.first_step-found-requires-clause-is_next
 first_step-found-requires-clause-is_next c =
-    let s = c.args.seat.now in let l = c.args.pool.now.limits in (trying s.number s.place.id c.args.mutex l s.place.me s.place.me s.place.me (omega (arith, c.requires.mutex, c.requires.belongs.parts)) l.seats c.requires.may).0
-
-pub first_step-found-requires-clause-keeps : goal.first_step-found-requires-clause-keeps
-first_step-found-requires-clause-keeps c =
-    let s = c.args.seat.now in let l = c.args.pool.now.limits in (trying s.number s.place.id c.args.mutex l s.place.me s.place.me s.place.me (omega (arith, c.requires.mutex, c.requires.belongs.parts)) l.seats c.requires.may).1
-
-pub first_step-found-requires-clause-unlinked : goal.first_step-found-requires-clause-unlinked
-first_step-found-requires-clause-unlinked c =
-    let s = c.args.seat.now in let l = c.args.pool.now.limits in (trying s.number s.place.id c.args.mutex l s.place.me s.place.me s.place.me (omega (arith, c.requires.mutex, c.requires.belongs.parts)) l.seats c.requires.may).2
+    let s = c.args.seat.now in let l = c.args.pool.now.limits in (trying s.number s.place.id c.args.mutex l s.place.me s.place.me s.place.me (omega (arith, c.requires.mutex, c.requires.belongs.parts)) l.seats c.requires.may)
 
 pub next_step-requires-clause-table : goal.next_step-requires-clause-table
 next_step-requires-clause-table c = let f = c.first_step-found in f.ensures.table.0 ∙ c.requires.belongs.table
@@ -44,17 +36,7 @@ next_step-requires-clause-elsewhere c =
 pub next_step-requires-clause-is_next : goal.next_step-requires-clause-is_next
 next_step-requires-clause-is_next c =
     let s = c.args.seat.now in let l = c.args.pool.now.limits in let f = c.first_step-found in let t = f.new.seat in let d = f.ensures.step in
-    (subst (λ (n : ℕ). IsOwnStep l.seats n (part t.place.me.0 c.args.mutex).state (Access.Store 1 n)) (sym f.ensures.table.2) (entering s.number s.place.id c.args.mutex l s.place.me t.place.me t.place.me (omega (arith, c.requires.mutex, c.requires.belongs.parts)) l.seats f.result c.if-found-ne0.false c.requires.may d)).0
-
-pub next_step-requires-clause-keeps : goal.next_step-requires-clause-keeps
-next_step-requires-clause-keeps c =
-    let s = c.args.seat.now in let l = c.args.pool.now.limits in let f = c.first_step-found in let t = f.new.seat in let d = f.ensures.step in
-    (subst (λ (n : ℕ). IsOwnStep l.seats n (part t.place.me.0 c.args.mutex).state (Access.Store 1 n)) (sym f.ensures.table.2) (entering s.number s.place.id c.args.mutex l s.place.me t.place.me t.place.me (omega (arith, c.requires.mutex, c.requires.belongs.parts)) l.seats f.result c.if-found-ne0.false c.requires.may d)).1
-
-pub next_step-requires-clause-unlinked : goal.next_step-requires-clause-unlinked
-next_step-requires-clause-unlinked c =
-    let s = c.args.seat.now in let l = c.args.pool.now.limits in let f = c.first_step-found in let t = f.new.seat in let d = f.ensures.step in
-    (subst (λ (n : ℕ). IsOwnStep l.seats n (part t.place.me.0 c.args.mutex).state (Access.Store 1 n)) (sym f.ensures.table.2) (entering s.number s.place.id c.args.mutex l s.place.me t.place.me t.place.me (omega (arith, c.requires.mutex, c.requires.belongs.parts)) l.seats f.result c.if-found-ne0.false c.requires.may d)).2
+    (subst (λ (n : ℕ). IsOwnAccessOf l.seats n (part t.place.me.0 c.args.mutex).state (Access.Store 1 n)) (sym f.ensures.table.2) (entering s.number s.place.id c.args.mutex l s.place.me t.place.me t.place.me (omega (arith, c.requires.mutex, c.requires.belongs.parts)) l.seats f.result c.if-found-ne0.false c.requires.may d))
 
 pub returns-then-found-ne0-clause-enters : goal.returns-then-found-ne0-clause-enters
 returns-then-found-ne0-clause-enters c = λ none. absurd (c.if-found-ne0.true none)

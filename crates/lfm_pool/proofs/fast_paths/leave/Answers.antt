@@ -4,8 +4,8 @@ use Rattle.std.specs.Prelude.{⊤, length}
 use Rattle.lfm_table.specs.declared.operations.Access.{Access}
 use Rattle.lfm_table.specs.declared.seat_view.View.{View}
 use Rattle.lfm_pool.specs.Tables.{part}
-use Rattle.lfm_pool.specs.Steps.{Sits, StepsIn}
-use Rattle.lfm_pool.proofs.FastPaths.{IsOwnStep, sits_begun, releasing, subtracting, left_free, went_on, part_now, length_now, elsewhere_now}
+use Rattle.lfm_pool.specs.Steps.{IsOwnAccessOf, Sits, StepsIn}
+use Rattle.lfm_pool.proofs.FastPaths.{sits_begun, releasing, subtracting, left_free, left_to_serve, part_now, length_now, elsewhere_now}
 use Rattle.lfm_pool.proofs.fast_paths.leave.Goals as goal
 
 pub first_step-requires-clause-sits : goal.first_step-requires-clause-sits
@@ -14,15 +14,7 @@ first_step-requires-clause-sits c =
 
 pub first_step-requires-clause-is_next : goal.first_step-requires-clause-is_next
 first_step-requires-clause-is_next c =
-    let s = c.args.seat.now in let l = c.args.pool.now.limits in (releasing s.number s.place.id c.args.mutex l s.place.me s.place.me s.place.me (omega (arith, c.requires.mutex, c.requires.belongs.parts)) l.seats c.requires.holds).0
-
-pub first_step-requires-clause-keeps : goal.first_step-requires-clause-keeps
-first_step-requires-clause-keeps c =
-    let s = c.args.seat.now in let l = c.args.pool.now.limits in (releasing s.number s.place.id c.args.mutex l s.place.me s.place.me s.place.me (omega (arith, c.requires.mutex, c.requires.belongs.parts)) l.seats c.requires.holds).1
-
-pub first_step-requires-clause-unlinked : goal.first_step-requires-clause-unlinked
-first_step-requires-clause-unlinked c =
-    let s = c.args.seat.now in let l = c.args.pool.now.limits in (releasing s.number s.place.id c.args.mutex l s.place.me s.place.me s.place.me (omega (arith, c.requires.mutex, c.requires.belongs.parts)) l.seats c.requires.holds).2
+    let s = c.args.seat.now in let l = c.args.pool.now.limits in (releasing s.number s.place.id c.args.mutex l s.place.me s.place.me s.place.me (omega (arith, c.requires.mutex, c.requires.belongs.parts)) l.seats c.requires.holds)
 
 pub next_step-requires-clause-table : goal.next_step-requires-clause-table
 next_step-requires-clause-table c = let f = c.first_step in f.ensures.table.0 ∙ c.requires.belongs.table
@@ -44,27 +36,17 @@ next_step-requires-clause-elsewhere c =
 pub next_step-requires-clause-is_next : goal.next_step-requires-clause-is_next
 next_step-requires-clause-is_next c =
     let s = c.args.seat.now in let l = c.args.pool.now.limits in let f = c.first_step in let t = f.new.seat in let d = f.ensures.step in
-    (subst (λ (n : ℕ). IsOwnStep l.seats n (part t.place.me.0 c.args.mutex).state (Access.FetchSub 0 1)) (sym f.ensures.table.2) (subtracting s.number s.place.id c.args.mutex l s.place.me t.place.me t.place.me (omega (arith, c.requires.mutex, c.requires.belongs.parts)) l.seats f.result c.requires.holds d)).0
-
-pub next_step-requires-clause-keeps : goal.next_step-requires-clause-keeps
-next_step-requires-clause-keeps c =
-    let s = c.args.seat.now in let l = c.args.pool.now.limits in let f = c.first_step in let t = f.new.seat in let d = f.ensures.step in
-    (subst (λ (n : ℕ). IsOwnStep l.seats n (part t.place.me.0 c.args.mutex).state (Access.FetchSub 0 1)) (sym f.ensures.table.2) (subtracting s.number s.place.id c.args.mutex l s.place.me t.place.me t.place.me (omega (arith, c.requires.mutex, c.requires.belongs.parts)) l.seats f.result c.requires.holds d)).1
-
-pub next_step-requires-clause-unlinked : goal.next_step-requires-clause-unlinked
-next_step-requires-clause-unlinked c =
-    let s = c.args.seat.now in let l = c.args.pool.now.limits in let f = c.first_step in let t = f.new.seat in let d = f.ensures.step in
-    (subst (λ (n : ℕ). IsOwnStep l.seats n (part t.place.me.0 c.args.mutex).state (Access.FetchSub 0 1)) (sym f.ensures.table.2) (subtracting s.number s.place.id c.args.mutex l s.place.me t.place.me t.place.me (omega (arith, c.requires.mutex, c.requires.belongs.parts)) l.seats f.result c.requires.holds d)).2
+    (subst (λ (n : ℕ). IsOwnAccessOf l.seats n (part t.place.me.0 c.args.mutex).state (Access.FetchSub 0 1)) (sym f.ensures.table.2) (subtracting s.number s.place.id c.args.mutex l s.place.me t.place.me t.place.me (omega (arith, c.requires.mutex, c.requires.belongs.parts)) l.seats f.result c.requires.holds d))
 
 pub returns-clause-leaves : goal.returns-clause-leaves
 returns-clause-leaves c =
     let s = c.args.seat.now in let l = c.args.pool.now.limits in let f = c.first_step in let t = f.new.seat in let d = f.ensures.step in let h = c.next_step in
     λ one. left_free s.number s.place.id c.args.mutex l s.place.me t.place.me h.new.seat.place.me (omega (arith, c.requires.mutex, c.requires.belongs.parts)) f.result h.result f.ensures.told one c.requires.holds d (subst (λ (z : ℕ × ℕ). StepsIn z.0 z.1 c.args.mutex l (part t.place.me.0 c.args.mutex).state t.place.me h.result h.new.seat.place.me) (λ i. (f.ensures.table.2 i, f.ensures.table.1 i)) h.ensures.step)
 
-pub returns-clause-goes_on : goal.returns-clause-goes_on
-returns-clause-goes_on c =
+pub returns-clause-serves : goal.returns-clause-serves
+returns-clause-serves c =
     let s = c.args.seat.now in let l = c.args.pool.now.limits in let f = c.first_step in let t = f.new.seat in let d = f.ensures.step in let h = c.next_step in
-    went_on s.number s.place.id c.args.mutex l s.place.me t.place.me h.new.seat.place.me (omega (arith, c.requires.mutex, c.requires.belongs.parts)) f.result h.result d (subst (λ (z : ℕ × ℕ). StepsIn z.0 z.1 c.args.mutex l (part t.place.me.0 c.args.mutex).state t.place.me h.result h.new.seat.place.me) (λ i. (f.ensures.table.2 i, f.ensures.table.1 i)) h.ensures.step)
+    λ more. left_to_serve s.number s.place.id c.args.mutex l s.place.me t.place.me h.new.seat.place.me (omega (arith, c.requires.mutex, c.requires.belongs.parts)) f.result h.result f.ensures.told more c.requires.holds d (subst (λ (z : ℕ × ℕ). StepsIn z.0 z.1 c.args.mutex l (part t.place.me.0 c.args.mutex).state t.place.me h.result h.new.seat.place.me) (λ i. (f.ensures.table.2 i, f.ensures.table.1 i)) h.ensures.step)
 
 pub first_step-requires-clause-table : goal.first_step-requires-clause-table
 first_step-requires-clause-table c = c.requires.belongs.table

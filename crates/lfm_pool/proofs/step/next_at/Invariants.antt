@@ -1,9 +1,9 @@
 use Rattle.lfm_pool.specs.Tables.{part}
 use Rattle.lfm_pool.specs.Steps.{state_in, hand_out, slots_out}
-use Rattle.lfm_pool.proofs.step.next_step.Given as goal
+use Rattle.lfm_pool.proofs.step.next_at.Given as goal
 
-abbrev pub ghosts-own_step : goal.ghosts-own_step
-ghosts-own_step a = record {
+abbrev pub ghosts-step_at : goal.ghosts-step_at
+ghosts-step_at a = record {
   mutex = a.mutex;
   state = state_in a.seat.now.place.me.0 a.mutex;
   hand = hand_out a.pool.now.limits.seats (state_in a.seat.now.place.me.0 a.mutex) (part a.seat.now.place.me.0 a.mutex);

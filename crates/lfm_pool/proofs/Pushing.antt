@@ -1,0 +1,169 @@
+-- The steps by which a lock puts its record into the queue.
+use Rattle.std.proofs.Common.{◌≡◌, ℕ, ◌+◌, ◌<◌, List, [], ◌∷◌, ◌++◌, length, nat_eq, if◌then◌else◌, refl, sym, ap, ◌∙◌, subst, arith, append_assoc, Option}
+use Rattle.std.specs.Prelude.{⊤, Bool, true, false}
+use Rattle.atomic_table.specs.Table.{Me}
+use Rattle.lfm_words.specs.declared.links.Link.{Link}
+use Rattle.lfm_words.specs.declared.pop_lists.Record.{Record}
+use Rattle.lfm_words.specs.Popped.{oldest}
+use Rattle.lfm_words.specs.Words.{handoff_of, handoff_word, link_of, link_word}
+use Rattle.lfm_model.specs.declared.answers.Asked.TheVariants as Asked
+use Rattle.lfm_protocol.specs.declared.answers.Answer.{Answer}
+use Rattle.lfm_protocol.specs.declared.answers.Turn.{Turn}
+use Rattle.lfm_protocol.specs.declared.answers.Turn.TheVariants.{Open, Ended}
+use Rattle.lfm_protocol.specs.Points.{kind}
+use Rattle.lfm_protocol.specs.declared.points.Sleeper.TheVariants as Sleeper
+use prog.Atomic.{either}
+use Rattle.lfm_words.specs.declared.handoffs.Handoff.{Handoff}
+use Rattle.lfm_protocol.specs.Stores.{expected_handoff_at}
+use Rattle.lfm_protocol.specs.declared.points.Carrier.{Carrier}
+use Rattle.lfm_laws.specs.table.Ready.{IsReady, PacksHandoff}
+use Rattle.lfm_protocol.specs.After.{same_handoff, same_link, take}
+use Rattle.lfm_protocol.specs.Begin.{Stepped}
+use Rattle.lfm_protocol.specs.declared.kinds.Kind.{Kind}
+use Rattle.lfm_protocol.specs.declared.limits.Limits.{Limits}
+use Rattle.lfm_protocol.specs.declared.points.Point.{Point}
+use Rattle.lfm_protocol.specs.declared.points.Point.TheVariants.{Asleep, LinkStore, PushExchange, PushedHandoffLoad, PushedHandoffExchange}
+use Rattle.lfm_protocol.specs.declared.points.Pusher.{Pusher}
+use Rattle.lfm_protocol.specs.declared.seats.SeatState.{SeatState}
+use Rattle.lfm_laws.specs.table.Words.{popped_by_step, stepped_by}
+use Rattle.lfm_table.specs.declared.operations.Access.{Access}
+use Rattle.lfm_table.specs.declared.seat_view.View.{View}
+use Rattle.lfm_table.specs.Actions.{RunGoesOn, seen}
+use Rattle.lfm_table.proofs.tables.Actions.{run_next}
+use Rattle.lfm_table.proofs.tables.StepFacts.{made_of}
+use Rattle.lfm_pool.specs.declared.view.PoolView.{PoolView}
+use Rattle.lfm_pool.specs.FastPaths.{KnowsMoreOf}
+use Rattle.lfm_pool.specs.Push.{LoadsHandoff, LoadsPush, Pushes, Steps, TakesOver, TakesPost}
+use Rattle.lfm_pool.specs.SeatWords.{StoresLink}
+use Rattle.lfm_pool.specs.Steps.{IsOwnAccessOf, Sits, StepsIn}
+use Rattle.lfm_pool.specs.Tables.{part}
+use Rattle.lfm_pool.proofs.FastPaths.{both, goes_on, part_now}
+
+-- the seat after it has stored its link, and after the exchange has found n
+abbrev Linked : SeatState → Link → SeatState
+Linked p loaded = record p { point = PushExchange Pusher.Locker loaded }
+
+abbrev Tried : SeatState → Link → ℕ → SeatState
+Tried p loaded n = record p { point = if same_link (link_of n) loaded then PushedHandoffLoad Pusher.Locker else LinkStore Pusher.Locker (link_of n) }
+
+linked : (p : SeatState) (loaded : Link) → StoresLink loaded p → (s n : ℕ) (o : Option Record) → (stepped_by p s n o).seat ≡ Linked p loaded
+linked p loaded e s n o = ap (λ (q : Point). (stepped_by (made_of p.depth p.takes p.posts q) s n o).seat) e
+
+module _ (number id m : ℕ) (l : Limits) (me me1 me2 : Me ℕ PoolView) (here : m < length me.0.parts) (loaded : Link) (n k : ℕ)
+    (at : StoresLink loaded (part me.0 m).state) (first : StepsIn number id m l (part me.0 m).state me n me1) where
+  abbrev x : SeatState
+  x = (part me.0 m).state
+
+  now : part me1.0 m ≡ first.0
+  now = part_now number id m l me me1 me1 here first.0 first.1
+
+  linked_now : (part me1.0 m).state ≡ Linked x loaded
+  linked_now = ap (λ (y : View ⊤). y.state) now ∙ first.3.state ∙ linked x loaded at number n (oldest first.3.popped)
+
+  pub sits_now : Sits number id l (part me1.0 m).state (part me1.0 m)
+  sits_now = subst (λ (y : View ⊤). Sits number id l y.state y) (sym now) first.2
+
+  -- what the exchange requires
+  pub exchanges_push : (seats s expected new : ℕ) → s ≡ number → expected ≡ link_word loaded → new ≡ link_word (record { stamp = loaded.stamp + 1; next = s })
+      → IsOwnAccessOf seats s (part me1.0 m).state (Access.CompareExchange 3 expected new)
+  exchanges_push seats s expected new same is_expected is_new =
+      subst (λ (y : SeatState × ℕ × ℕ). IsOwnAccessOf seats s y.0 (Access.CompareExchange 3 y.1 y.2)) (λ i. (sym linked_now i, sym is_expected i, sym is_new i))
+      ((Kind.PushExchange, refl, refl, (λ j. refl), refl), omega arith)
+
+  pub pushed : n ≡ link_word (record { stamp = loaded.stamp + 1; next = loaded.next }) → Sits number id l (part me.0 m).state (part me.0 m) → StepsIn number id m l (part me1.0 m).state me1 k me2
+      → KnowsMoreOf m (λ w. Pushes loaded k (part me.0 m) w × Sits number id l w.state w) me me2
+  pushed stored sits second =
+      let tried : second.0.state ≡ Tried x loaded k = second.3.state ∙ ap (λ (y : SeatState). (stepped_by y number k (oldest second.3.popped)).seat) linked_now in
+      let trail1 : first.0.trail ≡ (part me.0 m).trail ++ seen (LinkStore Pusher.Locker loaded) (link_word (record { stamp = loaded.stamp + 1; next = loaded.next })) ∷ [] =
+      first.3.trail ∙ ap (λ (y : Point × ℕ). (part me.0 m).trail ++ seen y.0 y.1 ∷ []) (λ i. (at i, stored i))
+      in
+      let trail2 : second.0.trail ≡ first.0.trail ++ seen (PushExchange Pusher.Locker loaded) k ∷ [] =
+      second.3.trail ∙ ap (λ (y : View ⊤ × Point). y.0.trail ++ seen y.1 k ∷ []) (λ i. (now i, ap (λ (z : SeatState). z.point) linked_now i))
+      in (
+        second.0,
+        both number id m l me me1 me2 here first.0 second.0 first.1 second.1,
+        (
+          record {
+            trail = trail2 ∙ ap (λ ts. ts ++ seen (PushExchange Pusher.Locker loaded) k ∷ []) trail1
+                ∙ append_assoc (part me.0 m).trail (seen (LinkStore Pusher.Locker loaded) (link_word (record { stamp = loaded.stamp + 1; next = loaded.next })) ∷ []) (seen (PushExchange Pusher.Locker loaded) k ∷ []);
+            state = tried;
+            run = run_next (goes_on number id l x first.0.state (part me.0 m) first.0 n sits first.2 first.3)
+                (subst (λ (y : View ⊤). RunGoesOn y second.0) now (goes_on number id l (part me1.0 m).state second.0.state (part me1.0 m) second.0 k sits_now second.2 second.3));
+          },
+          second.2,
+        ),
+      )
+
+-- One step
+
+module _ (number id m : ℕ) (l : Limits) (me me1 : Me ℕ PoolView) (n : ℕ) (p : Point) (q : Point) (at : (part me.0 m).state.point ≡ p)
+    (leads : (d t ps : ℕ) (o : Option Record) → (stepped_by (made_of d t ps p) number n o).seat ≡ made_of d t ps q) where
+  pub one_step : Sits number id l (part me.0 m).state (part me.0 m) → StepsIn number id m l (part me.0 m).state me n me1
+      → KnowsMoreOf m (λ w. Steps p n q (part me.0 m) w × Sits number id l w.state w) me me1
+  one_step sits did =
+      let x = (part me.0 m).state in (
+        did.0,
+        did.1,
+        (
+          record {
+            trail = did.3.trail ∙ ap (λ (y : Point). (part me.0 m).trail ++ seen y n ∷ []) at;
+            state = did.3.state ∙ ap (λ (y : Point). (stepped_by (made_of x.depth x.takes x.posts y) number n (oldest did.3.popped)).seat) at ∙ leads x.depth x.takes x.posts (oldest did.3.popped);
+            run = goes_on number id l x did.0.state (part me.0 m) did.0 n sits did.2 did.3;
+          },
+          did.2,
+        ),
+      )
+
+seat_if : (b : Bool) (d t ps : ℕ) (q r : Point) (u v : Turn) → ◌≡◌ {A = SeatState} (if◌then◌else◌ {A = Stepped} b (record { seat = made_of d t ps q; turn = u }) (record { seat = made_of d t ps r; turn = v })).seat (made_of d t ps (if b then q else r))
+seat_if true d t ps q r u v = refl
+seat_if false d t ps q r u v = refl
+
+-- where the load of the handoff word leads
+pub after_handoff : (s n d t ps : ℕ) (o : Option Record)
+    → (stepped_by (made_of d t ps (PushedHandoffLoad Pusher.Locker)) s n o).seat ≡ made_of d t ps (if nat_eq (handoff_of n).seat 0 then Asleep Sleeper.Locker else PushedHandoffExchange Pusher.Locker (handoff_of n))
+after_handoff s n d t ps o = seat_if (nat_eq (handoff_of n).seat 0) d t ps (Asleep Sleeper.Locker) (PushedHandoffExchange Pusher.Locker (handoff_of n)) (Ended (Answer.Asked Asked.Asleep)) Open
+
+-- what the loads require
+pub loads_push : (seats number : ℕ) (p : SeatState) → LoadsPush p → IsOwnAccessOf seats number p (Access.Load 3)
+loads_push seats number p at = ((Kind.PushLoad, ap kind at, refl, (λ n. refl), refl), omega arith)
+
+pub loads_handoff : (seats number : ℕ) (p : SeatState) → LoadsHandoff p → IsOwnAccessOf seats number p (Access.Load 2)
+loads_handoff seats number p at = ((Kind.HandoffLoad, ap kind at, refl, (λ n. refl), refl), omega arith)
+
+-- The exchange of the handoff word
+
+module _ (number : ℕ) (p : SeatState) (posted : Handoff) (at : TakesPost posted p) where
+  pub exchanges_handoff : (seats expected : ℕ) → expected ≡ handoff_word posted → IsOwnAccessOf seats number p (Access.CompareExchange 2 expected 0)
+  exchanges_handoff seats expected is_expected = (
+    (
+      Kind.HandoffExchange,
+      ap kind at,
+      refl,
+      (λ j. ap (λ (e : ℕ). either (nat_eq j e) 0 j) (is_expected ∙ ap (λ (q : Point). handoff_word (expected_handoff_at p number q)) (sym at))),
+      refl,
+    ),
+    omega arith,
+  )
+
+  pub packs_post : (seats : ℕ) → IsReady seats number p → PacksHandoff posted
+  packs_post seats ready = subst (λ (q : Point). PacksHandoff (expected_handoff_at p number q)) at ready.expected_handoff
+
+module _ (number id m : ℕ) (l : Limits) (me me1 : Me ℕ PoolView) (n : ℕ) (posted : Handoff) (at : TakesPost posted (part me.0 m).state) where
+  pub took_over : Sits number id l (part me.0 m).state (part me.0 m) → StepsIn number id m l (part me.0 m).state me n me1
+      → KnowsMoreOf m (λ w. TakesOver number posted n (part me.0 m) w × Sits number id l w.state w) me me1
+  took_over sits did =
+      let x = (part me.0 m).state in
+      let same : did.0.popped ≡ did.3.popped = did.3.listed ∙ ap (λ (y : Point). popped_by_step (made_of x.depth x.takes x.posts y) number n did.3.popped) at in (
+        did.0,
+        did.1,
+        (
+          record {
+            trail = did.3.trail ∙ ap (λ (y : Point). (part me.0 m).trail ++ seen y n ∷ []) at;
+            state = did.3.state ∙ ap (λ (y : Point). (stepped_by (made_of x.depth x.takes x.posts y) number n (oldest did.3.popped)).seat) at
+                ∙ seat_if (same_handoff (handoff_of n) posted) x.depth x.takes x.posts (take Carrier.Locker number (oldest did.3.popped)) (Asleep Sleeper.Locker) Open (Ended (Answer.Asked Asked.Asleep))
+                ∙ ap (λ (r : List Record). made_of x.depth x.takes x.posts (if same_handoff (handoff_of n) posted then take Carrier.Locker number (oldest r) else Asleep Sleeper.Locker)) (sym same);
+            run = goes_on number id l x did.0.state (part me.0 m) did.0 n sits did.2 did.3;
+          },
+          did.2,
+        ),
+      )

@@ -1,0 +1,26 @@
+use Rattle.lfm_words.specs.Words.{link_of}
+use Rattle.lfm_protocol.specs.declared.points.Point.TheVariants.{PushLoad, LinkStore}
+use Rattle.std.proofs.Common.{refl}
+use Rattle.lfm_pool.proofs.Pushing.{loads_push, one_step}
+use Rattle.lfm_protocol.specs.declared.points.Pusher.{Pusher}
+use Rattle.lfm_pool.specs.Seats.{state_of}
+use Rattle.lfm_pool.proofs.SeatWords.{same_after}
+use Rattle.lfm_pool.proofs.push.load_push.Goals as goal
+
+pub next_step-requires-clause-table : goal.next_step-requires-clause-table
+next_step-requires-clause-table c = c.requires.belongs.table
+
+pub next_step-requires-clause-inside : goal.next_step-requires-clause-inside
+next_step-requires-clause-inside c = (c.requires.mutex, c.requires.belongs.parts)
+
+pub next_step-requires-clause-is_next : goal.next_step-requires-clause-is_next
+next_step-requires-clause-is_next c = loads_push c.args.pool.now.limits.seats c.args.seat.now.number (state_of c.args.seat.now c.args.mutex) c.requires.at
+
+pub returns-clause-belongs : goal.returns-clause-belongs
+returns-clause-belongs c = same_after c.args.seat.now c.next_step.new.seat c.args.pool.now.limits c.args.mutex c.next_step.result (state_of c.args.seat.now c.args.mutex) c.next_step.ensures.table c.next_step.ensures.step
+
+pub returns-clause-loads : goal.returns-clause-loads
+returns-clause-loads c =
+    let s = c.args.seat.now in
+    one_step s.number s.place.id c.args.mutex c.args.pool.now.limits s.place.me c.next_step.new.seat.place.me c.next_step.result (PushLoad Pusher.Locker)
+    (LinkStore Pusher.Locker (link_of c.next_step.result)) c.requires.at (λ d t ps o. refl) c.requires.sits c.next_step.ensures.step

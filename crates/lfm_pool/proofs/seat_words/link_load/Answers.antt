@@ -1,0 +1,25 @@
+use Rattle.std.proofs.Common.{arith}
+use Rattle.lfm_pool.specs.Seats.{state_of}
+use Rattle.lfm_pool.proofs.SeatWords.{loads_link, target_of_load, same_after}
+use Rattle.lfm_pool.proofs.seat_words.link_load.Goals as goal
+
+pub link_at-index-requires-clause-many : goal.link_at-index-requires-clause-many
+link_at-index-requires-clause-many c = c.args.pool.now.few.1
+
+pub link_at-index-requires-clause-number : goal.link_at-index-requires-clause-number
+link_at-index-requires-clause-number c = let t = target_of_load c.args.pool.now.mutexes c.args.pool.now.limits.seats c.args.mutex c.args.seat.now.number 0 0 (state_of c.args.seat.now c.args.mutex) c.requires.sits.ready c.args.target c.requires.at in let few = c.args.pool.now.few.0 in (t.0, omega (arith, t.1, few))
+
+pub link_at-word-requires : goal.link_at-word-requires
+link_at-word-requires c = let t = target_of_load c.args.pool.now.mutexes c.args.pool.now.limits.seats c.args.mutex c.args.seat.now.number 0 0 (state_of c.args.seat.now c.args.mutex) c.requires.sits.ready c.args.target c.requires.at in let few = c.args.pool.now.few.0 in omega (arith, t.1, few)
+
+pub next_at-requires-clause-table : goal.next_at-requires-clause-table
+next_at-requires-clause-table c = c.requires.belongs.table
+
+pub next_at-requires-clause-inside : goal.next_at-requires-clause-inside
+next_at-requires-clause-inside c = (c.requires.mutex, c.requires.belongs.parts)
+
+pub next_at-requires-clause-is_next : goal.next_at-requires-clause-is_next
+next_at-requires-clause-is_next c = loads_link c.args.pool.now.mutexes c.args.pool.now.limits.seats c.args.mutex c.args.seat.now.number c.link_at-index.result c.link_at-word.result (state_of c.args.seat.now c.args.mutex) c.requires.sits.ready c.args.target c.requires.at c.link_at-word.ensures c.link_at-index.ensures
+
+pub returns-clause-belongs : goal.returns-clause-belongs
+returns-clause-belongs c = same_after c.args.seat.now c.next_at.new.seat c.args.pool.now.limits c.args.mutex c.next_at.result (state_of c.args.seat.now c.args.mutex) c.next_at.ensures.table c.next_at.ensures.step

@@ -1,0 +1,26 @@
+use Rattle.std.proofs.Common.{arith}
+use Rattle.lfm_pool.specs.Seats.{state_of}
+use Rattle.lfm_pool.proofs.SeatWords.{stores_link, same_after}
+use Rattle.lfm_pool.proofs.seat_words.link_store.Goals as goal
+
+pub link_at-index-requires-clause-many : goal.link_at-index-requires-clause-many
+link_at-index-requires-clause-many c = c.args.pool.now.few.1
+
+pub link_at-index-requires-clause-number : goal.link_at-index-requires-clause-number
+link_at-index-requires-clause-number c = let low = c.requires.sits.rooted.low in let high = c.requires.sits.rooted.high in let few = c.args.pool.now.few.0 in (low, omega (arith, high, few))
+
+pub link_at-word-requires : goal.link_at-word-requires
+link_at-word-requires c = let high = c.requires.sits.rooted.high in let few = c.args.pool.now.few.0 in omega (arith, high, few)
+
+pub next_at-requires-clause-table : goal.next_at-requires-clause-table
+next_at-requires-clause-table c = c.requires.belongs.table
+
+pub next_at-requires-clause-inside : goal.next_at-requires-clause-inside
+next_at-requires-clause-inside c = (c.requires.mutex, c.requires.belongs.parts)
+
+pub next_at-requires-clause-is_next : goal.next_at-requires-clause-is_next
+next_at-requires-clause-is_next c =
+    stores_link c.args.pool.now.mutexes c.args.pool.now.limits.seats c.args.mutex c.args.seat.now.number c.link_at-index.result c.link_at-word.result (state_of c.args.seat.now c.args.mutex) c.requires.sits.ready c.args.seen c.requires.at c.pack_link-link.result c.pack_link-link.ensures c.link_at-word.ensures c.link_at-index.ensures
+
+pub returns-clause-belongs : goal.returns-clause-belongs
+returns-clause-belongs c = same_after c.args.seat.now c.next_at.new.seat c.args.pool.now.limits c.args.mutex c.next_at.result (state_of c.args.seat.now c.args.mutex) c.next_at.ensures.table c.next_at.ensures.step

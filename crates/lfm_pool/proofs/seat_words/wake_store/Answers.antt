@@ -1,0 +1,29 @@
+use Rattle.std.proofs.Common.{arith}
+use Rattle.lfm_pool.specs.Seats.{state_of}
+use Rattle.lfm_pool.proofs.SeatWords.{takes_grant, same_after}
+use Rattle.lfm_pool.proofs.seat_words.wake_store.Goals as goal
+
+pub wake_at-index-requires-clause-many : goal.wake_at-index-requires-clause-many
+wake_at-index-requires-clause-many c = c.args.pool.now.few.1
+
+pub wake_at-index-requires-clause-number : goal.wake_at-index-requires-clause-number
+wake_at-index-requires-clause-number c = let low = c.requires.sits.rooted.low in let high = c.requires.sits.rooted.high in let few = c.args.pool.now.few.0 in (low, omega (arith, high, few))
+
+pub wake_at-word-requires-clause-few : goal.wake_at-word-requires-clause-few
+wake_at-word-requires-clause-few c = c.args.pool.now.few.0
+
+pub wake_at-word-requires-clause-inside : goal.wake_at-word-requires-clause-inside
+wake_at-word-requires-clause-inside c = c.requires.sits.rooted.high
+
+pub next_at-requires-clause-table : goal.next_at-requires-clause-table
+next_at-requires-clause-table c = c.requires.belongs.table
+
+pub next_at-requires-clause-inside : goal.next_at-requires-clause-inside
+next_at-requires-clause-inside c = (c.requires.mutex, c.requires.belongs.parts)
+
+pub next_at-requires-clause-is_next : goal.next_at-requires-clause-is_next
+next_at-requires-clause-is_next c =
+    takes_grant c.args.pool.now.mutexes c.args.pool.now.limits.seats c.args.mutex c.args.seat.now.number c.wake_at-index.result c.wake_at-word.result (state_of c.args.seat.now c.args.mutex) c.requires.sits.ready c.requires.at c.to_word-wake.result c.to_word-wake.ensures c.wake_at-word.ensures c.wake_at-index.ensures
+
+pub returns-clause-belongs : goal.returns-clause-belongs
+returns-clause-belongs c = same_after c.args.seat.now c.next_at.new.seat c.args.pool.now.limits c.args.mutex c.next_at.result (state_of c.args.seat.now c.args.mutex) c.next_at.ensures.table c.next_at.ensures.step

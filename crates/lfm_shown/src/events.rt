@@ -1,6 +1,6 @@
 //! The lines of starts of calls and of steps. Each is made on the state first and then written, so that a line shows what was
 //! done.
-ghost use Rattle.std.specs.Prelude.{◌≡◌, Some, IfSome};
+ghost use Rattle.std.specs.Prelude.{◌≡◌, Some, None, IfSome, IfNone};
 ghost use Rattle.lfm_protocol.specs.Place.{place_of};
 ghost use Rattle.lfm_protocol.specs.Points.{kind, target, word};
 ghost use Rattle.lfm_protocol.specs.Seats.{seat};
@@ -114,6 +114,7 @@ pub struct Coming {
 impl Coming {
     /// The step that seat s makes next. None if no call of the seat is open.
     fn of(state: &State, s: u64) -> Option<Coming>
+        ensures idle { IfNone result (kind (seat state.now.seats s).point ≡ None) }
         ensures point { IfSome result (λ coming. coming.point ≡ (seat state.now.seats s).point) }
         ensures kind { IfSome result (λ coming. kind (seat state.now.seats s).point ≡ Some coming.kind) }
         ensures word { IfSome result (λ coming. coming.word ≡ word coming.kind (target (seat state.now.seats s).point s)) }
@@ -182,6 +183,7 @@ impl ShownStep {
     pub fn make(state: &mut State, s: u64) -> (Turn, Option<ShownStep>)
         ensures core { state.new ≡ (step state.old s).core }
         ensures turn { result.0 ≡ (step state.old s).turn }
+        ensures idle { IfNone result.1 (kind (seat state.old.seats s).point ≡ None) }
         ensures point { IfSome result.1 (λ shown. shown.coming.point ≡ (seat state.old.seats s).point) }
         ensures kind { IfSome result.1 (λ shown. kind (seat state.old.seats s).point ≡ Some shown.coming.kind) }
         ensures word { IfSome result.1 (λ shown.

@@ -1,5 +1,5 @@
-//! The lines of starts of calls and of steps. Each is made on the state first and then written, so that a line shows what was
-//! done.
+//! The lines of starts of calls and of steps. Each is made on the state first and then written, so that a line shows what
+//! was done.
 ghost use Rattle.std.specs.Prelude.{◌≡◌, Some, None, IfSome, IfNone};
 ghost use Rattle.lfm_protocol.specs.Place.{place_of};
 ghost use Rattle.lfm_protocol.specs.Points.{kind, target, word};
@@ -178,8 +178,8 @@ pub struct ShownStep {
 }
 
 impl ShownStep {
-    /// Seat s makes the step at its point. Returns the outcome, and what is shown of the step: None if no call of the seat was
-    /// open.
+    /// Seat s makes the step at its point. Returns the outcome, and what is shown of the step: None if no call of the seat
+    /// was open.
     pub fn make(state: &mut State, s: u64) -> (Turn, Option<ShownStep>)
         ensures core { state.new ≡ (step state.old s).core }
         ensures turn { result.0 ≡ (step state.old s).turn }
@@ -211,8 +211,8 @@ impl ShownStep {
         (turn, Some(shown))
     }
 
-    /// Writes the step: its name, its word, what was found there and what was written, where the responsibility went, and what
-    /// changed of the seat's plain data.
+    /// Writes the step: its name, its word, what was found there and what was written, where the responsibility went, and
+    /// what changed of the seat's plain data.
     pub fn write<W: Write>(&self, writer: &mut W) -> Result<(), WriteFault> {
         let coming = &self.coming;
         write_text(writer, step_name(coming.point).as_bytes())?;

@@ -1,5 +1,5 @@
-//! What programs show of a state and of its events: the names of steps, the content of words, the abstract case of a step, what
-//! a seat has in a state and does next, and lines for starts of calls and for steps.
+//! What programs show of a state and of its events: the names of steps, the content of words, the abstract case of a step,
+//! what a seat has in a state and does next, and lines for starts of calls and for steps.
 #![tactic(auto)]
 
 pub mod cases;

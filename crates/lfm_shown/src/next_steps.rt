@@ -19,9 +19,9 @@ use lfm_text::{WriteFault, write_number, write_text};
 use lfm_words::{Handoff, Link, Record};
 use std::io::Write;
 
-/// Writes what seat s does next: its call and the number of the step, its word and operation, and what the call remembers of its
-/// earlier steps, as in `lock 6: push exchange seen (1, 2)`. If no call of the seat is open, it writes whether the seat rests or
-/// sleeps.
+/// Writes what seat s does next: its call and the number of the step, its word and operation, and what the call remembers of
+/// its earlier steps, as in `lock 6: push exchange seen (1, 2)`. If no call of the seat is open, it writes whether the seat
+/// rests or sleeps.
 pub fn write_next<W: Write>(writer: &mut W, state: &State, s: u64) -> Result<(), WriteFault>
     ensures { Writes (W.contents writer.old) (W.contents writer.new) (next_text (seat state.now.seats s).point s) result }
 {

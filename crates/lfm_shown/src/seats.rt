@@ -1,5 +1,5 @@
-//! What a seat has in a state, as a text: its plain data, its words, and its next step. With the trace's text of the state and the
-//! push word, the texts of all seats show every word of the state.
+//! What a seat has in a state, as a text: its plain data, its words, and its next step. With the trace's text of the state
+//! and the push word, the texts of all seats show every word of the state.
 #![tactic(auto, using(lfm_text::proofs::Writes::writings))]
 
 ghost use Rattle.lfm_shown.specs.Texts.{plain_text, seat_words_text, seat_text};

@@ -3,13 +3,10 @@
 //! went. With the word `drive` it drives a running mutex through the schedule instead, and shows the outcome of each line.
 #![tactic(auto)]
 
-mod cases;
 mod commands;
 mod driving;
 mod explaining;
 mod shown;
-mod step_names;
-mod values;
 
 use std::process::ExitCode;
 

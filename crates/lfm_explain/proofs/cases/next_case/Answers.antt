@@ -1,5 +1,0 @@
-use Rattle.std.proofs.Common.{rules}
-use Rattle.lfm_explain.proofs.cases.next_case.Goals as goal
-
-pub returns-in-PushedHandoffExchange : goal.returns-in-PushedHandoffExchange
-returns-in-PushedHandoffExchange c = search rules

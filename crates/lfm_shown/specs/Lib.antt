@@ -1,0 +1,5 @@
+pub mod Cases
+pub mod Names
+pub mod Plain
+pub mod Texts
+pub mod Values

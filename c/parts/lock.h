@@ -131,12 +131,6 @@ SLOW_PATH lfm_status lock_slowly(lfm_seat *seat, lfm_status status) {
 
 /* The fast paths */
 
-/* Makes the rings that were put off, after an unlock with this status. If it was granted to a seat, one call of the system
- * has been made to wake that. */
-SLOW_PATH void ring_after_unlock(lfm_seat *seat, lfm_status status) {
-  if (status != LFM_STILL) ring_unrung(seat, status == LFM_GRANTED ? CALLS_OF_AN_UNLOCK - 1 : CALLS_OF_AN_UNLOCK);
-}
-
 FAST_PATH lfm_status lock_plainly(lfm_seat *seat) {
   lfm_status status = status_of(lfm_c_try_lock(seat->handle));
   return LIKELY(!lfm_is_refused(status)) ? status : lock_slowly(seat, status);
@@ -149,7 +143,7 @@ FAST_PATH lfm_status try_plainly(lfm_seat *seat) {
 
 FAST_PATH lfm_status unlock_plainly(lfm_seat *seat) {
   lfm_status status = wake_named(seat->core, lfm_c_unlock(seat->handle));
-  if (UNLIKELY(seat->unrung)) ring_after_unlock(seat, status);
+  if (UNLIKELY(seat->unrung) && status != LFM_STILL) ring_unrung(seat, status);
   return status;
 }
 
@@ -189,6 +183,6 @@ FAST_PATH lfm_status unlock(lfm_seat *seat) {
   if (!reclaim(seat)) return LFM_NOT_OWNER;
   if (UNLIKELY(seat->flags & IS_WATCHED)) tell_releasing(seat);
   lfm_status status = wake_named(seat->core, lfm_c_unlock(seat->handle));
-  if (UNLIKELY(seat->unrung)) ring_after_unlock(seat, status);
+  if (UNLIKELY(seat->unrung) && status != LFM_STILL) ring_unrung(seat, status);
   return status;
 }

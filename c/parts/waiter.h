@@ -63,10 +63,11 @@ static void ring_for_two(struct lfm_waiter *one, struct lfm_waiter *other) {
   }
 }
 
-/* Makes the rings that were put off until the seat releases the mutex: those for the first waiters, with at most this many
- * calls of the system. */
-static void ring_unrung(lfm_seat *seat, int calls) {
+/* Makes the rings that were put off until the seat releases the mutex, after an unlock with this status: those for the first
+ * waiters. If it has granted the mutex to another seat, a call of the system has been made to wake that. */
+static void ring_unrung(lfm_seat *seat, lfm_status status) {
   struct lfm_waiter *first[CALLS_OF_AN_UNLOCK * RINGS] = {NULL}, *waiter = seat->unrung;
+  int calls = status == LFM_GRANTED ? CALLS_OF_AN_UNLOCK - 1 : CALLS_OF_AN_UNLOCK;
   int most = LFM_RINGS(can_ring_both() ? calls * RINGS : calls);
   seat->unrung = NULL;
   for (int i = 0; waiter && i < most; i++) {

@@ -19,8 +19,8 @@
 enum { MOST = 40, MOST_CALLS = 2 };
 
 // What the system leaves out of FUTEX_WAKE_OP: nothing; the wakes, as if a mutex with priority inheritance had come to the
-// memory of the first word; or all, always.
-enum refusal { OF_NOTHING, OF_WAKES, OF_ALL };
+// memory of the first word; all, for want of memory; or all, always.
+enum refusal { OF_NOTHING, OF_WAKES, OF_MEMORY, OF_ALL };
 static std::atomic<refusal> refuses{OF_NOTHING};
 static std::atomic<int> wakes_of_two; // calls of FUTEX_WAKE_OP
 static thread_local int calls;
@@ -38,12 +38,15 @@ static void only_change(const long *arguments) {
 // The library makes such a call with words of its own if one has failed. That changes 1 into 1.
 static bool is_trial(const long *arguments) { return (arguments[5] >> 12 & 0xfff) == (arguments[5] & 0xfff); }
 
-static bool is_refused(const long *arguments) {
-  if (arguments[1] != FUTEX_WAKE_OP_PRIVATE) return false;
+// With which error a call of futex fails, or 0.
+static int error_of(const long *arguments) {
+  if (arguments[1] != FUTEX_WAKE_OP_PRIVATE) return 0;
   wakes_of_two++;
-  if (refuses == OF_WAKES && is_trial(arguments)) return false;
-  if (refuses == OF_WAKES) only_change(arguments);
-  return refuses != OF_NOTHING;
+  if (refuses == OF_ALL) return EINVAL;
+  if (refuses == OF_NOTHING || is_trial(arguments)) return 0;
+  if (refuses == OF_MEMORY) return ENOMEM;
+  only_change(arguments);
+  return EINVAL;
 }
 
 long __wrap_syscall(long number, ...) {
@@ -53,8 +56,9 @@ long __wrap_syscall(long number, ...) {
   for (long &each : arguments) each = va_arg(list, long);
   va_end(list);
   calls += number == SYS_futex;
-  if (number == SYS_futex && is_refused(arguments)) {
-    errno = EINVAL;
+  int error = number == SYS_futex ? error_of(arguments) : 0;
+  if (error) {
+    errno = error;
     return -1;
   }
   return __real_syscall(number, arguments[0], arguments[1], arguments[2], arguments[3], arguments[4], arguments[5]);
@@ -124,6 +128,8 @@ int main() {
   EXPECT(wakes_of_two > 0, true);
   refuses = OF_WAKES;
   wakes_in_all_ways(3 * MOST_CALLS);
+  refuses = OF_MEMORY;
+  wakes_in_all_ways(4 * MOST_CALLS);
   refuses = OF_ALL;
   int before = wakes_of_two;
   while (wakes_of_two == before) wakes(4, ALL, false); // the library learns of it as soon as a waiter sleeps

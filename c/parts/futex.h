@@ -36,32 +36,32 @@ struct change {
 
 /* A call of futex (FUTEX_WAKE_OP) that leaves errno as it was. The system exchanges what is in the changed word for the new
  * value. Then it wakes a sleeper at the other word, and if it found the value that is changed from, also one at the changed
- * word. Whether it has done all that. */
-static bool wake_and_change(uint32_t *word, struct change change) {
+ * word. The error with which it fails, or 0. */
+static int wake_and_change(uint32_t *word, struct change change) {
   int before = errno;
   uint32_t operation = change.to << 12 | change.from; /* FUTEX_OP_SET, and FUTEX_OP_CMP_EQ for the second wake */
-  bool is_done = syscall(SYS_futex, word, FUTEX_PRIVATE_WAKE_OP, 1, 1ul, change.word, operation) != -1;
+  int error = syscall(SYS_futex, word, FUTEX_PRIVATE_WAKE_OP, 1, 1ul, change.word, operation) == -1 ? errno : 0;
   errno = before;
-  return is_done;
+  return error;
 }
 
 /* Whether the system has refused that. Linux has had it since 2.6.14, but a sandbox or an emulator may not have it. */
 static bool is_change_refused;
 
-/* The same: whether the word was changed. If the call fails, another one, with words of its own, tells why. If that fails
- * too, the system refuses such calls, and has changed nothing. Otherwise it has made the change, and no wake: at `word` it
- * found a sleeper of another kind, as of a mutex with priority inheritance that lies in the same memory now. Then nobody
- * sleeps at `word` for this library, and only a sleeper at the changed word is to be woken. */
+/* The same: whether the word was changed. If the call fails, another one, with words of its own, tells whether the system
+ * refuses all such calls. If it doesn't, EINVAL says that it has made the change, and no wake: at `word` it found a sleeper
+ * of another kind, as of a mutex with priority inheritance that lies in the same memory now. Then nobody sleeps at `word`
+ * for this library, and only a sleeper at the changed word is to be woken. */
 static bool wake_sleeper_and_change(uint32_t *word, struct change change) {
   if (__atomic_load_n(&is_change_refused, __ATOMIC_RELAXED)) return false;
-  if (wake_and_change(word, change)) return true;
+  int error = wake_and_change(word, change);
+  if (error == 0) return true;
   uint32_t own[2] = {0};
-  if (wake_and_change(&own[0], (struct change){&own[1], 1, 1})) {
-    wake_sleeper(change.word);
-    return true;
-  }
-  __atomic_store_n(&is_change_refused, true, __ATOMIC_RELAXED);
-  return false;
+  bool is_refused = wake_and_change(&own[0], (struct change){&own[1], 1, 1});
+  if (is_refused) __atomic_store_n(&is_change_refused, true, __ATOMIC_RELAXED);
+  if (is_refused || error != EINVAL) return false;
+  wake_sleeper(change.word);
+  return true;
 }
 
 /* Sleeps for this many nanoseconds, less than a second, or less if a signal comes. */

@@ -52,8 +52,8 @@ static void put_off_ring(lfm_seat *seat, struct lfm_waiter *waiter) {
   seat->last_unrung = waiter;
 }
 
-/* Rings for these waiters, each of which may be null. ThreadSanitizer doesn't see what the system does to a bell, so it is
- * told. */
+/* Rings for these waiters, each of which may be null. ThreadSanitizer doesn't see the exchange that the system makes, so it
+ * is told what that releases. */
 static void ring_for_two(struct lfm_waiter *one, struct lfm_waiter *other) {
   if (one && other) {
     if (__tsan_release) __tsan_release(&other->bell);
@@ -81,6 +81,5 @@ static void ring_unrung(lfm_seat *seat, lfm_status status) {
 
 /* Makes the rings that fall to a waiter which was rung for. */
 static void ring_for_others(const struct lfm_waiter *waiter) {
-  if (__tsan_acquire) __tsan_acquire((void *)&waiter->bell);
   ring_for_two(waiter->rings_for[0], waiter->rings_for[1]);
 }

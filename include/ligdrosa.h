@@ -289,11 +289,12 @@ static inline LFM_MUST_TEST bool lfm_acquire(lfm_seat *seat) { return !lfm_is_re
 static inline LFM_MUST_TEST bool lfm_try_acquire(lfm_seat *seat) { return !lfm_is_refused(lfm_try_lock(seat)); }
 
 /* Releases one hold: LFM_STILL if the seat still holds, else LFM_DONE, LFM_POSTED or LFM_GRANTED. It never sleeps. It makes
- * at most two calls of the system: one to wake the next thread that asked, and one for the threads at condition variables
- * that were woken in the hold, however many these are. On its way to the next thread that waits, it passes by the seats
- * that timed locks have left queued, each with one more call at most, and LFM_GRANTED counts these too. No number bounds
- * these: a seat that was passed by may be queued and left again before the unlock ends. The same holds of a lock that wakes
- * another thread.
+ * at most two calls of the system: one to wake the next thread that asked, if one has, and the rest for the threads at
+ * condition variables that were woken in the hold, however many these are. If the system refuses FUTEX_WAKE_OP, as a sandbox
+ * may, an unlock that finds this out makes up to six. On its way to the next thread that waits, it passes by the seats that
+ * timed locks have left queued, each with one more call at most, and LFM_GRANTED counts these too. No number bounds these: a
+ * seat that was passed by may be queued and left again before the unlock ends. The same holds of a lock that wakes another
+ * thread.
  * Refused: LFM_BLANK, LFM_SEAT_ASLEEP, LFM_NOT_OWNER. */
 LFM_API lfm_status lfm_unlock(lfm_seat *seat);
 
@@ -357,7 +358,7 @@ LFM_API lfm_status lfm_wake_one(lfm_condvar *condvar);
 LFM_API lfm_status lfm_wake_all(lfm_condvar *condvar);
 /* The same by a thread with a seat in hand. If that seat holds, threads that wait without a time limit and for its mutex are
  * woken when it releases the mutex, as they are if the holder's seat finds itself. So they don't find it held. The unlock
- * wakes the first of them. Each that was woken so wakes at most two others, before it locks. */
+ * wakes the first of them, at most four. Each that was woken so wakes at most two others, before it locks. */
 LFM_API lfm_status lfm_wake_one_by(lfm_condvar *condvar, lfm_seat *seat);
 LFM_API lfm_status lfm_wake_all_by(lfm_condvar *condvar, lfm_seat *seat);
 

@@ -5,6 +5,9 @@
  * comes before that change, the change fails. If it comes after it, the ring finds LISTENED and wakes the thread. If the
  * thread is not asleep by then, the system compares the word and doesn't put it to sleep.
  *
+ * Two bells are rung with one call of the system, which makes the exchange of the second and then both wakes. That is as if
+ * they were rung one after another.
+ *
  * A bell may be gone as soon as it is RUNG: its thread goes on and may free its memory. The ring's exchange is the last
  * access to it. The wake after it uses the address alone. If other memory lies there, a thread that sleeps there by futex
  * may be woken too early. As the system may do so as well, its program has to expect it. */
@@ -26,8 +29,25 @@ static uint32_t bell_of(uint32_t *bell) { return __atomic_load_n(bell, __ATOMIC_
 
 static void silence(uint32_t *bell) { __atomic_store_n(bell, SILENT, __ATOMIC_RELAXED); }
 
+/* Makes the ring's exchange: whether a thread sleeps at the bell, or is about to, and is to be woken. */
+static bool set_rung(uint32_t *bell) { return __atomic_exchange_n(bell, RUNG, __ATOMIC_SEQ_CST) == LISTENED; }
+
 static void ring(uint32_t *bell) {
-  if (__atomic_exchange_n(bell, RUNG, __ATOMIC_SEQ_CST) == LISTENED) wake_sleeper(bell);
+  if (set_rung(bell)) wake_sleeper(bell);
+}
+
+/* Whether two bells are rung with one call of the system, as far as is known. */
+static bool can_ring_both(void) { return !__atomic_load_n(&is_change_refused, __ATOMIC_RELAXED); }
+
+/* Rings two bells, with at most one call of the system unless that refuses it. The exchange that the system makes releases
+ * what came before it, as the other does: there is a barrier before each change of a word by futex. */
+static void ring_both(uint32_t *bell, uint32_t *other) {
+  if (!set_rung(bell)) {
+    ring(other);
+  } else if (!wake_sleeper_and_change(bell, (struct change){other, LISTENED, RUNG})) {
+    wake_sleeper(bell);
+    ring(other);
+  }
 }
 
 /* Spins at the bell for this many nanoseconds: whether it has rung. */

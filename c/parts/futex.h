@@ -1,7 +1,8 @@
 /* Sleeping on a word and waking a sleeper, by the system; clocks, and deadlines of timed calls. No word of the library is
  * known here: what a word means is said in bell.h, latch.h and condvar.h. */
 
-enum { FUTEX_PRIVATE_WAIT = 128, FUTEX_PRIVATE_WAKE = 129, FUTEX_PRIVATE_WAIT_UNTIL = 137, FUTEX_BY_REALTIME = 256 };
+enum { FUTEX_PRIVATE_WAIT = 128, FUTEX_PRIVATE_WAKE = 129, FUTEX_PRIVATE_WAKE_OP = 133, FUTEX_PRIVATE_WAIT_UNTIL = 137 };
+enum { FUTEX_BY_REALTIME = 256 };
 enum { NANOSECONDS = 1000000000 };
 
 /* Until when a timed call waits. */
@@ -26,6 +27,42 @@ static bool sleep_while(uint32_t *word, uint32_t value, const struct deadline *d
 }
 
 static void wake_sleeper(uint32_t *word) { futex(word, FUTEX_PRIVATE_WAKE, 1, NULL); }
+
+/* A word that the system changes from one value to another, both below 2^11. */
+struct change {
+  uint32_t *word;
+  uint32_t from, to;
+};
+
+/* A call of futex (FUTEX_WAKE_OP) that leaves errno as it was. The system exchanges what is in the changed word for the new
+ * value. Then it wakes a sleeper at the other word, and if it found the value that is changed from, also one at the changed
+ * word. The error with which it fails, or 0. */
+static int wake_and_change(uint32_t *word, struct change change) {
+  int before = errno;
+  uint32_t operation = change.to << 12 | change.from; /* FUTEX_OP_SET, and FUTEX_OP_CMP_EQ for the second wake */
+  int error = syscall(SYS_futex, word, FUTEX_PRIVATE_WAKE_OP, 1, 1ul, change.word, operation) == -1 ? errno : 0;
+  errno = before;
+  return error;
+}
+
+/* Whether the system has refused that. Linux has had it since 2.6.14, but a sandbox or an emulator may not have it. */
+static bool is_change_refused;
+
+/* The same: whether the word was changed. If the call fails, another one, with words of its own, tells whether the system
+ * refuses all such calls. If it doesn't, EINVAL says that it has made the change, and no wake: at `word` it found a sleeper
+ * of another kind, as of a mutex with priority inheritance that lies in the same memory now. Then nobody sleeps at `word`
+ * for this library, and only a sleeper at the changed word is to be woken. */
+static bool wake_sleeper_and_change(uint32_t *word, struct change change) {
+  if (__atomic_load_n(&is_change_refused, __ATOMIC_RELAXED)) return false;
+  int error = wake_and_change(word, change);
+  if (error == 0) return true;
+  uint32_t own[2] = {0};
+  bool is_refused = wake_and_change(&own[0], (struct change){&own[1], 1, 1});
+  if (is_refused) __atomic_store_n(&is_change_refused, true, __ATOMIC_RELAXED);
+  if (is_refused || error != EINVAL) return false;
+  wake_sleeper(change.word);
+  return true;
+}
 
 /* Sleeps for this many nanoseconds, less than a second, or less if a signal comes. */
 static void nap_for(uint64_t nanoseconds) {

@@ -143,7 +143,7 @@ FAST_PATH lfm_status try_plainly(lfm_seat *seat) {
 
 FAST_PATH lfm_status unlock_plainly(lfm_seat *seat) {
   lfm_status status = wake_named(seat->core, lfm_c_unlock(seat->handle));
-  if (UNLIKELY(seat->unrung) && status != LFM_STILL) ring_unrung(seat);
+  if (UNLIKELY(seat->unrung) && status != LFM_STILL) ring_unrung(seat, status);
   return status;
 }
 
@@ -183,6 +183,6 @@ FAST_PATH lfm_status unlock(lfm_seat *seat) {
   if (!reclaim(seat)) return LFM_NOT_OWNER;
   if (UNLIKELY(seat->flags & IS_WATCHED)) tell_releasing(seat);
   lfm_status status = wake_named(seat->core, lfm_c_unlock(seat->handle));
-  if (UNLIKELY(seat->unrung) && status != LFM_STILL) ring_unrung(seat);
+  if (UNLIKELY(seat->unrung) && status != LFM_STILL) ring_unrung(seat, status);
   return status;
 }

@@ -79,7 +79,7 @@ static lfm_status give_back_slot(size_t at) {
   lfm_seat *seat = own.slots[at].seat;
   bool is_orphaned = false;
   if (is_of_process(seat->core)) { /* a forked child doesn't have the threads that wait */
-    ring_unrung(seat);
+    ring_unrung(seat, LFM_DONE);
     is_orphaned = has_abandoned(seat) && orphan_own(seat);
   }
   if (!is_orphaned) {

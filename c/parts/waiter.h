@@ -1,14 +1,28 @@
 /* A wait at a condition variable, and rings that are put off until the mutex is released. Lists of waiters are in condvar.h.
  *
- * An unlock makes one ring, however many were put off. The waiters whose rings a hold puts off are a tree, filled in the
- * order of their wakes. The unlock rings for the first. Each that was rung for rings for at most two others, before it
- * locks. So each is rung for once, and none waits until another has acquired the mutex. Of n waiters the last is rung for
- * after about log n others, and not after all of them.
+ * An unlock makes at most two calls of the system, however many rings were put off, and a call makes two rings (bell.h). If
+ * a call has woken the next thread that asked, one is left. So an unlock rings for the first four waiters, or two. The
+ * waiters whose rings a hold puts off are a tree, filled in the order of their wakes. Each that was rung for rings for at
+ * most two others, before it locks. So of n waiters the last is rung for after about log n others, and none waits until
+ * another has acquired the mutex. That an unlock rings for four is for small broadcasts: one to four waiters took a third
+ * longer when it rang for one.
  *
- * Nothing is touched after its end. A waiter stays where it is until it was rung for, and only the one before it in the tree
- * rings for it. By then the tree is full, and nobody looks at the others. */
+ * Each waiter is rung for once. Before its first ring the unlock takes those for which it rings out of the tree, so that no
+ * other rings for them. Any other has one place in the tree, which nobody changes any more.
+ *
+ * No ring is lost. A waiter of the tree has no deadline (`ring_for` in condvar.h), so nothing but its ring ends its wait.
+ * Then its thread makes the rings that fall to it before all else.
+ *
+ * Nothing is touched after its end. A waiter stays where it is until it was rung for. Who rings for it has read before all
+ * that it needs of it, and nobody else looks at it. */
 
-enum { RINGS = 2 };
+enum { RINGS = 2, CALLS_OF_AN_UNLOCK = 2 };
+
+/* For how many waiters an unlock rings. A tool that explores interleavings may have it ring for fewer: then few waiters ring
+ * for others, as otherwise only many do. */
+#ifndef LFM_RINGS
+#define LFM_RINGS(count) (count)
+#endif
 
 struct lfm_waiter {
   struct lfm_waiter *older; /* of the list of its condition variable */
@@ -38,15 +52,34 @@ static void put_off_ring(lfm_seat *seat, struct lfm_waiter *waiter) {
   seat->last_unrung = waiter;
 }
 
-/* Makes the rings that were put off until the seat releases the mutex: that of the first waiter. */
-static void ring_unrung(lfm_seat *seat) {
-  struct lfm_waiter *first = seat->unrung;
+/* Rings for these waiters, each of which may be null. ThreadSanitizer doesn't see the exchange that the system makes, so it
+ * is told what that releases. */
+static void ring_for_two(struct lfm_waiter *one, struct lfm_waiter *other) {
+  if (one && other) {
+    if (__tsan_release) __tsan_release(&other->bell);
+    ring_both(&one->bell, &other->bell);
+  } else if (one || other) {
+    ring(one ? &one->bell : &other->bell);
+  }
+}
+
+/* Makes the rings that were put off until the seat releases the mutex, after an unlock with this status: those for the first
+ * waiters. If it has granted the mutex to another seat, a call of the system has been made to wake that. */
+static void ring_unrung(lfm_seat *seat, lfm_status status) {
+  struct lfm_waiter *first[CALLS_OF_AN_UNLOCK * RINGS] = {NULL}, *waiter = seat->unrung;
+  int calls = status == LFM_GRANTED ? CALLS_OF_AN_UNLOCK - 1 : CALLS_OF_AN_UNLOCK;
+  int most = LFM_RINGS(can_ring_both() ? calls * RINGS : calls);
   seat->unrung = NULL;
-  if (first) ring(&first->bell);
+  for (int i = 0; waiter && i < most; i++) {
+    struct lfm_waiter *before = waiter->rung_by;
+    if (before) before->rings_for[before->rings_for[0] == waiter ? 0 : 1] = NULL;
+    first[i] = waiter;
+    waiter = waiter->newer;
+  }
+  for (int i = 0; i < most; i += RINGS) ring_for_two(first[i], first[i + 1]);
 }
 
 /* Makes the rings that fall to a waiter which was rung for. */
 static void ring_for_others(const struct lfm_waiter *waiter) {
-  for (int i = 0; i < RINGS; i++)
-    if (waiter->rings_for[i]) ring(&waiter->rings_for[i]->bell);
+  ring_for_two(waiter->rings_for[0], waiter->rings_for[1]);
 }

@@ -14,6 +14,18 @@
 #include <unistd.h>
 #include "explorer.h"
 
+enum { FUTEX_WAKE_ONE = 129, FUTEX_WAKE_AND_CHANGE = 133 };
+
+/* FUTEX_WAKE_OP, as wake_and_change of the C file calls it. The system does it in one step as far as sleepers see. Here its
+ * exchange and each wake is a point of its own, so that more is explored. */
+static long change_and_wake(uint32_t *word, uint32_t *changed, uint32_t operation) {
+  uint32_t to = operation >> 12 & 0xfff, from = operation & 0xfff;
+  bool is_found = __atomic_exchange_n(changed, to, __ATOMIC_SEQ_CST) == from;
+  explorer_futex(word, FUTEX_WAKE_ONE, 1, NULL);
+  if (is_found) explorer_futex(changed, FUTEX_WAKE_ONE, 1, NULL);
+  return 0;
+}
+
 static long explorer_syscall(long number, ...) {
   va_list list;
   va_start(list, number);
@@ -21,6 +33,12 @@ static long explorer_syscall(long number, ...) {
     uint32_t *word = va_arg(list, uint32_t *);
     int operation = va_arg(list, int);
     uint32_t value = va_arg(list, uint32_t);
+    if (operation == FUTEX_WAKE_AND_CHANGE) {
+      (void)va_arg(list, unsigned long);
+      uint32_t *changed = va_arg(list, uint32_t *), by = va_arg(list, uint32_t);
+      va_end(list);
+      return change_and_wake(word, changed, by);
+    }
     const void *time = va_arg(list, const void *);
     va_end(list);
     return explorer_futex(word, operation, value, time);
@@ -65,6 +83,7 @@ static int explorer_setspecific(pthread_key_t key, const void *value) {
 #define memcpy explorer_memcpy
 #define abort() explorer_fault("abort of the library")
 #define LFM_ROUNDS(count) explorer_rounds(count)
+#define LFM_RINGS(count) explorer_rings(count)
 #ifndef LIGDROSA_C
 #define LIGDROSA_C "../../c/ligdrosa.c"
 #endif

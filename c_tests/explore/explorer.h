@@ -19,6 +19,7 @@ _Noreturn void explorer_fault(const char *what);
 void explorer_touch(const void *at, size_t bytes, bool writes);
 int explorer_processors(void);
 int explorer_rounds(int count); /* how many of these rounds are made: see LFM_ROUNDS */
+int explorer_rings(int count);  /* how many of these rings an unlock makes: see LFM_RINGS */
 bool explorer_toggle_clock(void);
 void explorer_set_specific(void *value);
 void *explorer_specific(void);

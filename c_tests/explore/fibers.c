@@ -59,6 +59,7 @@ __attribute__((noinline)) int explorer_choose(int count) {
 int explorer_self(void) { return current; }
 int explorer_processors(void) { return processors; }
 int explorer_rounds(int count) { return makes_all_rounds ? count : 1; }
+int explorer_rings(int count) { return makes_one_ring ? 1 : count; }
 bool explorer_toggle_clock(void) {
   if (current < 0 || processors == 1) return false;
   return REGION->fibers[current].toggled ^= 1;

@@ -3,6 +3,7 @@
  *   -r N  makes N runs by chance instead, and looks for data races as the memory orders of the code allow them
  *   -w    the proved calls are whole: no points inside
  *   -a    loops in which a thread waits without sleeping make all their rounds; otherwise one
+ *   -n    an unlock rings for one waiter, so that the others ring for each other; otherwise for as many as it can
  *   -p N  with N processors; with 1, which is the default, no thread spins
  *   -s    the system may wake a sleeper for no reason
  *   -f    memory may be refused to a thread
@@ -20,7 +21,7 @@
 #include "state.h"
 
 int processors = 1;
-bool may_refuse_memory, may_wake_spuriously, makes_all_rounds, looks_for_ends = true;
+bool may_refuse_memory, may_wake_spuriously, makes_all_rounds, makes_one_ring, looks_for_ends = true;
 u64 most_states = 60000000, seed = 1;
 volatile int is_time_over;
 
@@ -49,10 +50,11 @@ static const struct scenario *look_up(const char *name) {
 int main(int count, char **words) {
   u64 runs = 0;
   int option;
-  while ((option = getopt(count, words, "r:wap:sftm:S:lT:")) != -1) switch (option) {
+  while ((option = getopt(count, words, "r:wanp:sftm:S:lT:")) != -1) switch (option) {
       case 'r': runs = strtoull(optarg, NULL, 10); break;
       case 'w': explorer_whole_calls = true; break;
       case 'a': makes_all_rounds = true; break;
+      case 'n': makes_one_ring = true; break;
       case 'p': processors = atoi(optarg); break;
       case 's': may_wake_spuriously = true; break;
       case 't': explorer_has_stamps = true; break;

@@ -47,7 +47,7 @@ struct transition {
 
 /* Options */
 extern int processors;
-extern bool may_refuse_memory, may_wake_spuriously, looks_for_ends, makes_all_rounds;
+extern bool may_refuse_memory, may_wake_spuriously, looks_for_ends, makes_all_rounds, makes_one_ring;
 extern u64 most_states, seed;
 extern volatile int is_time_over;
 

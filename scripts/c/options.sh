@@ -27,7 +27,7 @@ options_of() {
       printf ',--wrap=lfm_c_%s' blank_seat close take_seat give_seat number depth left count ask receive try_lock unlock
       ;;
     endings.cpp | wakes_put_off.cpp) printf '%s' -Wl,--wrap=syscall ;;
-    statics.cpp) printf '%s' -std=c++20 ;; # which has constinit
+    bench.cpp | statics.cpp) printf '%s' -std=c++20 ;; # which have barriers and constinit
     without_exceptions.cpp) printf '%s' '-fno-exceptions -fno-rtti' ;;
   esac
 }
@@ -35,6 +35,7 @@ options_of() {
 # arguments_of FILE   the arguments that its program is run with
 arguments_of() {
   case $1 in
-    soak.c) printf '3 4' ;; # seconds and threads
+    bench.cpp) printf '1 1' ;; # rounds and milliseconds of each: no times are tested
+    soak.c) printf '3 4' ;;    # seconds and threads
   esac
 }

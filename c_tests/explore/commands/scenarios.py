@@ -16,6 +16,8 @@ WAYS = [
                 "wait_for2_inside condvar_close2 condvar_close2_inside condvar_close_refused2 here_wait2 ping_pong "
                 "timed_wait2 wake_by_another_mutex2 closed_beside_another2 adopt2 adopt_hand2 adopt_hand_calls2 "
                 "adopt_from_hand2 adopt_into_hand2"),
+    (MODEL, "-w -n", "wake_all3 wakes3_inside wake_on3 wake_all4"),
+    (PROVED, "-w -n", "wake_all3 wakes3_inside wake_on3"),
     (MODEL, "-w -p 4", "lock2 order2 order3 deep2 timed2 timed_lock wait2 wait2_inside wait_for2 ping_pong"),
     (MODEL, "-w -s", "order2 order3 timed2 timed3 timed_lock wait2 wait_for2 ping_pong give2 adopt_hand2 wakes3_inside"),
     (MODEL, "-w -f", "spent2 here2 here_timed timed_give give2 adopt2 adopt_hand2"),
@@ -57,13 +59,13 @@ def judge(work, status, text, found):
     return None
 
 
-def compare_rounds(found):
-    """A line for each scenario of which one round and all rounds of loops have other end states."""
+def compare_ends(found):
+    """A line for each scenario that has other end states with all rounds of loops, or with one ring by an unlock."""
     for (of, options, name), counts in found.items():
-        if options == "-w -a":
-            of_one = found[of, "-w", name]
-            if (counts["ends"], counts["sum"]) != (of_one["ends"], of_one["sum"]):
-                yield f"{name}: {counts['ends']} end states with all rounds of loops, {of_one['ends']} with one, or others"
+        if options in ("-w -a", "-w -n"):
+            usual = found[of, "-w", name]
+            if (counts["ends"], counts["sum"]) != (usual["ends"], usual["sum"]):
+                yield f"{name}: {counts['ends']} end states over {of} with {options}, {usual['ends']} with -w, or others"
 
 
 def explore(over, is_short, writes):
@@ -82,7 +84,7 @@ def explore(over, is_short, writes):
     passed = len(works) - len(failures)
     if failures:
         return passed, len(failures)
-    of_all = list(compare_rounds(found))
+    of_all = list(compare_ends(found))
     if writes:
         table.write(found, scenarios)
     else:

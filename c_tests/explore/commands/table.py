@@ -15,6 +15,7 @@ BY = "Counted with the compiler "
 MEANINGS = {
     "-w": "each proved call is one step",
     "": "each step of a proved call is one of its own",
+    "-w -n": "an unlock rings for one waiter. The ends are the same states as if it rings for four",
     "-w -p 4": "with four processors, so that threads spin",
     "-w -s": "the system may wake a sleeper for no reason",
     "-w -f": "memory may be refused",

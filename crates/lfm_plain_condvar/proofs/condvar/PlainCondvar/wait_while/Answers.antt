@@ -1,0 +1,48 @@
+use Rattle.std.proofs.Common.{◌≡◌, zero, suc, true, Result, refl, ap, ◌∙◌}
+use Rattle.std.specs.Fn.{FnReturnsAt}
+use Rattle.lfm_model.specs.declared.refusals.Refusal.{Refusal}
+use Rattle.lfm_mutex.specs.Belongs.{limits_of, tries_of}
+use Rattle.lfm_mutex.specs.calls.Sight.{Sight, sight}
+use Rattle.lfm_plain_condvar.specs.Repeated.{NeedNotWait, WaitWhileEnds, WouldWait}
+use Rattle.lfm_plain_condvar.proofs.Repeating.{as_deep, handed_on, if_true, may_again, stays}
+use Rattle.lfm_mutex.proofs.runs.Woken.{looks_join, looks_none}
+use Rattle.lfm_mutex.proofs.runs.RunGoesOn.{run_next, run_same}
+use Rattle.lfm_plain_condvar.proofs.condvar.PlainCondvar.wait_while.Goals as goal
+
+pub returns-in_err-_ticket-clause-run : goal.returns-in_err-_ticket-clause-run
+returns-in_err-_ticket-clause-run g c = run_next c.waits.invariant.run c.in_err-_ticket.ensures.run
+
+pub waits-init : goal.waits-init
+waits-init g c = record { belongs = c.requires.belongs; beside = (refl, refl); run = run_same; woken = looks_none c.args.seat.now c.args.seat.now refl refl; cond_woken = looks_none c.args.cond.now.seat c.args.cond.now.seat refl refl; notifies = refl; leaves = c.requires.leaves; depth = refl; waits = (zero, (refl, refl)) }
+
+-- one more wait was needed
+pub waits-preserved : goal.waits-preserved
+waits-preserved g c = let i = c.waits.invariant in let e = c.in_ok-_ticket.ensures in let user = limits_of c.args.mutex.now in let own = limits_of c.args.self.now.inner in let tries = tries_of c.args.self.now.inner in let user_tries = tries_of c.args.mutex.now in
+    let c' = sight c.waits.cond.seat in let d = sight c.wait.new.cond.seat in let s = sight c.waits.seat in let t = sight c.wait.new.seat in
+    let says = (λ (v : _) (b : _). FnReturnsAt g.F.Fn c.args.condition v b) in let must : c.must_wait.result ≡ true = cc in record {
+      belongs = (e.belongs.0, (e.belongs.1.0 ∙ i.belongs.1.0, e.belongs.1.1 ∙ i.belongs.1.1));
+      woken = looks_join c.args.seat.now c.waits.seat c.wait.new.seat i.woken e.woken;
+      cond_woken = looks_join c.args.cond.now.seat c.waits.cond.seat c.wait.new.cond.seat i.cond_woken e.cond_woken;
+      notifies = e.notifies ∙ i.notifies;
+      beside = (e.belongs.1.0 ∙ i.beside.0, e.belongs.1.1 ∙ i.beside.1);
+      run = run_next i.run e.run;
+      leaves = may_again g.T.Kept.follows g.T.Kept.fits user own tries user_tries c.in_ok-_ticket._ticket c' d s t c.requires.keeps e.waits;
+      depth = as_deep g.T.Kept.follows g.T.Kept.fits user own tries user_tries c.in_ok-_ticket._ticket c' d s t e.waits ∙ i.depth;
+      waits = (suc i.waits.0, (c', s, c.in_ok-_ticket._ticket, i.waits.1, if_true c.must_wait.result (WouldWait says s) (NeedNotWait says s) must c.must_wait.ensures, e.waits));
+    }
+
+pub returns-in_err-_ticket-clause-depth : goal.returns-in_err-_ticket-clause-depth
+returns-in_err-_ticket-clause-depth g c =
+    ap (λ (u : Sight _). u.depth) (stays g.T.Kept.follows g.T.Kept.fits (limits_of c.args.mutex.now) (limits_of c.args.self.now.inner) (tries_of c.args.self.now.inner) (tries_of c.args.mutex.now) _ (sight c.waits.cond.seat) (sight c.wait.new.cond.seat) (sight c.waits.seat) (sight c.wait.new.seat) c.in_err-_ticket.ensures.waits) ∙ c.waits.invariant.depth
+
+pub returns-in_err-_ticket-clause-waits : goal.returns-in_err-_ticket-clause-waits
+returns-in_err-_ticket-clause-waits g c = let i = c.waits.invariant in let e = c.in_err-_ticket.ensures in let user = limits_of c.args.mutex.now in let own = limits_of c.args.self.now.inner in let tries = tries_of c.args.self.now.inner in let user_tries = tries_of c.args.mutex.now in let s = sight c.waits.seat in
+    let says = (λ (v : _) (b : _). FnReturnsAt g.F.Fn c.args.condition v b) in let must : c.must_wait.result ≡ true = cc in
+    handed_on (λ (q : Result _ Refusal). WaitWhileEnds g.T.Kept.follows g.T.Kept.fits user own tries user_tries says (sight c.args.cond.now.seat) (sight c.wait.new.cond.seat) (sight c.args.seat.now) (sight c.wait.new.seat) q) _ _ c.from_residual.ensures.1
+    (i.waits.0, (sight c.waits.cond.seat), s, i.waits.1, if_true c.must_wait.result (WouldWait says s) (NeedNotWait says s) must c.must_wait.ensures, e.waits)
+
+pub returns-in_err-_ticket-clause-woken : goal.returns-in_err-_ticket-clause-woken
+returns-in_err-_ticket-clause-woken g c = looks_join c.args.seat.now c.waits.seat c.wait.new.seat c.waits.invariant.woken c.in_err-_ticket.ensures.woken
+
+pub returns-in_err-_ticket-clause-cond_woken : goal.returns-in_err-_ticket-clause-cond_woken
+returns-in_err-_ticket-clause-cond_woken g c = looks_join c.args.cond.now.seat c.waits.cond.seat c.wait.new.cond.seat c.waits.invariant.cond_woken c.in_err-_ticket.ensures.cond_woken

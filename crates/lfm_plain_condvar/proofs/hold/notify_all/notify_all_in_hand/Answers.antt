@@ -1,0 +1,11 @@
+use Rattle.lfm_plain_condvar.proofs.hold.notify_all.notify_all_in_hand.Goals as goal
+
+pub returns-clause-belongs : goal.returns-clause-belongs
+returns-clause-belongs c = let h = rw c.in-Some.is at (c.value_mut.follows.holds c.notify_all.new.waiters) in (cc, cc)
+
+pub returns-clause-woken : goal.returns-clause-woken
+returns-clause-woken c = let h = rw c.in-Some.is at (c.value_mut.follows.holds c.notify_all.new.waiters) in h.5
+
+pub returns-clause-does : goal.returns-clause-does
+returns-clause-does c = let h = rw c.in-Some.is at (c.value_mut.follows.holds c.notify_all.new.waiters) in let n = c.notify_all.ensures in
+    (c.in-Some.waiters.now, c.notify_all.new.waiters, (c.in-Some.ensures.value.1, h.0, n.follows), n.takes, n.count, n.notified)

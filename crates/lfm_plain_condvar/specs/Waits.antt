@@ -1,0 +1,82 @@
+-- How waits end. The user seat has the sight s before and t after, and its mutex has the limits `user`. The plain seat has the
+-- sight c before and d after; its list has the limits `own`. A seat tries at most `tries` times before it queues for the list,
+-- and at most `user_tries` times before it queues for the user mutex.
+use Rattle.std.specs.Prelude.{◌≡◌, ◌⊎◌, ℕ, ◌+◌, ◌<◌, ◌≤◌, false, Result, Ok, Err}
+use Rattle.lfm_model.specs.declared.answers.How.{How}
+use Rattle.lfm_model.specs.declared.answers.Locked.{Locked}
+use Rattle.lfm_model.specs.declared.refusals.Refusal.{Refusal}
+use Rattle.lfm_protocol.specs.declared.limits.Limits.{Limits}
+use Rattle.lfm_mutex.specs.calls.Barging.{BargesBy}
+use Rattle.lfm_mutex.specs.calls.Sight.{Sight, Gains, LeavesOff, WaitRefused}
+use Rattle.lfm_plain_condvar.specs.declared.parkers.Waker.{Waker}
+use Rattle.lfm_plain_condvar.specs.declared.wait_for.Waited.{Waited}
+use Rattle.lfm_plain_condvar.specs.declared.waiters.Enlisted.{Enlisted}
+use Rattle.lfm_plain_condvar.specs.declared.waiters.Waiter.{Waiter}
+use Rattle.lfm_plain_condvar.specs.declared.waiters.Waiters.{Waiters}
+use Rattle.lfm_plain_condvar.specs.Holds.{HeldOnce, StepsOfOneHold, Unlocks}
+use Rattle.lfm_plain_condvar.specs.Keeping.{NotListed, Puts, TakesOut}
+
+-- one hold of the list, by the steps of one lock and one unlock, which found the list v and left the list w
+abbrev pub OneHold : Limits → ℕ → Sight Waiters → Sight Waiters → Waiters → Waiters → Type 0
+OneHold own tries c d v w = HeldOnce own.budget c d v w × StepsOfOneHold own tries c d
+
+-- one hold that added the seat to the list, with this ticket
+abbrev pub Listed : Limits → ℕ → Sight Waiters → Sight Waiters → ℕ → Type 0
+Listed own tries c d ticket = (v : Waiters) × (w : Waiters) × (k : Waker) × (k.number ≡ c.number) × Puts k ticket v w × OneHold own tries c d v w
+
+-- one hold that took the seat out of the list again, in which it stood with this ticket: no wake had taken it out
+abbrev pub LeftList : Limits → ℕ → Sight Waiters → Sight Waiters → ℕ → Type 0
+LeftList own tries c d ticket = (v : Waiters) × (w : Waiters) × (x : Waiter) × (x.waker.number ≡ c.number) × (x.ticket ≡ ticket) × TakesOut x v w × OneHold own tries c d v w
+
+-- one hold that didn't find the seat in the list: a wake had taken it out
+abbrev pub NoLonger : Limits → ℕ → Sight Waiters → Sight Waiters → ℕ → Type 0
+NoLonger own tries c d ticket = (v : Waiters) × NotListed c.number ticket v × OneHold own tries c d v v
+
+-- how the seat was added to the list. `back`: what is true if it was not
+abbrev pub Enlists : Limits → ℕ → Sight Waiters → Sight Waiters → Type 0 → Result Enlisted Refusal → Type 0
+Enlists own tries c d back (Ok e) = Listed own tries c d e.ticket
+Enlists own tries c d back (Err r) = (r ≡ Refusal.Busy) × back × ((v : Waiters) × OneHold own tries c d v v)
+
+-- how a sleep with a limit ends, from the sight c after the seat was added to the list
+abbrev pub SleepEnds : Limits → ℕ → Sight Waiters → Sight Waiters → ℕ → Waited → Type 0
+SleepEnds own tries c d ticket (Waited.Woken t) = (t ≡ ticket) × (d ≡ c ⊎ NoLonger own tries c d ticket)
+SleepEnds own tries c d ticket (Waited.TimedOut t) = (t ≡ ticket) × LeftList own tries c d ticket
+
+module _ {T : Type 0} where
+  -- the seat could wait
+  abbrev pub MayWait : ℕ → Sight T → Type 0
+  MayWait budget s = (s.asleep ≡ false) × (s.depth ≡ 1) × (s.takes < budget)
+
+  -- the seat gave up its mutex by one unlock
+  abbrev pub GivesUp : Limits → Sight T → Sight T → Type 0
+  GivesUp user s t = LeavesOff s t × (t.takes ≡ s.takes) × Unlocks user s t
+
+module _ {T : Type 0} (follows : ℕ → T → T → Type 0) (fits : T → ℕ → Type 0) where
+  -- the seat acquired its mutex by one lock_barging
+  abbrev pub ComesBack : Limits → ℕ → Sight T → Sight T → Type 0
+  ComesBack user tries s t = (how : How) × Gains follows fits user.budget how s t × BargesBy user tries s t (Ok (Locked.Held how))
+
+  -- the seat gave up its mutex by one unlock, and acquired it again by one lock_barging
+  abbrev pub GivesUpAndComesBack : Limits → ℕ → Sight T → Sight T → Type 0
+  GivesUpAndComesBack user tries s t = (m : Sight T) × GivesUp user s m × ComesBack user tries m t
+
+  -- why a wait is refused that needs this number of takes of the plain seat
+  abbrev pub Refuses : Limits → Limits → ℕ → ℕ → Sight Waiters → Sight Waiters → Sight T → Sight T → Refusal → Type 0
+  Refuses user own needs tries c d s t Refusal.Spent = (s.asleep ≡ false) × (s.depth ≡ 1) × (user.budget ≤ s.takes ⊎ (own.budget < c.takes + needs)) × (d ≡ c) × (t ≡ s)
+  Refuses user own needs tries c d s t Refusal.Busy = ((v : Waiters) × OneHold own tries c d v v) × (t ≡ s)
+  Refuses user own needs tries c d s t r = WaitRefused user.budget s r × (d ≡ c) × (t ≡ s)
+
+  -- How wait ends. In one hold of the list the seat was added to it. Then it gave the user mutex up and came back. By the
+  -- contract of `append_in_one_hold` it was added while the user seat held its mutex
+  abbrev pub WaitEnds : Limits → Limits → ℕ → ℕ → Sight Waiters → Sight Waiters → Sight T → Sight T → Result ℕ Refusal → Type 0
+  WaitEnds user own tries user_tries c d s t (Ok ticket) = Listed own tries c d ticket × GivesUpAndComesBack user user_tries s t
+  WaitEnds user own tries user_tries c d s t (Err r) = Refuses user own 1 tries c d s t r
+
+  -- How wait_for ends. Woken: as wait, and maybe a second hold found that a wake had taken the seat out of the list. TimedOut: a
+  -- second hold took it out of the list
+  abbrev pub WaitForEnds : Limits → Limits → ℕ → ℕ → Sight Waiters → Sight Waiters → Sight T → Sight T → Result Waited Refusal → Type 0
+  WaitForEnds user own tries user_tries c d s t (Ok (Waited.Woken ticket)) =
+      (e : Sight Waiters) × Listed own tries c e ticket × (d ≡ e ⊎ NoLonger own tries e d ticket) × GivesUpAndComesBack user user_tries s t
+  WaitForEnds user own tries user_tries c d s t (Ok (Waited.TimedOut ticket)) =
+      (e : Sight Waiters) × Listed own tries c e ticket × LeftList own tries e d ticket × GivesUpAndComesBack user user_tries s t
+  WaitForEnds user own tries user_tries c d s t (Err r) = Refuses user own 2 tries c d s t r

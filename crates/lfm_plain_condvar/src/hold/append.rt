@@ -1,0 +1,57 @@
+//! How a seat is added to the list in one hold of the inner mutex. Its caller shows the user seat, which holds its mutex: so a
+//! wait is in the list before its user mutex can be unlocked, and no wake of a thread that locks that mutex later misses it.
+ghost use Rattle.std.specs.Prelude.{◌≡◌, ◌<◌, ◌≤◌, Some};
+ghost use Rattle.lfm_mutex.specs.Belongs.{Beside, OfMutex, limits_of, tries_of};
+ghost use Rattle.lfm_mutex.specs.calls.Sight.{sight};
+ghost use Rattle.lfm_mutex.specs.calls.Woken.{LooksAndWakesAsGranted, WakesNobody};
+ghost use Rattle.lfm_plain_condvar.specs.Belongs.{parkers_of, seats_of};
+ghost use Rattle.lfm_plain_condvar.specs.Holds.{HeldOnce, Rewrites, SeatKept, StepsOfOneHold};
+ghost use Rattle.lfm_plain_condvar.specs.Keeping.{Adds};
+
+use super::leave_list;
+use crate::condvar::PlainCondvar;
+use crate::parkers::Waker;
+use crate::waiters::{Enlisted, Waiters};
+use lfm_mutex::{Kept, Seat};
+use std::sync::Wait;
+
+/// Adds the waker to the list that the seat holds.
+fn append_in_hand(cond: &mut Seat<Waiters>, waker: Waker) -> Result<Enlisted, Waker>
+    requires held { 0 < (sight cond.old).depth }
+    requires known { (v : _) → (sight cond.old).value ≡ Some v → (waker.number ≤ v.seats) × (waker.seat.table_id ≡ v.name.root.table_id) }
+    ensures belongs { Beside cond.old cond.new }
+    ensures woken { WakesNobody cond.old cond.new }
+    ensures does { (v : _) × (w : _) × Rewrites (sight cond.old) (sight cond.new) v w × Adds waker v w result }
+{
+    let Some(waiters) = cond.value_mut() else {
+        unreachable!()
+    };
+    waiters.append(waker)
+}
+
+impl PlainCondvar {
+    /// Adds the waker to the list in one hold, while the user seat holds its mutex once.
+    pub(crate) fn append_in_one_hold<T: Kept, R: Wait>(
+        &self,
+        rt: &R,
+        cond: &mut Seat<Waiters>,
+        waker: Waker,
+        _holder: &Seat<T>,
+    ) -> Result<Enlisted, Waker>
+        requires belongs { OfMutex cond.old self.now.inner }
+        requires kept { SeatKept (parkers_of self.now) (seats_of self.now) (sight cond.old) }
+        requires spare { (sight cond.old).takes < (limits_of self.now.inner).budget }
+        requires waker { (waker.number ≤ seats_of self.now) × (waker.seat.table_id ≡ parkers_of self.now) }
+        requires holder { (sight _holder.now).depth ≡ 1 }
+        ensures belongs { Beside cond.old cond.new }
+        ensures kept { SeatKept (parkers_of self.now) (seats_of self.now) (sight cond.new) }
+        ensures woken { LooksAndWakesAsGranted cond.old cond.new }
+        ensures held { (v : _) × (w : _) × HeldOnce (limits_of self.now.inner).budget (sight cond.old) (sight cond.new) v w × Adds waker v w result }
+        ensures steps { StepsOfOneHold (limits_of self.now.inner) (tries_of self.now.inner) (sight cond.old) (sight cond.new) }
+    {
+        self.lock_list(rt, cond);
+        let done = append_in_hand(cond, waker);
+        leave_list(&self.inner, cond);
+        done
+    }
+}

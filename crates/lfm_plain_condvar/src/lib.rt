@@ -1,0 +1,27 @@
+//! The plain condition variable: a list of those that wait, guarded by a mutex of its own, and a word for each seat on which
+//! its thread sleeps. A wake takes the oldest waiter, or all, out of the list and notifies them. A woken thread locks the user
+//! mutex again by itself. A wait may have a time limit. `PlainCondvar` says when to choose it, and when `Condvar` of
+//! `lfm_condvar`.
+#![tactic(auto)]
+
+mod close;
+pub mod condvar;
+mod deadlines;
+mod debug;
+mod hold;
+mod kept;
+mod open;
+pub mod parkers;
+pub mod plain_seat;
+mod user;
+mod wait;
+pub mod wait_for;
+mod wait_while;
+pub mod waiters;
+pub mod wake;
+
+pub use condvar::PlainCondvar;
+pub use plain_seat::PlainSeat;
+pub use wait_for::Waited;
+pub use waiters::WaitCounts;
+pub use wake::OwedWakeUp;

@@ -1,0 +1,257 @@
+//! The parkers: one word for each seat, on which the thread of that seat parks until it is notified. Only the owner of a
+//! parker's *waker* can notify it. A waker is a slot of the table beside the words. It is in one place at a time: with the seat
+//! between its calls, in the list while the seat waits, with the wake that took the seat out of the list, or in the table after
+//! the wake has notified the parker.
+//!
+//! It is not proved that a wake-up reaches the thread: `wake_one` of the table makes a system call, and the system wakes the
+//! thread that parks on the low 32 bits of the word.
+ghost use Rattle.std.specs.Prelude.{◌≡◌, ◌+◌, ◌<◌, ◌≤◌, [], ◌∷◌, ◌++◌, IfOk, IfSome};
+ghost use Rattle.lfm_plain_condvar.specs.Parkers.{AtHomeIfNotified, IsWakerOf, Notifies, StartsWithNone, TakesIfNotified, with_those, no_notices};
+
+use crate::deadlines::{Deadline, time_left};
+use atomic_table::{Join, Play, Seat, Table, TableRule};
+use std::alloc::{AllocError, Global};
+use std::collections::LinkedList;
+use std::hint::spin_loop;
+use std::sync::Wait;
+use std::time::Clock;
+
+/// The parker was not notified, and its thread is not about to park.
+const EMPTY: u64 = 0;
+
+/// The thread of the parker is parked, or is about to park.
+const PARKED: u64 = 1;
+
+/// The parker was notified, and its waker is in the table.
+const NOTIFIED: u64 = 2;
+
+/// How many pauses a thread makes between two polls of its parker.
+const PAUSES: u32 = 4;
+
+/// What a seat of the table knows: the parkers that it has notified, in order. No value of this type is ever made: it is for
+/// proofs alone.
+pub struct Notices {
+    pub parkers: LinkedList<u64>,
+}
+
+/// The rule of the table: the waker of a parker that was notified is in the table.
+pub struct ParkerRule;
+
+impl TableRule<(), Notices, ()> for ParkerRule {
+    ghost holds = { λ _. AtHomeIfNotified };
+
+    ghost first = { λ _. no_notices };
+}
+
+/// A swap that takes the waker out of the table if the parker was notified.
+pub struct WakerTaken;
+
+impl Play<(), Notices> for WakerTaken {
+    ghost then = { TakesIfNotified };
+}
+
+/// A swap that notifies the parker, and leaves its waker in the table.
+pub struct ParkerNotified;
+
+impl Play<(), Notices> for ParkerNotified {
+    ghost then = { Notifies };
+}
+
+/// A load by a seat that has notified no parker yet.
+pub struct Begun;
+
+impl Play<(), Notices> for Begun {
+    ghost then = { StartsWithNone };
+}
+
+/// Adds what one seat has notified to what another has.
+pub struct NoticesJoined;
+
+impl Join<Notices> for NoticesJoined {
+    ghost both = { with_those };
+
+    ghost spent = { no_notices };
+}
+
+/// The right to notify one parker. There is only one waker for each parker.
+#[derive(Drop)]
+pub struct Waker {
+    pub(crate) seat: Seat<(), Notices>,
+    pub(crate) number: u64,
+    pub ghost its: { IsWakerOf number seat.me },
+}
+
+/// The parkers that a seat has notified, in order. It takes no bytes. Only `Parkers::notify` adds to it, by the step of the
+/// table that notifies.
+#[derive(Drop)]
+pub struct NoticeLog {
+    pub(crate) seat: Seat<(), Notices>,
+    pub ghost free: { seat.me.1 ≡ [] },
+}
+
+/// Names the parkers in contracts. It takes no bytes.
+#[derive(Drop)]
+pub struct ParkersName {
+    pub(crate) root: Seat<(), Notices>,
+}
+
+/// The parkers of all seats. Word 0 is unused.
+#[derive(Drop)]
+pub struct Parkers {
+    pub(crate) table: Table<(), Notices, (), ParkerRule, Global>,
+    pub(crate) seats: u64,
+    pub ghost words: { table.shared.table_id.words ≡ seats + 1 },
+    pub ghost slots: { table.shared.table_id.slots ≡ seats + 1 },
+}
+
+impl Parkers {
+    /// Parkers for this number of seats. Each starts as notified, so its waker is in the table. The second value names them in
+    /// contracts. It allocates three times.
+    pub(crate) fn new(alloc: Global, seats: u64) -> Result<(Parkers, ParkersName), AllocError>
+        requires { seats ≤ 4095 }
+        ensures { IfOk result (λ p. (p.0.seats ≡ seats) × (p.1.root.table_id ≡ p.0.table.shared.table_id)) }
+    {
+        let words = Vec::from_elem(alloc, NOTIFIED, seats as usize + 1)?;
+        let wakers = Vec::from_elem(alloc, (), seats as usize + 1)?;
+        match Table::new(alloc, words.as_slice(), wakers, &()) {
+            Ok((table, root)) => Ok((Parkers { table, seats }, ParkersName { root })),
+            Err(_refused) => Err(AllocError),
+        }
+    }
+
+    /// A log of a seat that has notified nobody yet.
+    pub(crate) fn new_log(&self) -> NoticeLog
+        ensures { (result.seat.me.0.parkers ≡ []) × (result.seat.table_id ≡ self.now.table.shared.table_id) }
+    {
+        let (_, seat) = self.table.shared.load_new_seat::<Begun>(0);
+        NoticeLog { seat }
+    }
+
+    /// Sets the word of the parker to EMPTY or PARKED, and takes its waker out of the table if it was notified.
+    fn take(&self, number: u64, word: u64) -> Option<Waker>
+        requires { (number ≤ self.now.seats) × (word < 2) }
+        ensures { IfSome result (λ w. (w.number ≡ number) × (w.seat.table_id ≡ self.now.table.shared.table_id)) }
+    {
+        let (found, seat) = self
+            .table
+            .shared
+            .swap_new_seat::<WakerTaken>(number as usize, word);
+        if found >= NOTIFIED {
+            Some(Waker { seat, number })
+        } else {
+            None
+        }
+    }
+
+    /// The waker of a parker that was notified, whose word is then EMPTY. A parker that was not notified is only read.
+    pub(crate) fn take_if_notified(&self, number: u64) -> Option<Waker>
+        requires { number ≤ self.now.seats }
+        ensures { IfSome result (λ w. (w.number ≡ number) × (w.seat.table_id ≡ self.now.table.shared.table_id)) }
+    {
+        if self.table.shared.peek(number as usize) < NOTIFIED {
+            return None;
+        }
+        self.take(number, EMPTY)
+    }
+
+    /// Notifies the parker of this waker, and wakes its thread if that is parked. It makes one swap, one load, and a system call
+    /// if the thread is parked.
+    pub(crate) fn notify(&self, waker: Waker, log: &mut NoticeLog)
+        requires waker { (waker.number ≤ self.now.seats) × (waker.seat.table_id ≡ self.now.table.shared.table_id) }
+        requires log { log.old.seat.table_id ≡ self.now.table.shared.table_id }
+        ensures log { log.new.seat.table_id ≡ log.old.seat.table_id }
+        ensures notified { log.new.seat.me.0.parkers ≡ log.old.seat.me.0.parkers ++ waker.number ∷ [] }
+    {
+        let Waker { mut seat, number } = waker;
+        let found = self
+            .table
+            .shared
+            .swap::<ParkerNotified>(&mut seat, number as usize, NOTIFIED);
+        if found == PARKED {
+            self.table.shared.wake_one(number as usize);
+        }
+        self.table
+            .shared
+            .join_seat::<NoticesJoined>(&mut log.seat, seat);
+    }
+
+    /// Polls the parker at most this often, with pauses, for a thread that may be notified soon.
+    fn poll(&self, number: u64, polls: u32) -> Option<Waker>
+        requires { number ≤ self.now.seats }
+        ensures { IfSome result (λ w. (w.number ≡ number) × (w.seat.table_id ≡ self.now.table.shared.table_id)) }
+    {
+        'polls: for _ in 0..polls {
+            for _ in 0..PAUSES {
+                spin_loop();
+            }
+            if let Some(waker) = self.take_if_notified(number) {
+                return Some(waker);
+            }
+        }
+        None
+    }
+
+    /// Polls, and then says that the thread is about to park. Returns the waker if the parker was notified before.
+    fn poll_and_announce(&self, number: u64, polls: u32) -> Option<Waker>
+        requires { number ≤ self.now.seats }
+        ensures { IfSome result (λ w. (w.number ≡ number) × (w.seat.table_id ≡ self.now.table.shared.table_id)) }
+    {
+        match self.poll(number, polls) {
+            Some(waker) => Some(waker),
+            None => self.take(number, PARKED),
+        }
+    }
+
+    /// Parks until the parker is notified, and takes its waker. The thread polls at most `polls` times before it parks.
+    pub(crate) fn park<R: Wait>(&self, rt: &R, number: u64, polls: u32) -> Waker
+        requires { number ≤ self.now.seats }
+        ensures { (result.number ≡ number) × (result.seat.table_id ≡ self.now.table.shared.table_id) }
+    {
+        if let Some(waker) = self.poll_and_announce(number, polls) {
+            return waker;
+        }
+        for _ in rt.forever() {
+            if let Some(waker) = self.take_if_notified(number) {
+                return waker;
+            }
+            self.table.shared.park(rt, number as usize, PARKED as u32);
+        }
+        unreachable!()
+    }
+
+    /// `park` until the deadline. Returns None if the parker was not notified by then. If the system ends the sleep for no
+    /// reason, the thread parks again for the time that is left.
+    pub(crate) fn park_until<R: Wait + Clock>(
+        &self,
+        rt: &R,
+        number: u64,
+        polls: u32,
+        deadline: Deadline,
+    ) -> Option<Waker>
+        requires { number ≤ self.now.seats }
+        ensures { IfSome result (λ w. (w.number ≡ number) × (w.seat.table_id ≡ self.now.table.shared.table_id)) }
+    {
+        if let Some(waker) = self.poll_and_announce(number, polls) {
+            return Some(waker);
+        }
+        for _ in rt.forever() {
+            let Some(time) = time_left(rt, deadline) else {
+                return self.take_if_notified(number);
+            };
+            self.table
+                .shared
+                .park_timeout(rt, number as usize, PARKED as u32, time);
+            if let Some(waker) = self.take_if_notified(number) {
+                return Some(waker);
+            }
+        }
+        unreachable!()
+    }
+
+    /// Sets the word of the parker to EMPTY, for a seat that has its waker already.
+    pub(crate) fn clear(&self, number: u64)
+        requires { number ≤ self.now.seats }
+    {
+        let _none = self.take(number, EMPTY);
+    }
+}

@@ -1,0 +1,67 @@
+//! What a wait does with the user mutex: it unlocks it once, and locks it once again.
+ghost use Rattle.std.specs.Prelude.{◌≡◌, ◌<◌, false, MatchOption};
+ghost use Rattle.lfm_mutex.specs.Belongs.{Beside, OfMutex, budget_of, limits_of, tries_of};
+ghost use Rattle.lfm_mutex.specs.calls.RunGoesOn.{RunGoesOnFrom};
+ghost use Rattle.lfm_mutex.specs.calls.Sight.{sight, LeavesOff, MayLeave, WaitRefused};
+ghost use Rattle.lfm_mutex.specs.calls.Woken.{LooksAndWakesAsGranted, WokenAsGranted};
+ghost use Rattle.lfm_plain_condvar.specs.Holds.{Unlocks};
+ghost use Rattle.lfm_plain_condvar.specs.Waits.{ComesBack, MayWait};
+
+use lfm_model::{Locked, Refusal};
+use lfm_mutex::{Kept, Mutex, Seat};
+use std::sync::Wait;
+
+/// Why the user seat can't wait, if it can't: the first of Asleep, NotOwner, Nested and Spent that applies.
+pub(crate) fn bars_wait<T: Kept>(seat: &Seat<T>) -> Option<Refusal>
+    ensures { MatchOption result (MayWait (budget_of seat.now) (sight seat.now)) (λ r. WaitRefused (budget_of seat.now) (sight seat.now) r) }
+{
+    if seat.asleep() {
+        return Some(Refusal::Asleep);
+    }
+    if seat.depth() == 0 {
+        return Some(Refusal::NotOwner);
+    }
+    if seat.depth() > 1 {
+        return Some(Refusal::Nested);
+    }
+    if seat.left() == 0 {
+        return Some(Refusal::Spent);
+    }
+    None
+}
+
+/// Unlocks the user mutex, which the seat holds once.
+pub(crate) fn give_up<T: Kept>(mutex: &Mutex<T>, seat: &mut Seat<T>)
+    requires belongs { OfMutex seat.old mutex.now }
+    requires held { ((sight seat.old).depth ≡ 1) × ((sight seat.old).asleep ≡ false) }
+    requires leaves { MayLeave T.follows T.fits (sight seat.old) }
+    ensures belongs { Beside seat.old seat.new }
+    ensures run { RunGoesOnFrom seat.old seat.new }
+    ensures woken { WokenAsGranted seat.old seat.new }
+    ensures leaves { LeavesOff (sight seat.old) (sight seat.new) }
+    ensures steps { Unlocks (limits_of mutex.now) (sight seat.old) (sight seat.new) }
+    ensures keeps { ((sight seat.new).takes ≡ (sight seat.old).takes) × ((sight seat.new).asleep ≡ (sight seat.old).asleep) }
+{
+    match mutex.unlock(seat) {
+        Ok(_) => {}
+        Err(_) => unreachable!(),
+    }
+}
+
+/// Locks the user mutex again, by `lock_barging`.
+pub(crate) fn come_back<T: Kept, R: Wait>(rt: &R, mutex: &Mutex<T>, seat: &mut Seat<T>)
+    requires belongs { OfMutex seat.old mutex.now }
+    requires free { ((sight seat.old).depth ≡ 0) × ((sight seat.old).asleep ≡ false) × ((sight seat.old).takes < (limits_of mutex.now).budget) }
+    ensures belongs { Beside seat.old seat.new }
+    ensures run { RunGoesOnFrom seat.old seat.new }
+    ensures woken { LooksAndWakesAsGranted seat.old seat.new }
+    ensures back { ComesBack T.follows T.fits (limits_of mutex.now) (tries_of mutex.now) (sight seat.old) (sight seat.new) }
+{
+    match mutex.lock_barging(rt, seat) {
+        Ok(locked) => match locked {
+            Locked::Held(_) => {}
+            Locked::Again(_) => unreachable!(),
+        },
+        Err(_) => unreachable!(),
+    }
+}

@@ -1,0 +1,112 @@
+//! How a seat waits: it is added to the list while its user seat holds the user mutex, gives that mutex up, sleeps until it is
+//! notified, and locks the mutex again.
+ghost use Rattle.std.specs.Prelude.{◌≡◌, ◌+◌, ◌<◌};
+ghost use Rattle.lfm_mutex.specs.Belongs.{Beside, OfMutex, limits_of, tries_of};
+ghost use Rattle.lfm_mutex.specs.calls.RunGoesOn.{RunGoesOnFrom};
+ghost use Rattle.lfm_mutex.specs.calls.Sight.{sight, MayRelease};
+ghost use Rattle.lfm_mutex.specs.calls.Woken.{LooksAndWakesAsGranted};
+ghost use Rattle.lfm_plain_condvar.specs.Belongs.{NotifiesNobody, OfPlain, WaitsAt};
+ghost use Rattle.lfm_plain_condvar.specs.Waits.{Enlists, WaitEnds};
+
+use crate::condvar::PlainCondvar;
+use crate::plain_seat::PlainSeat;
+use crate::user::{bars_wait, come_back, give_up};
+use crate::waiters::Enlisted;
+use lfm_model::Refusal;
+use lfm_mutex::{Kept, Mutex, Pace, Seat};
+use std::mem::replace;
+use std::sync::Wait;
+
+/// How many times a seat polls before it sleeps. A seat that waits alone may be woken soon, as when two threads take turns. Its
+/// polls then cost less than a sleep and a wake-up. If others wait ahead of it, it sleeps at once.
+pub(crate) fn polls_behind(pace: Pace, ahead: usize) -> u32
+    ensures alone { ahead ≡ 0 → result ≡ pace.looks }
+    ensures behind { 0 < ahead → result ≡ 0 }
+{
+    if ahead == 0 { pace.looks() } else { 0 }
+}
+
+impl PlainCondvar {
+    /// Adds the seat to the list in one hold, while the user seat holds its mutex. The seat's waker is then in the list. If it is
+    /// refused, as Busy, the seat has its waker again.
+    pub(crate) fn enlist<T: Kept, R: Wait>(
+        &self,
+        rt: &R,
+        cond: &mut PlainSeat,
+        holder: &Seat<T>,
+    ) -> Result<Enlisted, Refusal>
+        requires belongs { OfPlain cond.old self.now }
+        requires holder { (sight holder.now).depth ≡ 1 }
+        requires spare { (sight cond.old.seat).takes < (limits_of self.now.inner).budget }
+        ensures cond_woken { LooksAndWakesAsGranted cond.old.seat cond.new.seat }
+        ensures waits { WaitsAt cond.new self.now × NotifiesNobody cond.old cond.new }
+        ensures takes { (sight cond.new.seat).takes ≡ (sight cond.old.seat).takes + 1 }
+        ensures enlists { Enlists (limits_of self.now.inner) (tries_of self.now.inner) (sight cond.old.seat) (sight cond.new.seat) (OfPlain cond.new self.now) result }
+    {
+        let Some(waker) = replace(&mut cond.waker, None) else {
+            unreachable!()
+        };
+        match self.append_in_one_hold(rt, &mut cond.seat, waker, holder) {
+            Ok(enlisted) => Ok(enlisted),
+            Err(back) => {
+                cond.waker = Some(back);
+                Err(Refusal::Busy)
+            }
+        }
+    }
+
+    /// Sleeps until the seat is notified, and takes its waker back.
+    pub(crate) fn sleep<R: Wait>(&self, rt: &R, cond: &mut PlainSeat, polls: u32)
+        requires waits { WaitsAt cond.old self.now }
+        ensures belongs { OfPlain cond.new self.now × NotifiesNobody cond.old cond.new }
+        ensures same { cond.new.seat ≡ cond.old.seat }
+    {
+        let number = cond.seat.number().get();
+        let waker = self.parkers.park(rt, number, polls);
+        cond.waker = Some(waker);
+    }
+
+    /// Gives up the user mutex, which the seat holds at depth 1, waits until a wake takes this seat out of the list and notifies
+    /// it, and locks the user mutex again by `lock_barging`. It returns the ticket: 1 for the first that waited on this condvar,
+    /// and so on. It never returns without a wake. The seat is in the list before the user mutex is unlocked, so no wake that is
+    /// made after another thread has locked that mutex misses it.
+    ///
+    /// Refuses, in this order, before anything is changed: Asleep (the user seat sleeps, or a call of it is open), NotOwner,
+    /// Nested (it holds above depth 1), Spent (either seat has no take left). The contract has Busy too, which is not reached:
+    /// as many would have to wait as there are seats.
+    ///
+    /// A wait costs each seat one take. It allocates no memory, sleeps, and wakes the seat that it grants a mutex, if any. If no
+    /// other seat waited when this one was added to the list, it polls before it sleeps, as often as the pace of the user mutex
+    /// says. Otherwise it sleeps at once.
+    pub fn wait<T: Kept, R: Wait>(
+        &self,
+        rt: &R,
+        cond: &mut PlainSeat,
+        mutex: &Mutex<T>,
+        seat: &mut Seat<T>,
+    ) -> Result<u64, Refusal>
+        requires belongs { OfPlain cond.old self.now × OfMutex seat.old mutex.now }
+        requires leaves { MayRelease T.follows T.fits (sight seat.old) }
+        ensures belongs { OfPlain cond.new self.now × Beside seat.old seat.new }
+        ensures run { RunGoesOnFrom seat.old seat.new }
+        ensures cond_woken { LooksAndWakesAsGranted cond.old.seat cond.new.seat }
+        ensures woken { LooksAndWakesAsGranted seat.old seat.new }
+        ensures notifies { NotifiesNobody cond.old cond.new }
+        ensures waits { WaitEnds T.follows T.fits (limits_of mutex.now) (limits_of self.now.inner) (tries_of self.now.inner) (tries_of mutex.now) (sight cond.old.seat) (sight cond.new.seat) (sight seat.old) (sight seat.new) result }
+    {
+        if let Some(refusal) = bars_wait(seat) {
+            return Err(refusal);
+        }
+        if cond.seat.left() == 0 {
+            return Err(Refusal::Spent);
+        }
+        let enlisted = match self.enlist(rt, cond, seat) {
+            Ok(enlisted) => enlisted,
+            Err(refusal) => return Err(refusal),
+        };
+        give_up(mutex, seat);
+        self.sleep(rt, cond, polls_behind(mutex.pace(), enlisted.ahead));
+        come_back(rt, mutex, seat);
+        Ok(enlisted.ticket)
+    }
+}

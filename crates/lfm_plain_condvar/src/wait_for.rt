@@ -1,0 +1,193 @@
+//! Waits with a time limit: a seat whose time is over takes itself out of the list. If it is no longer there, a wake has taken
+//! it out, and it sleeps on until it is notified. So no wake is lost to a wait that timed out.
+ghost use Rattle.std.specs.Prelude.{◌≡◌, ◌<◌, MatchBool};
+ghost use Rattle.lfm_mutex.specs.Belongs.{Beside, OfMutex, limits_of, tries_of};
+ghost use Rattle.lfm_mutex.specs.calls.RunGoesOn.{RunGoesOnFrom};
+ghost use Rattle.lfm_mutex.specs.calls.Sight.{sight, MayRelease};
+ghost use Rattle.lfm_mutex.specs.calls.Woken.{LooksAndWakesAsGranted};
+ghost use Rattle.lfm_plain_condvar.specs.Belongs.{NotifiesNobody, OfPlain, WaitsAt};
+ghost use Rattle.lfm_plain_condvar.specs.Waits.{LeftList, NoLonger, SleepEnds, WaitForEnds};
+
+use crate::condvar::PlainCondvar;
+use crate::deadlines::{Deadline, deadline_after};
+use crate::plain_seat::PlainSeat;
+use crate::user::{bars_wait, come_back, give_up};
+use crate::wait::polls_behind;
+use crate::waiters::Waiter;
+use lfm_model::Refusal;
+use lfm_mutex::{Kept, Mutex, Seat};
+use std::sync::Wait;
+use std::time::{Clock, Duration, Instant};
+
+/// How a wait with a time limit ended, with its ticket.
+#[derive(Clone, Copy, Debug, PartialEq, Eq)]
+pub enum Waited {
+    /// A wake took it out of the list, and notified it.
+    Woken(u64),
+    /// It took itself out of the list. No wake had done so.
+    TimedOut(u64),
+}
+
+impl PlainCondvar {
+    /// Sleeps until the seat is notified, or the deadline. Returns whether it was notified. It then has its waker back.
+    fn sleep_until<R: Wait + Clock>(
+        &self,
+        rt: &R,
+        cond: &mut PlainSeat,
+        polls: u32,
+        deadline: Deadline,
+    ) -> bool
+        requires waits { WaitsAt cond.old self.now }
+        ensures belongs { MatchBool result (OfPlain cond.new self.now) (WaitsAt cond.new self.now) }
+        ensures same { (cond.new.seat ≡ cond.old.seat) × NotifiesNobody cond.old cond.new }
+    {
+        let number = cond.seat.number().get();
+        match self.parkers.park_until(rt, number, polls, deadline) {
+            Some(waker) => {
+                cond.waker = Some(waker);
+                true
+            }
+            None => false,
+        }
+    }
+
+    /// In one hold of the list, the seat takes itself out of it. Returns whether it was in the list. It then has its waker back.
+    fn leave<R: Wait>(&self, rt: &R, cond: &mut PlainSeat, ticket: u64) -> bool
+        requires waits { WaitsAt cond.old self.now }
+        requires spare { (sight cond.old.seat).takes < (limits_of self.now.inner).budget }
+        ensures cond_woken { LooksAndWakesAsGranted cond.old.seat cond.new.seat }
+        ensures belongs { MatchBool result (OfPlain cond.new self.now) (WaitsAt cond.new self.now) }
+        ensures notifies { NotifiesNobody cond.old cond.new }
+        ensures leaves { MatchBool result (LeftList (limits_of self.now.inner) (tries_of self.now.inner) (sight cond.old.seat) (sight cond.new.seat) ticket) (NoLonger (limits_of self.now.inner) (tries_of self.now.inner) (sight cond.old.seat) (sight cond.new.seat) ticket) }
+    {
+        let number = cond.seat.number().get();
+        match self.take_out_in_one_hold(rt, &mut cond.seat, number, ticket) {
+            Some(waiter) => {
+                let Waiter { waker, ticket: _ } = waiter;
+                cond.waker = Some(waker);
+                self.parkers.clear(number);
+                true
+            }
+            None => false,
+        }
+    }
+
+    /// The time is over: the seat takes itself out of the list. If it isn't there, a wake has taken it out and is about to notify
+    /// it, and it sleeps until then.
+    fn end_at_deadline<R: Wait>(&self, rt: &R, cond: &mut PlainSeat, ticket: u64) -> Waited
+        requires waits { WaitsAt cond.old self.now }
+        requires spare { (sight cond.old.seat).takes < (limits_of self.now.inner).budget }
+        ensures cond_woken { LooksAndWakesAsGranted cond.old.seat cond.new.seat }
+        ensures belongs { OfPlain cond.new self.now × NotifiesNobody cond.old cond.new }
+        ensures ends { SleepEnds (limits_of self.now.inner) (tries_of self.now.inner) (sight cond.old.seat) (sight cond.new.seat) ticket result }
+    {
+        if self.leave(rt, cond, ticket) {
+            return Waited::TimedOut(ticket);
+        }
+        self.sleep(rt, cond, 0);
+        Waited::Woken(ticket)
+    }
+
+    /// Sleeps until the seat is notified, or has taken itself out of the list after the deadline.
+    fn sleep_or_leave<R: Wait + Clock>(
+        &self,
+        rt: &R,
+        cond: &mut PlainSeat,
+        ticket: u64,
+        polls: u32,
+        deadline: Deadline,
+    ) -> Waited
+        requires waits { WaitsAt cond.old self.now }
+        requires spare { (sight cond.old.seat).takes < (limits_of self.now.inner).budget }
+        ensures cond_woken { LooksAndWakesAsGranted cond.old.seat cond.new.seat }
+        ensures belongs { OfPlain cond.new self.now × NotifiesNobody cond.old cond.new }
+        ensures ends { SleepEnds (limits_of self.now.inner) (tries_of self.now.inner) (sight cond.old.seat) (sight cond.new.seat) ticket result }
+    {
+        if self.sleep_until(rt, cond, polls, deadline) {
+            return Waited::Woken(ticket);
+        }
+        self.end_at_deadline(rt, cond, ticket)
+    }
+
+    /// `wait` until the deadline.
+    fn wait_within<T: Kept, R: Wait + Clock>(
+        &self,
+        rt: &R,
+        cond: &mut PlainSeat,
+        mutex: &Mutex<T>,
+        seat: &mut Seat<T>,
+        deadline: Deadline,
+    ) -> Result<Waited, Refusal>
+        requires belongs { OfPlain cond.old self.now × OfMutex seat.old mutex.now }
+        requires leaves { MayRelease T.follows T.fits (sight seat.old) }
+        ensures belongs { OfPlain cond.new self.now × Beside seat.old seat.new }
+        ensures run { RunGoesOnFrom seat.old seat.new }
+        ensures cond_woken { LooksAndWakesAsGranted cond.old.seat cond.new.seat }
+        ensures woken { LooksAndWakesAsGranted seat.old seat.new }
+        ensures notifies { NotifiesNobody cond.old cond.new }
+        ensures waits { WaitForEnds T.follows T.fits (limits_of mutex.now) (limits_of self.now.inner) (tries_of self.now.inner) (tries_of mutex.now) (sight cond.old.seat) (sight cond.new.seat) (sight seat.old) (sight seat.new) result }
+    {
+        if let Some(refusal) = bars_wait(seat) {
+            return Err(refusal);
+        }
+        if cond.seat.left() < 2 {
+            return Err(Refusal::Spent);
+        }
+        let enlisted = match self.enlist(rt, cond, seat) {
+            Ok(enlisted) => enlisted,
+            Err(refusal) => return Err(refusal),
+        };
+        give_up(mutex, seat);
+        let polls = polls_behind(mutex.pace(), enlisted.ahead);
+        let waited = self.sleep_or_leave(rt, cond, enlisted.ticket, polls, deadline);
+        come_back(rt, mutex, seat);
+        Ok(waited)
+    }
+
+    /// `wait` for at most this time from now. Returns Woken as `wait` does. Returns TimedOut if the time was over and no wake had
+    /// taken the seat out of the list: the seat has then taken itself out. In both cases the seat holds the user mutex again, at
+    /// depth 1. That lock has no time limit. If the clock can't be read, the time is over at once.
+    ///
+    /// Refuses as `wait`, in the same order, but as Spent also if the plain seat has only one take left. A wait costs the user
+    /// seat one take, and the plain seat one, or two if it looked for itself in the list.
+    pub fn wait_for<T: Kept, R: Wait + Clock>(
+        &self,
+        rt: &R,
+        cond: &mut PlainSeat,
+        mutex: &Mutex<T>,
+        seat: &mut Seat<T>,
+        time: Duration,
+    ) -> Result<Waited, Refusal>
+        requires belongs { OfPlain cond.old self.now × OfMutex seat.old mutex.now }
+        requires leaves { MayRelease T.follows T.fits (sight seat.old) }
+        ensures belongs { OfPlain cond.new self.now × Beside seat.old seat.new }
+        ensures run { RunGoesOnFrom seat.old seat.new }
+        ensures cond_woken { LooksAndWakesAsGranted cond.old.seat cond.new.seat }
+        ensures woken { LooksAndWakesAsGranted seat.old seat.new }
+        ensures notifies { NotifiesNobody cond.old cond.new }
+        ensures waits { WaitForEnds T.follows T.fits (limits_of mutex.now) (limits_of self.now.inner) (tries_of self.now.inner) (tries_of mutex.now) (sight cond.old.seat) (sight cond.new.seat) (sight seat.old) (sight seat.new) result }
+    {
+        self.wait_within(rt, cond, mutex, seat, deadline_after(rt, time))
+    }
+
+    /// `wait_for` until this time of the monotonic clock.
+    pub fn wait_until<T: Kept, R: Wait + Clock>(
+        &self,
+        rt: &R,
+        cond: &mut PlainSeat,
+        mutex: &Mutex<T>,
+        seat: &mut Seat<T>,
+        end: Instant,
+    ) -> Result<Waited, Refusal>
+        requires belongs { OfPlain cond.old self.now × OfMutex seat.old mutex.now }
+        requires leaves { MayRelease T.follows T.fits (sight seat.old) }
+        ensures belongs { OfPlain cond.new self.now × Beside seat.old seat.new }
+        ensures run { RunGoesOnFrom seat.old seat.new }
+        ensures cond_woken { LooksAndWakesAsGranted cond.old.seat cond.new.seat }
+        ensures woken { LooksAndWakesAsGranted seat.old seat.new }
+        ensures notifies { NotifiesNobody cond.old cond.new }
+        ensures waits { WaitForEnds T.follows T.fits (limits_of mutex.now) (limits_of self.now.inner) (tries_of self.now.inner) (tries_of mutex.now) (sight cond.old.seat) (sight cond.new.seat) (sight seat.old) (sight seat.new) result }
+    {
+        self.wait_within(rt, cond, mutex, seat, Deadline::At(end))
+    }
+}

@@ -1,0 +1,5 @@
+use Rattle.lfm_plain_condvar_tests.specs.Hands.{IsHandOf}
+use Rattle.lfm_plain_condvar_tests.proofs.two_threads.reach.Given as goal
+
+abbrev pub invariant-reads : goal.invariant-reads
+invariant-reads g l = IsHandOf l.hand l.mutex l.condvar

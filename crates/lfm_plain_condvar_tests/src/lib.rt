@@ -1,0 +1,16 @@
+//! Tests of the plain condition variable, with and without threads. What its contracts say is not tested again: the tests show
+//! that waits end, that a time limit is kept, and that threads wake each other.
+#![tactic(auto)]
+
+#[cfg(test)]
+mod broadcast;
+pub mod calls;
+pub mod hands;
+#[cfg(test)]
+mod limits;
+#[cfg(test)]
+mod queue;
+#[cfg(test)]
+mod seeing;
+#[cfg(test)]
+mod two_threads;

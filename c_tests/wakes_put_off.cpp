@@ -1,7 +1,7 @@
 // A holder wakes threads that wait, and their rings are put off until it releases the mutex. Then its unlock makes at most
-// two calls of the system, however many wait: threads that are woken wake others. Each is woken, once: by one wake of all, by
-// a wake for each, or at two condition variables; also if another thread is queued, if the call by which the library wakes
-// two fails as it may, and if the system refuses that call. Then the unlock that finds this out makes more calls.
+// two calls of the system, however many wait: threads that are woken wake others. Each is woken, once: by one wake of all,
+// by a wake for each, or at two condition variables; also if another thread is queued, if the call by which the library
+// wakes two fails as it may, and if the system refuses that call. Then the unlock that finds this out makes more calls.
 #include <linux/futex.h>
 #include <sys/syscall.h>
 

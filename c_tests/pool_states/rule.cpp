@@ -20,7 +20,8 @@ void check_words(const State &state, int mutex) {
       expect(state.numbers[mutex][seat][post - 1] < state.numbers[mutex][seat][post], "the numbers of posts rise");
 }
 
-/* A seat is queued, or sleeps, in one mutex at most. Its wake word is that of this mutex's lone table, and quiet in the others. */
+/* A seat is queued, or sleeps, in one mutex at most. Its wake word is that of this mutex's lone table, and quiet in the
+ * others. */
 void check_wakes(const State &state, int mutex) {
   const LoneTable &lone = state.lone[mutex];
   for (int seat = 1; seat <= SEATS; seat++)
@@ -58,7 +59,7 @@ void check_chain(const State &state, int mutex) {
   }
   byte at = state.mutex[mutex].oldest;
   for (int i = first; i < lone.popped && !fault; i++) {
-    expect(is_same(Link{state.link[at].stamp, at}, lone.pop[i]), "the chain has the records of the pop list, the oldest first");
+    expect(is_same(Link{state.link[at].stamp, at}, lone.pop[i]), "the chain has the records of the pop list, oldest first");
     at = state.link[at].seat;
   }
   expect(at == 0, "the chain ends with the pop list");
@@ -73,7 +74,7 @@ void check_depth(const State &state, int mutex) {
     return;
   }
   const Seat &owner = state.seat[real.owner];
-  bool is_ahead = owner.mutex == mutex && owner.next == SUBTRACT_OF_HOLDER; /* the word is told, and the call has not ended */
+  bool is_ahead = owner.mutex == mutex && owner.next == SUBTRACT_OF_HOLDER; /* it has stored the word, and not ended */
   expect(lone.depth[real.owner] + is_ahead == real.more + 1, "the depth of the owner is in the carried word");
 }
 

@@ -1,5 +1,5 @@
-/* The steps of the calls, each on a word of the pool and on the same word of the mutex's lone table. A load finds the same in
- * both, and an exchange succeeds in both or in neither: the checks here and the rule say so. */
+/* The steps of the calls, each on a word of the pool and on the same word of the mutex's lone table. A load finds the same
+ * in both, and an exchange succeeds in both or in neither: the checks here and the rule say so. */
 #include "pool.hpp"
 
 namespace pool {
@@ -177,7 +177,8 @@ void Step::own() {
 
 void Step::grant() {
   byte target = me.served.seat;
-  expect(state.seat[target].mutex == me.mutex && state.seat[target].is_queued, "the target of a grant is queued in this mutex");
+  const Seat &it = state.seat[target];
+  expect(it.mutex == me.mutex && it.is_queued, "the target of a grant is queued in this mutex");
   remove_oldest();
   state.wake[target] = lone.wake[target] = me.served.stamp + 1;
   end();

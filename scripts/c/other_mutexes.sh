@@ -1,7 +1,6 @@
 # shellcheck shell=bash
 # shellcheck disable=SC2154 # work is a folder of the script that sources this file
-# Finds other libraries whose mutexes c_tests/bench.cpp measures too. The scripts that compile it source this
-# file.
+# Finds other libraries whose mutexes c_tests/bench.cpp measures too. The scripts that compile it source this file.
 
 # with_mutex_of NAME PACKAGE HEADER LIBRARY..   adds a library to `other_mutexes` if a trial finds it, and else says so
 with_mutex_of() {

@@ -5,10 +5,11 @@ PAGE = programs.EXPLORE / "SCENARIOS.md"
 HEAD = """# The scenarios
 
 Each was explored to its end: every state once, on one processor. `scripts/c/explore --write` writes this page, and with
-`--short` only the rows that are not of a long scenario. Without `--write` it fails if the counts of a scenario that it explores
-differ from its row: states or transitions by more than 20 and one in a hundred, ends by more than one. A state has the bytes
-of dead stack frames, with addresses that the system and the build choose, so each run finds a few states more or less. The
-counts depend on the compiler, so they are compared if it is the same. The seconds of processor time depend on the machine.
+`--short` only the rows that are not of a long scenario. Without `--write` it fails if the counts of a scenario that it
+explores differ from its row: states or transitions by more than 20 and one in a hundred, ends by more than one. A state has
+the bytes of dead stack frames, with addresses that the system and the build choose, so each run finds a few states more or
+less. The counts depend on the compiler, so they are compared if it is the same. The seconds of processor time depend on the
+machine.
 
 """
 BY = "Counted with the compiler "

@@ -1,0 +1,248 @@
+'use strict';
+// The page: it shows a path in a graph at one moment, and adds the event that its reader chooses.
+
+const $ = id => document.getElementById(id);
+
+// what a reader can start with: each graph of the page by its name, and the schedules that can be looked at
+const graphs = {}, examples = [];
+for (const element of document.querySelectorAll('[data-start]')) {
+  const { start, kind, title } = element.dataset, text = element.textContent.trim();
+  if (kind === 'example') examples.push({ title, schedule: text, graph: graphs.whole });
+  else {
+    const [schedule, packed] = kind === 'path' ? /^([^]*?)\n\n([^]*)$/.exec(text).slice(1) : ['', text];
+    const graph = { ...readGraph(packed), name: start, kind };
+    graphs[kind === 'whole' ? 'whole' : start] = graph;
+    if (kind === 'path') examples.push({ title: title + ' (to look at)', schedule, graph });
+    else if (kind !== 'whole') examples.push({ title, schedule: 'seats ' + graph.seats, graph });
+  }
+}
+const sentences = readSentences($('sentences').textContent);
+const tasks = readTasks($('tasks').textContent).map(task => ({ ...task, graph: graphs[task.graph] })).filter(task => task.graph);
+// what is shown: a path in a graph, the moment in it, the task if one was started, and how long the path was then
+const view = { graph: graphs.whole, path: [], at: 0, task: null, given: 0 };
+
+// ---- drawing
+
+const withStop = text => /[.?!]$/.test(text) ? text : text + '.';
+
+// the list of tasks, where there is nothing to draw yet
+function tasksText() {
+  const items = tasks.map(({ text }, i) => `<li>${escape(text)} <button data-task="${i}">try</button></li>`).join('');
+  return `<div class="tasks"><h2>New here? Tasks of a minute each</h2><ol>${items}</ol></div>`;
+}
+
+function showLanes() {
+  const lanes = $('lanes');
+  if (view.path.length === 0 && view.task === null) {
+    lanes.innerHTML = tasksText();
+    lanes.scrollTop = 0;
+    return;
+  }
+  const { heads, body, now } = drawLanes(view, lanes.clientWidth);
+  lanes.innerHTML = `<div class="heads">${heads}</div>${body}`;
+  if (now < lanes.scrollTop + 40 || now > lanes.scrollTop + lanes.clientHeight - 60) lanes.scrollTop = Math.max(0, now - 120);
+}
+
+// what has just happened, in sentences
+function eventTexts(event) {
+  if (!event) return [sentences.start.does];
+  const texts = [], name = nameOf(event.step);
+  if (event.act !== '.') {
+    const what = event.turn === 'begins' ? sentences.begins.does : 'its checks answer at once.';
+    texts.push(`<b>${escape(event.seat + ' ' + event.act)}</b>: ${what}`);
+  } else {
+    const raw = `<code class="soft">${escape(event.step.slice(name.length + 2))}</code>`;
+    texts.push(`<b>${shownName(event.step)}</b> of seat ${event.seat}: ${withStop(sentence(sentences, name, event.seat).does)} ${raw}`);
+  }
+  if (isAnswer(event.turn)) texts.push(`<b>${escape(event.turn)}.</b> ${withStop(sentence(sentences, turnName(event), event.seat).does)}`);
+  return texts;
+}
+
+// the name of an answer in steps.txt: without the numbers that it has, and with check for what the checks refuse
+function turnName({ act, turn }) {
+  const name = act === '.' ? turn : turn.replace('refused', 'check');
+  return name.replace(/^(ends Waiting).*/, '$1').replace(/ \d+$/, '');
+}
+
+function taskTexts() {
+  const { graph, task } = view;
+  if (task === null) return [];
+  const number = tasks.indexOf(task) + 1, isDone = view.path.slice(view.given, view.at).some(event => isGoal(graph, task.goal, event));
+  const next = number < tasks.length ? ` <button data-task="${number}">next task<kbd>n</kbd></button>` : '';
+  const done = isDone ? [`<span class="done"><b>✓ Done.</b> ${escape(task.seen)}</span>${next}`] : [];
+  return [`<b>Task ${number}.</b> ${escape(task.text)}`, ...done];
+}
+
+// a wrong mutex says so, and names the fault if it has come to one
+function wrongTexts(node) {
+  if (view.graph.kind !== 'wrong') return [];
+  const fault = faultOf(view.graph, node);
+  return ['<span class="fault">This is a wrong mutex: the programs know only the right one.</span>',
+    ...(fault ? [`<b class="fault">A fault: ${fault}</b>`] : [])];
+}
+
+function showStory() {
+  const { node, placeName, placeSeat } = stateAfter(view, view.at);
+  const place = sentence(sentences, 'place ' + placeName, placeSeat).does;
+  const texts = [...taskTexts(), ...eventTexts(view.path[view.at - 1]), ...wrongTexts(node), `<span class="soft">${place}</span>`];
+  $('story').innerHTML = texts.map(text => `<p>${text}</p>`).join('');
+}
+
+function showTexts() {
+  const shown = view.path.slice(0, view.at), schedule = scheduleOf(view.graph, shown);
+  if (document.activeElement !== $('schedule')) $('schedule').value = schedule;
+  $('trace').textContent = traceOf(view.graph, shown);
+  $('trace').scrollTop = $('trace').scrollHeight;
+  const [first, ...lines] = schedule.trim().split('\n');
+  history.replaceState(null, '', '#' + encodeURIComponent([view.graph === graphs.whole ? first : view.graph.name, ...lines].join(';')));
+}
+
+function showTime() {
+  $('slider').max = view.path.length;
+  $('slider').value = view.at;
+  $('slider').setAttribute('aria-valuetext', `event ${view.at} of ${view.path.length}`);
+  $('moment').textContent = `${view.at} of ${view.path.length}`;
+  $('back').disabled = view.at === 0;
+  $('on').disabled = view.at === view.path.length;
+}
+
+// draws all anew. The button that was pressed is drawn anew too, so the focus goes to it, or to another one of its seat
+function show() {
+  const { seat, act } = document.activeElement.closest('button[data-seat]')?.dataset ?? {};
+  $('seats').innerHTML = drawSeats(view, sentences);
+  showLanes();
+  $('memory').innerHTML = drawMemory(view);
+  showStory();
+  showTime();
+  showTexts();
+  if (seat) (document.querySelector(`button[data-seat="${seat}"][data-act="${act}"]`)
+    ?? document.querySelector(`button[data-seat="${seat}"]`) ?? document.querySelector('button[data-seat]') ?? $('lanes')).focus();
+}
+
+// ---- what the reader does
+
+function goTo(moment) {
+  view.at = Math.max(0, Math.min(view.path.length, moment));
+  show();
+}
+
+// the seat makes one event, or all steps of its call. What came after this moment is dropped
+function choose(seat, act) {
+  view.path.length = view.at;
+  extend(view.graph, view.path, seat, act);
+  goTo(view.path.length);
+}
+
+function load(graph, schedule, moment) {
+  const { path, fault } = follow(graph, schedule);
+  Object.assign(view, { graph, path });
+  $('fault').textContent = fault ? `line ${fault} leads out of this graph` : '';
+  goTo(moment ?? path.length);
+}
+
+function startAnew() {
+  view.task = null;
+  $('examples').value = '';
+  load(graphs.whole, 'seats ' + graphs.whole.seats);
+}
+
+function startTask(number) {
+  view.task = tasks[number];
+  $('examples').value = '';
+  const { graph, schedule } = view.task, { path } = follow(graph, `seats ${graph.seats}\n${schedule}`);
+  Object.assign(view, { graph, path, given: path.length });
+  $('fault').textContent = '';
+  goTo(path.length);
+  $('story').focus();
+}
+
+function startExample(number) {
+  const example = examples[number];
+  view.task = null;
+  load(example.graph, example.schedule, 0);
+}
+
+// adds the shortest way from here to an event that is wanted, as a path to be walked
+function showWay(isWanted) {
+  view.path.length = view.at;
+  const events = wayTo(view.graph, endOf(view.path), isWanted);
+  $('fault').textContent = events.length ? '' : 'no way leads there from here';
+  for (const { seat, act } of events) extend(view.graph, view.path, seat, act);
+  goTo(view.at);
+}
+
+// opens what the address names: a graph or a number of seats, and the lines of a schedule. Without that the page may have a
+// path of its own to begin with
+function openAddress() {
+  const [first, ...lines] = decodeURIComponent(location.hash.slice(1)).split(';');
+  const graph = graphs[first] ?? graphs.whole, opened = examples.findIndex(({ graph }) => graph.name === 'opened');
+  if (first === '' && opened >= 0) return startExample(opened);
+  load(graph, [first.startsWith('seats') ? first : 'seats ' + graph.seats, ...lines].join('\n'));
+}
+
+// ---- keys and the mouse
+
+// the button of a seat that a key with its number presses: with shift the one to the end of the call
+function buttonOfKey(event) {
+  const digit = /^Digit([1-9])$/.exec(event.code);
+  const buttons = digit ? [...document.querySelectorAll(`button[data-seat="${digit[1]}"]`)] : [];
+  return buttons.find(button => !event.shiftKey || button.dataset.act === '*');
+}
+
+const KEYS = {
+  ArrowLeft: () => goTo(view.at - 1),
+  ArrowRight: () => goTo(view.at + 1),
+  Home: () => goTo(0),
+  End: () => goTo(view.path.length),
+  0: startAnew,
+  n: () => $('story').querySelector('[data-task]')?.click(),
+};
+
+function pressKey(event) {
+  if (event.ctrlKey || event.metaKey || event.altKey || /TEXTAREA|SELECT/.test(event.target.tagName)) return;
+  const button = buttonOfKey(event);
+  if (button) choose(Number(button.dataset.seat), button.dataset.act);
+  else if (event.key in KEYS && event.target !== $('slider')) KEYS[event.key]();
+  else return;
+  event.preventDefault();
+}
+
+function click(event) {
+  const find = selector => event.target.closest(selector)?.dataset;
+  const button = find('button[data-act]'), task = find('[data-task]'), row = find('[data-moment]');
+  if (button) choose(Number(button.seat), button.act);
+  else if (task) startTask(Number(task.task));
+  else if (row) goTo(Number(row.moment));
+}
+
+function copySchedule() {
+  $('schedule').focus();
+  $('schedule').select();
+  navigator.clipboard?.writeText($('schedule').value).catch(() => document.execCommand('copy'));
+}
+
+const options = (first, names) =>
+  [`<option value="">${first}</option>`, ...names.map((name, i) => `<option value="${i}">${escape(name)}</option>`)].join('');
+
+function listen() {
+  addEventListener('resize', show);
+  addEventListener('hashchange', openAddress);
+  document.addEventListener('click', click);
+  document.addEventListener('keydown', pressKey);
+  $('back').onclick = KEYS.ArrowLeft;
+  $('on').onclick = KEYS.ArrowRight;
+  $('anew').onclick = startAnew;
+  $('slider').oninput = () => goTo(Number($('slider').value));
+  $('schedule').onchange = () => load(view.graph.kind === 'path' ? graphs.whole : view.graph, $('schedule').value);
+  $('copy').onclick = copySchedule;
+  $('examples').innerHTML = options('a free mutex', examples.map(({ title }, i) => `${i + 1}. ${title}`));
+  $('examples').onchange = () => $('examples').value === '' ? startAnew() : startExample(Number($('examples').value));
+  $('ways').innerHTML = options('the shortest way to …', WAYS.map(([name]) => name));
+  $('ways').onchange = () => {
+    if ($('ways').value !== '') showWay(WAYS[$('ways').value][1]);
+    $('ways').value = '';
+  };
+}
+
+listen();
+openAddress();

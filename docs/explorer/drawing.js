@@ -1,6 +1,6 @@
 'use strict';
-// What the page draws, as text in SVG and HTML. Nothing here touches the document, so node runs this file after graph.js. A view
-// is what the page shows: a graph, a path in it, and `at`, the moment: how many events of the path have happened.
+// What the page draws, as text in SVG and HTML. Nothing here touches the document, so node runs this file after graph.js. A
+// view is what the page shows: a graph, a path in it, and `at`, the moment: how many events of the path have happened.
 
 const escape = text => String(text).replace(/&/g, '&amp;').replace(/</g, '&lt;').replace(/>/g, '&gt;').replace(/"/g, '&quot;');
 const label = (x, y, style, text, anchor = 'start') =>
@@ -15,10 +15,10 @@ const nameOf = step => step.split(': ')[0];
 const shownName = step => nameOf(step).replace(/ take (\d)$/, ', collect $1');
 const wordOf = step => (/: ([a-z]+(\.\d+)?) /.exec(step) || [])[1];
 
-const head = (kind, style) => `<marker id="${kind}head" viewBox="0 0 8 8" refX="7" refY="4" markerWidth="9" markerHeight="9"
- markerUnits="userSpaceOnUse" orient="auto"><path d="M0 0L8 4L0 8z" class="${style}"/></marker>`;
-const SVG_HEAD = `<defs><pattern id="stripes" width="8" height="8" patternUnits="userSpaceOnUse" patternTransform="rotate(45)">
-<path d="M0 0V8" class="stripe"/></pattern>${head('post', 'posthead')}${head('grant', 'granthead')}${head('plain', 'plainhead')}</defs>`;
+const head = kind => `<marker id="${kind}head" viewBox="0 0 8 8" refX="7" refY="4" markerWidth="9" markerHeight="9"
+ markerUnits="userSpaceOnUse" orient="auto"><path d="M0 0L8 4L0 8z" class="${kind}head"/></marker>`;
+const SVG_HEAD = `<defs><pattern id="stripes" width="8" height="8" patternUnits="userSpaceOnUse"
+ patternTransform="rotate(45)"><path d="M0 0V8" class="stripe"/></pattern>${['post', 'grant', 'plain'].map(head).join('')}</defs>`;
 
 // ---- the lanes: one for each seat, and one row for each start of a call, each step and each answer
 
@@ -77,7 +77,7 @@ function drawLanes(view, least) {
   };
 }
 
-// what the lane of a seat is like after a row: its line says whether a call is open or it sleeps, its bar whether it is in charge
+// what the lane of a seat is like after a row: its line tells an open call or a sleep, its bar who owns or carries
 function laneAt(view, row, seat) {
   const { placeName, placeSeat, seats } = stateAfter(view, row.moment), { point } = seats[seat - 1];
   const ends = row.kind !== 'answer' && row.event.seat === seat && row.event.act === '.' && isAnswer(row.event.turn);
@@ -169,9 +169,10 @@ function drawnParts(view) {
   const nextAt = word => state.seats.flatMap((seat, i) => wordOf(seat.point) === word ? [i + 1] : []).join(', ');
   const box = (word, x, y, first, second, style = '') => {
     const next = word === '' ? '' : nextAt(word);
+    const middle = (down, style, text) => label(x + CELL / 2, y + down, style, escape(text), 'middle');
     return `<rect x="${x}" y="${y}" width="${CELL}" height="${BOX}" rx="4"
  class="box ${style}${word !== '' && word === touched ? ' touched' : ''}" data-word="${word}"/>`
-      + label(x + CELL / 2, y + 17, 'soft', escape(first), 'middle') + label(x + CELL / 2, y + 34, 'bold', escape(second), 'middle')
+      + middle(17, 'soft', first) + middle(34, 'bold', second)
       + (next ? label(x + CELL - 3, y + 53, 'soft', 'next: ' + next, 'end') : '');
   };
   const link = (seat, x, y) => box('link.' + seat, x, y, 'link of ' + seat, pair(state.seats[seat - 1].link));
@@ -208,7 +209,8 @@ function drawWake({ state, box }, seat, x, y) {
 
 function drawMemory(view) {
   const parts = drawnParts(view), { state, pair, box, link } = parts, { pushed, cleared, popped } = listsOf(state);
-  const seats = state.seats.map((seat, i) => i + 1), record = seat => state.queue.find(text => text.startsWith(seat + '#'));
+  const seats = state.seats.map((seat, i) => i + 1);
+  const record = seat => state.queue.find(text => text.startsWith(seat + '#'));
   const push = (seat, x, y) => seat === 0 ? box('push', x, y, 'push word', pair(state.push)) : link(seat, x, y);
   const lists = [
     ['words', ['count', 'owner', 'handoff'], (word, x, y) => drawWord(parts, word, x, y)],
@@ -219,8 +221,8 @@ function drawMemory(view) {
     ['other links', seats.filter(seat => !pushed.includes(seat) && !cleared.includes(seat)), link],
   ];
   const drawn = lists.map(([name, items, draw, isLinked], i) => drawList(name, items, 12 + i * LIST, draw, isLinked));
-  const width = LEFT + Math.max(3, ...lists.map(([, items]) => items.length)) * STEP;
-  return `<svg width="100%" viewBox="0 0 ${width} ${12 + lists.length * LIST}" aria-hidden="true">${SVG_HEAD}${drawn.join('')}</svg>`;
+  const width = LEFT + Math.max(3, ...lists.map(([, items]) => items.length)) * STEP, height = 12 + lists.length * LIST;
+  return `<svg width="100%" viewBox="0 0 ${width} ${height}" aria-hidden="true">${SVG_HEAD}${drawn.join('')}</svg>`;
 }
 
 // ---- the seats
@@ -276,14 +278,15 @@ function buttonsOf(choice, seat, isOpen) {
 }
 
 function drawSeat(view, sentences, state, seat) {
-  const { point, depth, takes } = state.seats[seat - 1], choice = state.choices[seat - 1], { style, has, is } = statusOf(state, seat);
+  const { point, depth, takes } = state.seats[seat - 1], choice = state.choices[seat - 1];
+  const { style, has, is } = statusOf(state, seat);
   const text = isInCall(point) ? openText(view, sentences, point, seat) : idleText(view, sentences, choice, depth, seat);
-  const mark = has === 'carried'
-    ? `<svg width="14" height="14" class="inline" aria-hidden="true"><circle cx="7" cy="8" r="6" class="token" data-at="seat.${seat}"/></svg> ` : '';
-  const budget = view.graph.budget === LARGEST_BUDGET ? '' : ' of ' + view.graph.budget;
-  return `<section class="seat ${style}" aria-labelledby="seat${seat}"><h2 id="seat${seat}">${mark}Seat ${seat} <span>${is}
- · depth ${depth} · ${takes}${budget} acquisitions used</span></h2>${text}<div class="buttons">${buttonsOf(choice, seat, isInCall(point))}
-</div></section>`;
+  const token = `<circle cx="7" cy="8" r="6" class="token" data-at="seat.${seat}"/>`;
+  const mark = has === 'carried' ? `<svg width="14" height="14" class="inline" aria-hidden="true">${token}</svg> ` : '';
+  const used = `${takes}${view.graph.budget === LARGEST_BUDGET ? '' : ' of ' + view.graph.budget} acquisitions used`;
+  return `<section class="seat ${style}" aria-labelledby="seat${seat}">
+<h2 id="seat${seat}">${mark}Seat ${seat} <span>${is} · depth ${depth} · ${used}</span></h2>
+${text}<div class="buttons">${buttonsOf(choice, seat, isInCall(point))}</div></section>`;
 }
 
 function drawSeats(view, sentences) {
@@ -292,5 +295,6 @@ function drawSeats(view, sentences) {
 }
 
 if (typeof module !== 'undefined') {
-  module.exports = { rowsOf, laneAt, layoutOf, drawLanes, drawMemory, drawSeats, memoryOf, shownName, nameOf, isAnswer };
+  Object.assign(module.exports, { CELL, PITCH, rowsOf, layoutOf, laneAt, drawLanes, drawMemory, drawSeats, memoryOf, nameOf, shownName,
+    isAnswer });
 }

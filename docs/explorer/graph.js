@@ -255,13 +255,13 @@ function sleepsForEver(graph, node, seat) {
 
 // the fault of a state, in words; empty if it has none
 function faultOf(graph, node) {
-  const { seats, choices, owner } = stateAt(graph, node);
+  const { seats, owner } = stateAt(graph, node);
   const holders = seats.map((seat, i) => seat.depth > 0 && seat.point === 'rests' ? i + 1 : 0).filter(seat => seat !== 0);
   if (holders.length > 1) return `Seats ${holders.join(' and ')} hold the mutex at the same time.`;
   if (holders.length === 1 && owner !== String(holders[0])) {
     return `Seat ${holders[0]} holds the mutex, and the owner word says ${owner === '0' ? 'that nobody does' : 'seat ' + owner}.`;
   }
-  const lost = seats.findIndex((seat, i) => seat.point.includes(':') && choices[i].moves.length === 0) + 1;
+  const lost = seats.findIndex(({ point }) => / link\.0 /.test(point)) + 1;
   if (lost !== 0) return `Seat ${lost} took a post over to serve a queued seat, and none is queued: it has no next step.`;
   const asleep = seats.findIndex((seat, i) => sleepsForEver(graph, node, i + 1)) + 1;
   return asleep === 0 ? '' : `Seat ${asleep} sleeps for ever: whatever the seats do from here, it gets no grant.`;
@@ -286,7 +286,7 @@ function listsOf(state) {
 }
 
 if (typeof module !== 'undefined') {
-  module.exports = { readGraph, stateAt, readSentences, sentenceName, sentence, readTasks, isGoal, makeEvent, endOf, follow,
-    lineOfNext, extend, linesOf, lineText, LARGEST_BUDGET, scheduleOf, traceOf, explanationOf, WAYS, wayTo, eventsFrom,
-    sleepsForEver, faultOf, listsOf };
+  Object.assign(module.exports, { readGraph, stateAt, readSentences, sentenceName, sentence, readTasks, isGoal, makeEvent, endOf,
+    follow, lineOfNext, extend, linesOf, lineText, LARGEST_BUDGET, scheduleOf, traceOf, explanationOf, WAYS, wayTo, eventsFrom,
+    sleepsForEver, faultOf, listsOf });
 }

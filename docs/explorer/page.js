@@ -11,13 +11,15 @@ for (const element of document.querySelectorAll('[data-start]')) {
   else {
     const [schedule, packed] = kind === 'path' ? /^([^]*?)\n\n([^]*)$/.exec(text).slice(1) : ['', text];
     const graph = { ...readGraph(packed), name: start, kind };
-    graphs[kind === 'whole' ? 'whole' : start] = graph;
+    graphs[start] = graph;
+    if (kind === 'whole') graphs.whole = graph;
     if (kind === 'path') examples.push({ title: title + ' (to look at)', schedule, graph });
     else if (kind !== 'whole') examples.push({ title, schedule: 'seats ' + graph.seats, graph });
   }
 }
 const sentences = readSentences($('sentences').textContent);
-const tasks = readTasks($('tasks').textContent).map(task => ({ ...task, graph: graphs[task.graph] })).filter(task => task.graph);
+const tasks = readTasks($('tasks').textContent).map(task => ({ ...task, graph: graphs[task.graph] }))
+  .filter(({ graph, schedule }) => graph && follow(graph, `seats ${graph.seats}\n${schedule}`).fault === 0);
 // what is shown: a path in a graph, the moment in it, the task if one was started, and how long the path was then
 const view = { graph: graphs.whole, path: [], at: 0, task: null, given: 0 };
 
@@ -52,9 +54,11 @@ function eventTexts(event) {
     texts.push(`<b>${escape(event.seat + ' ' + event.act)}</b>: ${what}`);
   } else {
     const raw = `<code class="soft">${escape(event.step.slice(name.length + 2))}</code>`;
-    texts.push(`<b>${shownName(event.step)}</b> of seat ${event.seat}: ${withStop(sentence(sentences, name, event.seat).does)} ${raw}`);
+    const does = withStop(sentence(sentences, name, event.seat).does);
+    texts.push(`<b>${shownName(event.step)}</b> of seat ${event.seat}: ${does} ${raw}`);
   }
-  if (isAnswer(event.turn)) texts.push(`<b>${escape(event.turn)}.</b> ${withStop(sentence(sentences, turnName(event), event.seat).does)}`);
+  const answer = () => withStop(sentence(sentences, turnName(event), event.seat).does);
+  if (isAnswer(event.turn)) texts.push(`<b>${escape(event.turn)}.</b> ${answer()}`);
   return texts;
 }
 
@@ -67,7 +71,8 @@ function turnName({ act, turn }) {
 function taskTexts() {
   const { graph, task } = view;
   if (task === null) return [];
-  const number = tasks.indexOf(task) + 1, isDone = view.path.slice(view.given, view.at).some(event => isGoal(graph, task.goal, event));
+  const number = tasks.indexOf(task) + 1;
+  const isDone = view.path.slice(view.given, view.at).some(event => isGoal(graph, task.goal, event));
   const next = number < tasks.length ? ` <button data-task="${number}">next task<kbd>n</kbd></button>` : '';
   const done = isDone ? [`<span class="done"><b>✓ Done.</b> ${escape(task.seen)}</span>${next}`] : [];
   return [`<b>Task ${number}.</b> ${escape(task.text)}`, ...done];
@@ -94,7 +99,8 @@ function showTexts() {
   $('trace').textContent = traceOf(view.graph, shown);
   $('trace').scrollTop = $('trace').scrollHeight;
   const [first, ...lines] = schedule.trim().split('\n');
-  history.replaceState(null, '', '#' + encodeURIComponent([view.graph === graphs.whole ? first : view.graph.name, ...lines].join(';')));
+  const start = view.graph === graphs.whole ? first : view.graph.name;
+  history.replaceState(null, '', '#' + encodeURIComponent([start, ...lines].join(';')));
 }
 
 function showTime() {

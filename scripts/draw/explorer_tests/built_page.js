@@ -1,0 +1,67 @@
+'use strict';
+// Reads a built page for the tests: its functions that touch no document, and its data. It also counts what passed and failed.
+const fs = require('fs');
+const path = require('path');
+
+const TOP = path.join(__dirname, '../../..');
+const SCHEDULES = path.join(TOP, 'examples/schedules');
+
+// the scripts of a page but the last one, which touches the document: run as they are
+function functionsOf(html) {
+  const scripts = [...html.matchAll(/<script>\n([^]*?)<\/script>/g)].map(found => found[1]);
+  const module = { exports: {} };
+  new Function('module', scripts.slice(0, -1).join('\n').replaceAll("'use strict';", ''))(module);
+  return module.exports;
+}
+
+function readPage(file) {
+  const html = fs.readFileSync(file, 'utf8'), page = functionsOf(html);
+  const block = id => html.match(new RegExp(`<script type="text/plain" id="${id}">\n([^]*?)</script>`))[1];
+  const starts = [...html.matchAll(/<script type="text\/plain" data-start="(.*?)" data-kind="(.*?)" data-title="(.*?)">\n([^]*?)<\/script>/g)];
+  const graphs = {}, schedules = [];
+  for (const [, name, kind, title, text] of starts) {
+    const packed = kind === 'path' ? text.slice(text.indexOf('\n\n') + 2) : text;
+    if (kind !== 'example') graphs[name] = { ...page.readGraph(packed), name, kind };
+    if (kind === 'example' || kind === 'path') schedules.push({ name, kind, title, text: text.split('\n\n')[0].trimEnd() + '\n' });
+  }
+  const whole = Object.values(graphs).find(({ kind }) => kind === 'whole');
+  return { ...page, html, graphs, whole, schedules, sentences: page.readSentences(block('sentences')), tasks: page.readTasks(block('tasks')) };
+}
+
+// where the stored files of a schedule are, by its name
+function storedPlace(name) {
+  return ['', 'handoffs', 'sends'].map(folder => path.join(SCHEDULES, folder, name)).find(place => fs.existsSync(place + '.lfm'));
+}
+
+const stored = (name, suffix) => fs.readFileSync(storedPlace(name) + suffix, 'utf8');
+
+// a mutex of one seat is shown in a graph of two, and with a smaller budget
+const withoutSeats = text => text.replace(/^1 seats \d+/, '').replace(/^seats .*/, '');
+
+// a random number below another one: the same numbers in each run
+function randomNumbers() {
+  let seed = 1;
+  return below => {
+    seed = (Math.imul(seed, 1664525) + 1013904223) >>> 0;
+    return Math.floor(seed / 2 ** 32 * below);
+  };
+}
+
+// runs tests one after the other, each with a name, and prints the counts
+async function runTests(tests) {
+  let passed = 0, failed = 0;
+  for (const [name, test] of tests) {
+    try {
+      const note = await test();
+      passed++;
+      console.log(`passed: ${name}${note ? ': ' + note : ''}`);
+    } catch (error) {
+      failed++;
+      console.log(`FAILED ${name}: ${String(error.stack).slice(0, 1500)}`);
+    }
+  }
+  console.log(`${passed} passed, ${failed} failed`);
+  if (failed !== 0) process.exitCode = 1;
+}
+
+module.exports = { TOP, SCHEDULES, readPage, storedPlace, stored, withoutSeats, randomNumbers, runTests };

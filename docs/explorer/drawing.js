@@ -46,9 +46,10 @@ function shortStep(step) {
   return fails ? `${word} is ${before}, fails` : after ? `${word} → ${after}` : `${word} is ${before}`;
 }
 
-// where seats and rows stand, in a picture of at least this width
+// where seats and rows stand, in a picture of at least this width. A lane has room for its longest text
 function layoutOf(graph, rows, least) {
-  const lane = Math.max(graph.seats > 2 ? 205 : 225, Math.floor((least - GUTTER - VALUES) / graph.seats));
+  const longest = Math.max(20, ...rows.map(({ name, detail }) => name.length + detail.length));
+  const lane = Math.max(60 + Math.ceil(longest * 6.6), Math.floor((least - GUTTER - VALUES) / graph.seats));
   const side = GUTTER + graph.seats * lane + 8;
   return {
     side, width: side + VALUES - 12, height: Math.max(TOP + (rows.length + 1) * PITCH, 120),

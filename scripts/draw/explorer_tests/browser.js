@@ -3,6 +3,9 @@
 const { spawn } = require('child_process');
 const fs = require('fs');
 
+// what Chromium has to know of a key besides its name
+const CHARACTERS = { Enter: { windowsVirtualKeyCode: 13, text: '\r' }, Tab: { windowsVirtualKeyCode: 9 } };
+
 class Browser {
   constructor(options = []) {
     this.folder = fs.mkdtempSync(require('os').tmpdir() + '/explorer-');
@@ -68,7 +71,7 @@ class Browser {
   }
 
   async key(key, code, modifiers = 0) {
-    for (const type of ['rawKeyDown', 'keyUp']) await this.send('Input.dispatchKeyEvent', { type, key, code, modifiers });
+    for (const type of [CHARACTERS[key]?.text ? 'keyDown' : 'rawKeyDown', 'keyUp']) await this.send('Input.dispatchKeyEvent', { type, key, code, modifiers, ...CHARACTERS[key] });
   }
 
   async picture(file) {

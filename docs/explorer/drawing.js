@@ -2,7 +2,8 @@
 // What the page draws, as text in SVG and HTML. Nothing here touches the document, so node runs this file after graph.js. A
 // view is what the page shows: a graph, a path in it, and `at`, the moment: how many events of the path have happened.
 
-const escape = text => String(text).replace(/&/g, '&amp;').replace(/</g, '&lt;').replace(/>/g, '&gt;').replace(/"/g, '&quot;');
+const ESCAPED = { '&': '&amp;', '<': '&lt;', '>': '&gt;', '"': '&quot;' };
+const escape = text => String(text).replace(/[&<>"]/g, character => ESCAPED[character]);
 const label = (x, y, style, text, anchor = 'start') =>
   `<text x="${x}" y="${y}" class="${style}" text-anchor="${anchor}">${text}</text>`;
 const stateAfter = (view, moment) => stateAt(view.graph, moment === 0 ? 0 : view.path[moment - 1].to);
@@ -18,7 +19,7 @@ const wordOf = step => (/: ([a-z]+(\.\d+)?) /.exec(step) || [])[1];
 const head = kind => `<marker id="${kind}head" viewBox="0 0 8 8" refX="7" refY="4" markerWidth="9" markerHeight="9"
  markerUnits="userSpaceOnUse" orient="auto"><path d="M0 0L8 4L0 8z" class="${kind}head"/></marker>`;
 const SVG_HEAD = `<defs><pattern id="stripes" width="8" height="8" patternUnits="userSpaceOnUse"
- patternTransform="rotate(45)"><path d="M0 0V8" class="stripe"/></pattern>${['post', 'grant', 'plain'].map(head).join('')}</defs>`;
+ patternTransform="rotate(45)"><path d="M0 0V8" class="stripe"/></pattern>${head('post')}${head('grant')}${head('plain')}</defs>`;
 
 // ---- the lanes: one for each seat, and one row for each start of a call, each step and each answer
 
@@ -46,27 +47,53 @@ function shortStep(step) {
   return fails ? `${word} is ${before}, fails` : after ? `${word} → ${after}` : `${word} is ${before}`;
 }
 
-// where seats and rows stand, in a picture of at least this width. A lane has room for its longest text
+// how wide each lane is: as wide as its longest text, or more if the whole is to have at least this width
+function laneWidths(graph, rows, least) {
+  const texts = rows.map(({ event, name, detail }) => ({ seat: event.seat, length: name.length + detail.length }));
+  const longest = seat => Math.max(18, ...texts.filter(text => text.seat === seat).map(({ length }) => length));
+  const widths = graph.seatNumbers.map(seat => 60 + Math.ceil(longest(seat) * 6.6));
+  const spare = least - GUTTER - VALUES - widths.reduce((sum, width) => sum + width, 0);
+  return widths.map(width => width + Math.max(0, Math.floor(spare / graph.seats)));
+}
+
+// a value of a word, in words
+function valueText(word, value) {
+  const pair = /^\((\d+), (\d+|none)\)$/.exec(value), post = /^(\d+)\.(\d+)$/.exec(value);
+  if (pair) return `stamp ${pair[1]} and ${pair[2] === 'none' ? 'no seat' : 'seat ' + pair[2]}`;
+  if (post) return `post ${post[2]} of seat ${post[1]}`;
+  if (value === '0' && word === 'handoff') return 'no post';
+  return word === 'owner' ? (value === '0' ? 'no owner' : 'seat ' + value) : value;
+}
+
+// what a step found and did, as a sentence
+function outcomeOf(step) {
+  const found = /: (\S+) ([a-z-]+)( fails)? (\([^)]*\)|[^ ,]+)(?: -> (\([^)]*\)|[^ ,]+))?/.exec(step);
+  if (!found) return '';
+  const [, word, operation, fails, before, after] = found, was = valueText(word, before);
+  if (fails) return `It failed: it found ${was}.`;
+  if (operation === 'clear-head') return before.includes('none') ? 'It found an empty list.' : `It found ${was}.`;
+  if (operation === 'exchange') return `It succeeded: the word has ${valueText(word, after)} now.`;
+  return after === undefined ? `It found ${was}.` : `The word had ${was}, and has ${valueText(word, after)} now.`;
+}
+
+// where seats and rows stand, in a picture of at least this width
 function layoutOf(graph, rows, least) {
-  const longest = Math.max(20, ...rows.map(({ name, detail }) => name.length + detail.length));
-  const lane = Math.max(60 + Math.ceil(longest * 6.6), Math.floor((least - GUTTER - VALUES) / graph.seats));
-  const side = GUTTER + graph.seats * lane + 8;
+  const starts = [GUTTER];
+  for (const width of laneWidths(graph, rows, least)) starts.push(starts[starts.length - 1] + width);
+  const side = starts[graph.seats] + 8;
   return {
     side, width: side + VALUES - 12, height: Math.max(TOP + (rows.length + 1) * PITCH, 120),
-    x: seat => GUTTER + (seat - 1) * lane + 26,
+    x: seat => starts[seat - 1] + 26,
     y: row => TOP + row * PITCH,
   };
 }
 
-// the heads of the lanes, the lanes, and where the row of the present moment stands
+// the heads of the lanes, the lanes, and where the row of the present moment stands, and the lane of its seat
 function drawLanes(view, least) {
   const rows = rowsOf(view), layout = layoutOf(view.graph, rows, least), { x, y, width, height } = layout;
-  const heads = [], lanes = [];
-  for (let seat = 1; seat <= view.graph.seats; seat++) {
-    heads.push(label(x(seat), 17, 'bold', 'seat ' + seat, 'middle'));
-    lanes.push(`<path d="M${x(seat)} 0V${height}" class="lane"/>`);
-  }
-  for (const [word, , right] of COLUMNS) heads.push(label(layout.side + right, 17, 'soft', word));
+  const heads = [...view.graph.seatNumbers.map(seat => label(x(seat), 17, 'bold', 'seat ' + seat, 'middle')),
+    ...COLUMNS.map(([word, , right]) => label(layout.side + right, 17, 'soft', word))];
+  const lanes = view.graph.seatNumbers.map(seat => `<path d="M${x(seat)} 0V${height}" class="lane"/>`);
   const hits = rows.map((row, r) => `<g class="row${row.moment === view.at ? ' now' : ''}" data-moment="${row.moment}">
 <rect class="hit" x="0" y="${y(r) - PITCH / 2}" width="${width}" height="${PITCH}"/></g>`);
   const drawn = rows.map((row, r) => drawRow(view, row, rows[r - 1], layout, y(r)));
@@ -75,6 +102,7 @@ function drawLanes(view, least) {
     body: `<svg width="${width}" height="${height}" aria-hidden="true">${SVG_HEAD}${hits.join('')}${lanes.join('')}`
       + `${drawBars(view, rows, layout)}${drawArrows(view, rows, layout)}${drawn.join('')}</svg>`,
     now: y(rows.findIndex(row => row.moment === view.at)),
+    left: view.at > 0 ? x(view.path[view.at - 1].seat) : 0,
   };
 }
 
@@ -90,7 +118,7 @@ function laneAt(view, row, seat) {
 // the rows of a lane that are alike, each as one piece: first the lines of calls and sleepers, over them the bars
 function drawBars(view, rows, layout) {
   const pieces = { line: [], bar: [] };
-  for (let seat = 1; seat <= view.graph.seats; seat++) {
+  for (const seat of view.graph.seatNumbers) {
     const lane = rows.map(row => laneAt(view, row, seat));
     for (const part of ['line', 'bar']) {
       for (let from = 0, to = 1; to <= rows.length; to++) {
@@ -109,8 +137,8 @@ function drawBars(view, rows, layout) {
 
 function drawPiece(part, x, top, bottom, lane, data) {
   if (part === 'line') return `<path d="M${x} ${top}V${bottom}" class="${lane.line}${lane.later}" ${data}/>`;
-  const rect = (style, more) => `<rect x="${x - 6}" y="${top}" width="12" height="${bottom - top}" class="${style}" ${more}/>`;
-  return rect('under', '') + rect(lane.bar + lane.later, data);
+  const place = `x="${x - 6}" y="${top}" width="12" height="${bottom - top}"`;
+  return `<rect ${place} class="under"/><rect ${place} class="${lane.bar}${lane.later}" ${data}/>`;
 }
 
 // an arrow from each post to the step that takes it, and from each grant to the step that loads it
@@ -156,7 +184,8 @@ function drawRow(view, row, before, layout, y) {
 function drawValues(view, row, { side }, y) {
   const now = stateAfter(view, row.moment).line.split(' '), then = stateAfter(view, row.moment - 1).line.split(' ');
   if (row.kind === 'answer' || now.join() === then.join()) return '';
-  return COLUMNS.map(([, part, right]) => label(side + right, y + 4, now[part] === then[part] ? 'soft' : '', now[part])).join('');
+  const styleOf = part => now[part] === then[part] ? 'soft' : '';
+  return COLUMNS.map(([, part, right]) => label(side + right, y + 4, styleOf(part), now[part])).join('');
 }
 
 // ---- the words in memory
@@ -244,7 +273,7 @@ function statusOf(state, seat) {
   const { point } = state.seats[seat - 1], has = state.placeSeat === seat ? state.placeName : '';
   const style = { owner: 'own', carried: 'carry', passed: 'granted' }[has] || (point.startsWith('sleeps') ? 'asleep' : '');
   const asleep = has === 'passed' ? 'sleeps, and is granted the mutex' : 'sleeps';
-  const idle = point.startsWith('sleeps') ? asleep : isInCall(point) ? 'is in a call' : 'rests';
+  const idle = point.startsWith('sleeps') ? asleep : isInCall(point) ? `is in its ${point.split(' ')[0]}` : 'rests';
   return { style, has, is: { owner: 'owns', carried: 'carries the responsibility' }[has] || idle };
 }
 
@@ -256,16 +285,21 @@ function openText(view, sentences, point, seat) {
     + (view.graph.kind === 'wrong' || next === '' ? '' : `<p class="next">Then: ${next}</p>`);
 }
 
-// the sentences of a seat that rests or sleeps: what it may begin, and what its checks refuse
-function idleText(view, sentences, { moves, refusals }, depth, seat) {
+// why the checks of calls refuse them now, as one sentence
+function refusedText(sentences, refusals, seat) {
   const reasons = [...new Set(refusals.map(({ why }) => why))].map(why => {
     const acts = refusals.filter(refusal => refusal.why === why).map(({ act }) => act).join(', ');
-    return `<p class="next">Refused: ${acts} as ${why}: ${sentence(sentences, 'check ' + why, seat).does}.</p>`;
+    return `${acts} as ${why}, since ${sentence(sentences, 'check ' + why, seat).does}`;
   });
+  return reasons.length === 0 ? '' : `<p class="next">Refused: ${reasons.join('; ')}.</p>`;
+}
+
+// the sentences of a seat that rests or sleeps: what it may begin, and what its checks refuse
+function idleText(view, sentences, { moves, refusals }, depth, seat) {
   if (view.graph.kind === 'path') return moves.length ? '' : '<p class="next">It does nothing next in this schedule.</p>';
   const rest = moves.length ? 'Choose the call that it begins.' : 'It can begin no call.';
   const isLeftOut = depth > 0 && ![...moves, ...refusals].some(({ act }) => act === 'lock');
-  return `<p class="next">${rest}</p>${reasons.join('')}`
+  return `<p class="next">${rest}</p>${refusedText(sentences, refusals, seat)}`
     + (isLeftOut ? '<p class="next">Left out here: a lock by a seat that holds already.</p>' : '');
 }
 
@@ -296,6 +330,6 @@ function drawSeats(view, sentences) {
 }
 
 if (typeof module !== 'undefined') {
-  Object.assign(module.exports, { CELL, PITCH, rowsOf, layoutOf, laneAt, drawLanes, drawMemory, drawSeats, memoryOf, nameOf, shownName,
-    isAnswer });
+  Object.assign(module.exports, { CELL, PITCH, rowsOf, layoutOf, laneAt, drawLanes, drawMemory, drawSeats, memoryOf, nameOf,
+    shownName, outcomeOf, isAnswer });
 }

@@ -8,7 +8,8 @@
 function readGraph(text) {
   const [head, texts, states] = text.trim().split('\n\n').map(part => part.split('\n'));
   const [seats, budget] = head[0].split(' ').map(Number);
-  return { seats, budget, texts, states };
+  const seatNumbers = Array.from({ length: seats }, (none, i) => i + 1);
+  return { seats, seatNumbers, budget, texts, states };
 }
 
 // a pair such as (3, none): its stamp and its seat, which is 0 for none
@@ -259,7 +260,8 @@ function faultOf(graph, node) {
   const holders = seats.map((seat, i) => seat.depth > 0 && seat.point === 'rests' ? i + 1 : 0).filter(seat => seat !== 0);
   if (holders.length > 1) return `Seats ${holders.join(' and ')} hold the mutex at the same time.`;
   if (holders.length === 1 && owner !== String(holders[0])) {
-    return `Seat ${holders[0]} holds the mutex, and the owner word says ${owner === '0' ? 'that nobody does' : 'seat ' + owner}.`;
+    const named = owner === '0' ? 'that nobody does' : 'seat ' + owner;
+    return `Seat ${holders[0]} holds the mutex, and the owner word says ${named}.`;
   }
   const lost = seats.findIndex(({ point }) => / link\.0 /.test(point)) + 1;
   if (lost !== 0) return `Seat ${lost} took a post over to serve a queued seat, and none is queued: it has no next step.`;
@@ -286,7 +288,7 @@ function listsOf(state) {
 }
 
 if (typeof module !== 'undefined') {
-  Object.assign(module.exports, { readGraph, stateAt, readSentences, sentenceName, sentence, readTasks, isGoal, makeEvent, endOf,
-    follow, lineOfNext, extend, linesOf, lineText, LARGEST_BUDGET, scheduleOf, traceOf, explanationOf, WAYS, wayTo, eventsFrom,
-    sleepsForEver, faultOf, listsOf });
+  Object.assign(module.exports, { readGraph, stateAt, readSentences, sentenceName, sentence, readTasks, isGoal, makeEvent,
+    endOf, follow, lineOfNext, extend, linesOf, lineText, LARGEST_BUDGET, scheduleOf, traceOf, explanationOf, WAYS, wayTo,
+    eventsFrom, sleepsForEver, faultOf, listsOf });
 }

@@ -40,9 +40,14 @@ function showLanes() {
     lanes.scrollTop = 0;
     return;
   }
-  const { heads, body, now } = drawLanes(view, lanes.clientWidth);
+  const { heads, body, now, left } = drawLanes(view, lanes.clientWidth);
   lanes.innerHTML = `<div class="heads">${heads}</div>${body}`;
-  if (now < lanes.scrollTop + 40 || now > lanes.scrollTop + lanes.clientHeight - 60) lanes.scrollTop = Math.max(0, now - 120);
+  const isAbove = now < lanes.scrollTop + 40, isBelow = now > lanes.scrollTop + lanes.clientHeight - 60;
+  if (isAbove || isBelow) lanes.scrollTop = Math.max(0, now - 120);
+  // the present row is in sight, and the text of its step
+  if (left < lanes.scrollLeft + 40 || left > lanes.scrollLeft + lanes.clientWidth - 250) {
+    lanes.scrollLeft = Math.max(0, left + 250 - lanes.clientWidth);
+  }
 }
 
 // what has just happened, in sentences
@@ -55,7 +60,7 @@ function eventTexts(event) {
   } else {
     const raw = `<code class="soft">${escape(event.step.slice(name.length + 2))}</code>`;
     const does = withStop(sentence(sentences, name, event.seat).does);
-    texts.push(`<b>${shownName(event.step)}</b> of seat ${event.seat}: ${does} ${raw}`);
+    texts.push(`<b>${shownName(event.step)}</b> of seat ${event.seat}: ${does}`, `${outcomeOf(event.step)} ${raw}`);
   }
   const answer = () => withStop(sentence(sentences, turnName(event), event.seat).does);
   if (isAnswer(event.turn)) texts.push(`<b>${escape(event.turn)}.</b> ${answer()}`);
@@ -89,13 +94,14 @@ function wrongTexts(node) {
 function showStory() {
   const { node, placeName, placeSeat } = stateAfter(view, view.at);
   const place = sentence(sentences, 'place ' + placeName, placeSeat).does;
-  const texts = [...taskTexts(), ...eventTexts(view.path[view.at - 1]), ...wrongTexts(node), `<span class="soft">${place}</span>`];
-  $('story').innerHTML = texts.map(text => `<p>${text}</p>`).join('');
+  const texts = [...taskTexts(), ...eventTexts(view.path[view.at - 1]), ...wrongTexts(node)];
+  $('story').innerHTML = [...texts, `<span class="soft">${place}</span>`].map(text => `<p>${text}</p>`).join('');
 }
 
 function showTexts() {
   const shown = view.path.slice(0, view.at), schedule = scheduleOf(view.graph, shown);
   if (document.activeElement !== $('schedule')) $('schedule').value = schedule;
+  $('tracename').innerHTML = view.graph.kind === 'wrong' ? 'Its trace' : 'What <code>lfm replay</code> prints for it';
   $('trace').textContent = traceOf(view.graph, shown);
   $('trace').scrollTop = $('trace').scrollHeight;
   const [first, ...lines] = schedule.trim().split('\n');
@@ -121,8 +127,8 @@ function show() {
   showStory();
   showTime();
   showTexts();
-  if (seat) (document.querySelector(`button[data-seat="${seat}"][data-act="${act}"]`)
-    ?? document.querySelector(`button[data-seat="${seat}"]`) ?? document.querySelector('button[data-seat]') ?? $('lanes')).focus();
+  const find = what => document.querySelector(`button[data-seat${what}`);
+  if (seat) (find(`="${seat}"][data-act="${act}"]`) ?? find(`="${seat}"]`) ?? find(']') ?? $('lanes')).focus();
 }
 
 // ---- what the reader does
@@ -227,8 +233,8 @@ function copySchedule() {
   navigator.clipboard?.writeText($('schedule').value).catch(() => document.execCommand('copy'));
 }
 
-const options = (first, names) =>
-  [`<option value="">${first}</option>`, ...names.map((name, i) => `<option value="${i}">${escape(name)}</option>`)].join('');
+const option = (value, text) => `<option value="${value}">${escape(text)}</option>`;
+const options = (first, names) => option('', first) + names.map((name, i) => option(i, name)).join('');
 
 function listen() {
   addEventListener('resize', show);

@@ -1,6 +1,5 @@
 # Undoes scripts/draw/pack_graph.awk: prints the text of a graph that the page holds. A text comes before the first line that
-# has its number. A seat's events come in the order of the calls, and then by their targets. With `-v path=1` the graph is that of one
-# schedule, as there.
+# has its number. A seat's events come in the order of the calls, and then by their targets.
 
 # the number that is written to the base 36
 function number(code,    i, value, digits) {

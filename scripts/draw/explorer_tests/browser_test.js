@@ -1,5 +1,6 @@
 'use strict';
-// Opens a page in a headless Chromium, and clicks, types and looks as a reader does. It needs node and Chromium, and no library.
+// Opens a page in a headless Chromium, and clicks, types and looks as a reader does. It needs node and Chromium, and no
+// library.
 //
 //   node browser_test.js PAGE [PAGE_OF_3_SEATS [OPENED_PAGE]]     CHROMIUM names the browser
 const assert = require('assert');

@@ -1,5 +1,6 @@
 'use strict';
-// Reads a built page for the tests: its functions that touch no document, and its data. It also counts what passed and failed.
+// Reads a built page for the tests: its functions that touch no document, and its data. It also counts what passed and what
+// failed.
 const fs = require('fs');
 const path = require('path');
 

@@ -109,8 +109,9 @@ test('each step, answer, refusal and place has a sentence, and what a call remem
       assert(!/ (seen|for|as|after) /.test(point) || / as #0$/.test(point) || page.memoryOf(point) !== '', point);
     }
     state.choices.forEach(({ refusals }) => refusals.forEach(({ why }) => told('check ' + why)));
-    page.eventsFrom(graph, node).forEach(({ act, turn }) => {
+    page.eventsFrom(graph, node).forEach(({ act, step, turn }) => {
       const name = turn.replace(/^(ends Waiting).*/, '$1').replace(/ \d+$/, '');
+      if (act === '.') assert.match(page.outcomeOf(step), /^(It|The word) .*\.$/);
       if (page.isAnswer(turn)) told(act === '.' ? name : name.replace('refused', 'check'));
     });
   }

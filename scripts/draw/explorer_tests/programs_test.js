@@ -3,6 +3,7 @@
 // `lfm_explain`; and, if a program prints them, the graphs themselves. It needs node.
 //
 //   node programs_test.js PAGE LFM LFM_EXPLAIN LFM_STATES [WALKS]    a program that is not there is written as -
+//   node programs_test.js PAGE --write FOLDER [WALKS]                writes the walks into a folder, with what is wanted
 const assert = require('assert');
 const fs = require('fs');
 const path = require('path');
@@ -31,7 +32,21 @@ function randomWalk(graph, most) {
   return events;
 }
 
+// writes the walks for programs that have to be run in another way: NAME.lfm, NAME.out and NAME.steps
+function writeWalks(folder, many) {
+  for (const graph of right) for (let walk = 0; walk < many; walk++) {
+    const events = randomWalk(graph, 150), name = path.join(folder, `${graph.name}_${walk}`);
+    fs.writeFileSync(name + '.lfm', page.scheduleOf(graph, events));
+    fs.writeFileSync(name + '.out', page.traceOf(graph, events));
+    fs.writeFileSync(name + '.steps', page.explanationOf(graph, events));
+  }
+}
+
 const right = Object.values(graphs).filter(({ kind }) => kind === 'whole' || kind === 'more');
+if (lfm === '--write') {
+  writeWalks(explain, Number(states ?? 60));
+  process.exit();
+}
 if (lfm !== '-' && explain !== '-') {
   for (const graph of right) tests.push([`${graph.name}: walks, as lfm replay and lfm_explain print them`, () => {
     let many = 0;

@@ -3,6 +3,7 @@
 // failed.
 const fs = require('fs');
 const path = require('path');
+const { execFileSync } = require('child_process');
 
 const TOP = path.join(__dirname, '../../..');
 const SCHEDULES = path.join(TOP, 'examples/schedules');
@@ -18,20 +19,34 @@ function functionsOf(html) {
 function readPage(file) {
   const html = fs.readFileSync(file, 'utf8'), page = functionsOf(html);
   const block = id => html.match(new RegExp(`<script type="text/plain" id="${id}">\n([^]*?)</script>`))[1];
-  const starts = [...html.matchAll(/<script type="text\/plain" data-start="(.*?)" data-kind="(.*?)" data-title="(.*?)">\n([^]*?)<\/script>/g)];
+  const starts = [...html.matchAll(/<script .* data-start="(.*?)" data-kind="(.*?)" data-title="(.*?)">\n([^]*?)<\/script>/g)];
   const graphs = {}, schedules = [];
   for (const [, name, kind, title, text] of starts) {
     const packed = kind === 'path' ? text.slice(text.indexOf('\n\n') + 2) : text;
     if (kind !== 'example') graphs[name] = { ...page.readGraph(packed), name, kind };
-    if (kind === 'example' || kind === 'path') schedules.push({ name, kind, title, text: text.split('\n\n')[0].trimEnd() + '\n' });
+    const schedule = text.split('\n\n')[0].trimEnd() + '\n';
+    if (kind === 'example' || kind === 'path') schedules.push({ name, kind, title, text: schedule });
   }
   const whole = Object.values(graphs).find(({ kind }) => kind === 'whole');
-  return { ...page, html, graphs, whole, schedules, sentences: page.readSentences(block('sentences')), tasks: page.readTasks(block('tasks')) };
+  const sentences = page.readSentences(block('sentences')), tasks = page.readTasks(block('tasks'));
+  return { ...page, html, graphs, whole, schedules, sentences, tasks };
 }
 
 // where the stored files of a schedule are, by its name
 function storedPlace(name) {
-  return ['', 'handoffs', 'sends'].map(folder => path.join(SCHEDULES, folder, name)).find(place => fs.existsSync(place + '.lfm'));
+  const places = ['', 'handoffs', 'sends'].map(folder => path.join(SCHEDULES, folder, name));
+  return places.find(place => fs.existsSync(place + '.lfm'));
+}
+
+// the rows of starts.txt: the page, what it is, its name, its title, and where it is from
+function startRows() {
+  const lines = fs.readFileSync(path.join(TOP, 'docs/explorer/starts.txt'), 'utf8').trim().split('\n');
+  return lines.filter(line => line[0] !== '#').map(line => line.split('\t'));
+}
+
+// the graph of this name, as scripts/draw/explorer unpacks it
+function printed(name) {
+  return execFileSync(path.join(TOP, 'scripts/draw/explorer'), ['--print', name], { encoding: 'utf8', maxBuffer: 1e9 });
 }
 
 const stored = (name, suffix) => fs.readFileSync(storedPlace(name) + suffix, 'utf8');
@@ -65,4 +80,4 @@ async function runTests(tests) {
   if (failed !== 0) process.exitCode = 1;
 }
 
-module.exports = { TOP, SCHEDULES, readPage, storedPlace, stored, withoutSeats, randomNumbers, runTests };
+module.exports = { TOP, SCHEDULES, readPage, startRows, printed, storedPlace, stored, withoutSeats, randomNumbers, runTests };

@@ -5,8 +5,7 @@
 const assert = require('assert');
 const fs = require('fs');
 const path = require('path');
-const { execFileSync } = require('child_process');
-const { TOP, SCHEDULES, readPage, storedPlace, stored, withoutSeats, runTests } = require('./built_page.js');
+const { TOP, SCHEDULES, readPage, startRows, printed, storedPlace, stored, withoutSeats, runTests } = require('./built_page.js');
 
 const page = readPage(process.argv[2]);
 const { graphs, whole, sentences, tasks } = page;
@@ -41,8 +40,7 @@ function shownState(graph, node) {
 
 for (const graph of Object.values(graphs)) {
   test(`${graph.name}: the page has each state and event of the graph that its packer unpacks`, () => {
-    const printed = execFileSync(path.join(TOP, 'scripts/draw/explorer'), ['--print', graph.name], { encoding: 'utf8', maxBuffer: 1e8 });
-    const { texts, states } = statesOf(printed);
+    const { texts, states } = statesOf(printed(graph.name));
     assert.strictEqual(graph.states.length, states.length);
     states.forEach(({ parts, events }, node) => {
       const wanted = events.map(([seat, text, to]) => `${seat} ${texts[text]} ${to}`).sort();
@@ -73,15 +71,18 @@ for (const { name, text } of paths) {
     assert.strictEqual(fault, 0);
     assert.strictEqual(events.length + 1, graph.states.length);
     assert.strictEqual(page.traceOf(graph, events), stored(name, '.out'));
-    if (fs.existsSync(storedPlace(name) + '.steps')) assert.strictEqual(page.explanationOf(graph, events), stored(name, '.steps'));
+    if (!fs.existsSync(storedPlace(name) + '.steps')) return;
+    assert.strictEqual(page.explanationOf(graph, events), stored(name, '.steps'));
   });
 }
 
 test('all stored schedules that a whole graph has', () => {
-  const files = fs.readdirSync(SCHEDULES, { recursive: true }).filter(file => file.endsWith('.lfm') && !file.includes('input_faults'));
+  const all = fs.readdirSync(SCHEDULES, { recursive: true }).filter(file => file.endsWith('.lfm'));
+  const files = all.filter(file => !file.includes('input_faults'));
   let known = 0;
   for (const file of files) {
-    const schedule = fs.readFileSync(path.join(SCHEDULES, file), 'utf8'), { path: events, fault } = page.follow(whole, schedule);
+    const schedule = fs.readFileSync(path.join(SCHEDULES, file), 'utf8');
+    const { path: events, fault } = page.follow(whole, schedule);
     if (fault !== 0) continue;
     known++;
     const trace = fs.readFileSync(path.join(SCHEDULES, file.replace(/lfm$/, 'out')), 'utf8');
@@ -89,6 +90,11 @@ test('all stored schedules that a whole graph has', () => {
   }
   assert(known >= (whole.seats === 2 ? 18 : 4), `${known} are known`);
   return `${known} of ${files.length}`;
+});
+
+test('a sentence names its seat', () => {
+  assert.match(page.sentence(sentences, 'place owner', 2).does, /^Seat 2 owns /);
+  assert.match(page.sentence(sentences, 'unlock 5 take 1', 2).does, /^take the whole push list/);
 });
 
 test('each state is reached', () => {
@@ -131,8 +137,8 @@ for (const task of tasks.filter(task => graphs[task.graph])) {
 for (const graph of wrong) {
   test(`${graph.name}: a task asks for its fault, and its edit is one of the protocol`, () => {
     assert(tasks.some(task => task.graph === graph.name && task.goal === 'fault'));
-    const row = fs.readFileSync(path.join(TOP, 'docs/explorer/starts.txt'), 'utf8').split('\n').find(line => line.split('\t')[2] === graph.name);
-    assert.match(fs.readFileSync(path.join(TOP, row.split('\t')[4]), 'utf8'), /^file: src\//m);
+    const edit = startRows().find(([, , name]) => name === graph.name)[4];
+    assert.match(fs.readFileSync(path.join(TOP, edit), 'utf8'), /^file: src\//m);
   });
 }
 
@@ -151,7 +157,8 @@ for (const graph of right) {
   test(`${graph.name}: no state has a fault`, () => {
     for (let node = 0; node < graph.states.length; node++) {
       // the sleepers are left to the search below, which visits each state once
-      const state = page.stateAt(graph, node), holders = state.seats.filter(({ depth, point }) => depth > 0 && point === 'rests');
+      const state = page.stateAt(graph, node);
+      const holders = state.seats.filter(({ depth, point }) => depth > 0 && point === 'rests');
       assert(holders.length <= 1);
       state.seats.forEach(({ depth, point }, i) => {
         if (depth > 0 && point === 'rests') assert.strictEqual(state.owner, String(i + 1));
@@ -163,7 +170,8 @@ for (const graph of right) {
         const { point, wake } = page.stateAt(graph, node).seats[seat - 1];
         return point !== 'sleeps in its lock' || wake !== 'QUIET';
       };
-      assert.strictEqual(reaching(graph, isFree, event => event.seat !== seat).size, graph.states.length, `seat ${seat} sleeps for ever`);
+      const reached = reaching(graph, isFree, event => event.seat !== seat);
+      assert.strictEqual(reached.size, graph.states.length, `seat ${seat} sleeps for ever`);
     }
     // the same by the function of the page, for some states
     for (let node = 0; node < graph.states.length; node += 499) assert.strictEqual(page.faultOf(graph, node), '');
@@ -184,24 +192,27 @@ test('steps of one seat in a row are one line', () => {
 });
 
 test('each queued record is in one of the lists, in order', () => {
-  for (const graph of [...right, ...paths.map(({ name }) => graphs[name])]) for (let node = 0; node < graph.states.length; node++) {
-    const state = page.stateAt(graph, node), { pushed, cleared, popped } = page.listsOf(state);
-    // the push list and the cleared list are newest first, and what is not collected yet is oldest
-    assert.deepStrictEqual([...cleared.slice().reverse(), ...popped, ...pushed.slice().reverse()].map(String),
-      state.queue.map(record => record.split('#')[0]), `${graph.name}, state ${node}`);
+  for (const graph of [...right, ...paths.map(({ name }) => graphs[name])]) {
+    for (let node = 0; node < graph.states.length; node++) {
+      const state = page.stateAt(graph, node), { pushed, cleared, popped } = page.listsOf(state);
+      // the push list and the cleared list are newest first, and what is not collected yet is oldest
+      assert.deepStrictEqual([...cleared.slice().reverse(), ...popped, ...pushed.slice().reverse()].map(String),
+        state.queue.map(record => record.split('#')[0]), `${graph.name}, state ${node}`);
+    }
   }
 });
 
 test('each link to a moment of this page leads there', () => {
-  const name = path.basename(process.argv[2]), links = [];
-  for (const file of ['README.md', 'CONTRIBUTING.md', 'examples/README.md', ...fs.readdirSync(path.join(TOP, 'docs')).map(name => 'docs/' + name)]) {
-    if (!file.endsWith('.md')) continue;
+  const link = new RegExp(`/${path.basename(process.argv[2], '.html')}\\.html#([^)\\s]+)`, 'g'), links = [];
+  const inDocs = fs.readdirSync(path.join(TOP, 'docs')).filter(name => name.endsWith('.md')).map(name => 'docs/' + name);
+  for (const file of ['README.md', 'CONTRIBUTING.md', 'examples/README.md', ...inDocs]) {
     const text = fs.readFileSync(path.join(TOP, file), 'utf8');
-    for (const [, hash] of text.matchAll(new RegExp(`${name.replace('.', '\\.')}#([^)\\s]+)`, 'g'))) links.push(decodeURIComponent(hash));
+    for (const [, hash] of text.matchAll(link)) links.push(decodeURIComponent(hash));
   }
-  for (const link of links) {
-    const [first, ...lines] = link.split(';'), graph = graphs[first] || whole;
-    assert.strictEqual(page.follow(graph, [/^seats/.test(first) ? first : 'seats ' + graph.seats, ...lines].join('\n')).fault, 0, link);
+  for (const moment of links) {
+    const [first, ...lines] = moment.split(';'), graph = graphs[first] || whole;
+    const head = first.startsWith('seats') ? first : 'seats ' + graph.seats;
+    assert.strictEqual(page.follow(graph, [head, ...lines].join('\n')).fault, 0, moment);
   }
   return `${links.length} links`;
 });

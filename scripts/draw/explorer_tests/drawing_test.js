@@ -17,7 +17,9 @@ function pathsOfPage() {
     return { graph, name, path: page.follow(graph, text).path };
   });
   for (const graph of Object.values(graphs).filter(({ kind }) => kind !== 'path')) {
-    for (let walk = 0; walk < 12; walk++) paths.push({ graph, name: `${graph.name}, walk ${walk}`, path: randomWalk(graph, 60) });
+    for (let walk = 0; walk < 12; walk++) {
+      paths.push({ graph, name: `${graph.name}, walk ${walk}`, path: randomWalk(graph, 60) });
+    }
   }
   return paths;
 }
@@ -33,11 +35,15 @@ function randomWalk(graph, most) {
   return path;
 }
 
+// the elements of this name in a text, each by its attributes
 const tags = (text, name) => [...text.matchAll(new RegExp(`<${name} ([^>]*?)/?>`, 'g'))].map(([, attributes]) =>
   Object.fromEntries([...attributes.matchAll(/([a-z-]+)="([^"]*)"/g)].map(([, key, value]) => [key, value])));
 
-// what the trace says after a moment: its last line but for the state of an earlier one
-const lineAfter = (view, moment) => page.traceOf(view.graph, view.path.slice(0, moment)).trim().split('\n').pop().split(' | ')[1].split(' ');
+// what the trace of the path up to a moment has in its last line after the bar: count, owner, handoff, place and queue
+function lineAfter(view, moment) {
+  const lines = page.traceOf(view.graph, view.path.slice(0, moment)).trim().split('\n');
+  return lines.pop().split(' | ')[1].split(' ');
+}
 
 // where the disc has to be, by the place of the trace
 function placeOfDisc(place) {
@@ -53,8 +59,8 @@ function checkDisc(view) {
   assert.deepStrictEqual(discs.map(tag => tag['data-at']), wanted === undefined ? [] : [wanted]);
   if (wanted === undefined) return;
   if (wanted.startsWith('seat.')) {
-    const panel = seats.slice(seats.indexOf('data-at'));
-    assert(panel.startsWith('data-at') && new RegExp(`</svg> Seat ${wanted.slice(5)} `).test(panel.slice(0, 80)), panel.slice(0, 80));
+    // after the disc comes the name of its seat
+    assert.match(seats.slice(seats.indexOf('data-at')).slice(0, 80), new RegExp(`</svg> Seat ${wanted.slice(5)} `));
     return;
   }
   const box = tags(memory, 'rect').find(tag => tag['data-word'] === wanted);
@@ -64,12 +70,15 @@ function checkDisc(view) {
 // the texts in the boxes are those of the state, and the thick box is the word of the last step
 function checkBoxes(view) {
   const memory = page.drawMemory(view), [count, owner, handoff] = lineAfter(view, view.at);
-  const text = word => new RegExp(`data-word="${word.replace('.', '\\.')}"/><text [^>]*>[^<]*</text><text [^>]*>([^<]*)</text>`).exec(memory)[1];
+  const label = '<text [^>]*>([^<]*)</text>';
+  const text = word => new RegExp(`data-word="${word.replace('.', '\\.')}"/>${label}${label}`).exec(memory)[2];
   assert.deepStrictEqual([text('count'), text('owner').replace('seat ', ''), text('handoff')], [count, owner, handoff]);
   const { seats, push } = page.stateAt(view.graph, view.at === 0 ? 0 : view.path[view.at - 1].to);
   const pair = link => `stamp ${link.stamp}, ${link.seat ? 'seat ' + link.seat : 'none'}`;
   assert.strictEqual(text('push'), pair(push));
-  seats.forEach((seat, i) => assert.deepStrictEqual([text('wake.' + (i + 1)), text('link.' + (i + 1))], [seat.wake, pair(seat.link)]));
+  seats.forEach(({ wake, link }, i) => {
+    assert.deepStrictEqual([text('wake.' + (i + 1)), text('link.' + (i + 1))], [wake, pair(link)]);
+  });
   const step = view.at === 0 ? '' : view.path[view.at - 1].step, word = (/: ([a-z]+(?:\.\d+)?) /.exec(step) || [])[1];
   const thick = tags(memory, 'rect').filter(tag => /touched/.test(tag.class)).map(tag => tag['data-word']);
   assert.deepStrictEqual(thick, word && word !== 'begins' && !/^[a-z_]+: /.test(step) ? [word] : []);
@@ -78,7 +87,8 @@ function checkBoxes(view) {
 // in each row of each lane the bar is that of the trace's place, and pieces lie where their rows are
 function checkLanes(view) {
   const rows = page.rowsOf(view), layout = page.layoutOf(view.graph, rows, 900), { body } = page.drawLanes(view, 900);
-  const bars = tags(body, 'rect').filter(tag => /bar/.test(tag.class)), lines = tags(body, 'path').filter(tag => 'data-seat' in tag);
+  const bars = tags(body, 'rect').filter(tag => /bar/.test(tag.class));
+  const lines = tags(body, 'path').filter(tag => 'data-seat' in tag);
   for (const bar of bars) {
     assert.strictEqual(Number(bar.x) + 6, layout.x(Number(bar['data-seat'])));
     assert.strictEqual(Number(bar.y), layout.y(Number(bar['data-from'])));
@@ -86,13 +96,15 @@ function checkLanes(view) {
   rows.forEach((row, r) => {
     const place = lineAfter(view, row.moment)[3], { seats } = page.stateAt(view.graph, view.path[row.moment - 1].to);
     for (let seat = 1; seat <= view.graph.seats; seat++) {
-      const at = piece => Number(piece['data-seat']) === seat && Number(piece['data-from']) <= r && r < Number(piece['data-to']);
-      const later = row.moment > view.at ? ' later' : '';
-      const wanted = { [`owner.${seat}`]: 'ownbar', [`carried.${seat}`]: 'carrybar' }[place];
-      assert.deepStrictEqual(bars.filter(at).map(bar => bar.class), wanted ? [wanted + later] : [], `row ${r} of seat ${seat}`);
-      const point = seats[seat - 1].point, ends = row.event.seat === seat && row.event.act === '.' && page.isAnswer(row.event.turn) && row.kind === 'step';
+      const number = (piece, name) => Number(piece['data-' + name]);
+      const at = piece => number(piece, 'seat') === seat && number(piece, 'from') <= r && r < number(piece, 'to');
+      const stylesOf = pieces => pieces.filter(at).map(piece => piece.class);
+      const wanted = style => style ? [style + (row.moment > view.at ? ' later' : '')] : [];
+      const bar = { [`owner.${seat}`]: 'ownbar', [`carried.${seat}`]: 'carrybar' }[place];
+      assert.deepStrictEqual(stylesOf(bars), wanted(bar), `the bar in row ${r} of seat ${seat}`);
+      const point = seats[seat - 1].point, ends = row.event.seat === seat && row.kind === 'step' && page.isAnswer(row.event.turn);
       const line = point.includes(':') || ends ? 'call' : point.startsWith('sleeps') ? 'sleepline' : '';
-      assert.deepStrictEqual(lines.filter(at).map(piece => piece.class), line ? [line + later] : [], `line ${r} of seat ${seat}`);
+      assert.deepStrictEqual(stylesOf(lines), wanted(line), `the line in row ${r} of seat ${seat}`);
     }
   });
 }
@@ -103,7 +115,8 @@ function checkArrows(view) {
   const places = rows.map(row => lineAfter(view, row.moment)[3]), wanted = [];
   places.forEach((place, r) => {
     const before = r === 0 ? 'free' : places[r - 1];
-    if (place !== before && /^(posted|passed)/.test(before)) wanted.push([before[1] === 'o' ? 'post' : 'grant', layout.x(rows[r].event.seat) - 8, layout.y(r)]);
+    const kind = { posted: 'post', passed: 'grant' }[before.split('.')[0]];
+    if (place !== before && kind) wanted.push([kind, layout.x(rows[r].event.seat) - 8, layout.y(r)]);
   });
   const drawn = tags(body, 'path').filter(tag => /^arrow (post|grant)/.test(tag.class)).map(tag => {
     const [, y, x] = /V([\d.]+)H([\d.]+)$/.exec(tag.d);
@@ -113,32 +126,28 @@ function checkArrows(view) {
 }
 
 const paths = pathsOfPage();
-const each = check => () => {
-  let moments = 0;
-  for (const { graph, name, path } of paths) for (let at = 0; at <= path.length; at += 1) {
-    try {
-      check({ graph, path, at });
-    } catch (error) {
-      throw new Error(`${name}, moment ${at}: ${error.message}`);
-    }
-    moments++;
-  }
-  return `${moments} moments of ${paths.length} paths`;
-};
-const once = check => () => {
-  for (const { graph, name, path } of paths) for (const at of [path.length, Math.floor(path.length / 2)]) {
-    try {
-      check({ graph, path, at });
-    } catch (error) {
-      throw new Error(`${name}, moment ${at}: ${error.message}`);
-    }
-  }
-  return `${paths.length} paths`;
-};
 
+// a test that makes a check at some moments of each path
+function atMoments(check, momentsOf) {
+  return () => {
+    let moments = 0;
+    for (const { graph, name, path } of paths) for (const at of momentsOf(path.length)) {
+      try {
+        check({ graph, path, at });
+      } catch (error) {
+        throw new Error(`${name}, moment ${at}: ${error.message}`);
+      }
+      moments++;
+    }
+    return `${moments} moments of ${paths.length} paths`;
+  };
+}
+
+const each = check => atMoments(check, last => Array.from({ length: last + 1 }, (none, at) => at));
+const two = check => atMoments(check, last => [last, Math.floor(last / 2)]);
 runTests([
   ['the disc of the responsibility is at the place of the trace', each(checkDisc)],
   ['each box has its word, and the thick one is that of the last step', each(checkBoxes)],
-  ['bars and lines of the lanes, row by row', once(checkLanes)],
-  ['arrows of posts and grants', once(checkArrows)],
+  ['bars and lines of the lanes, row by row', two(checkLanes)],
+  ['arrows of posts and grants', two(checkArrows)],
 ]);

@@ -7,15 +7,14 @@
 const assert = require('assert');
 const fs = require('fs');
 const path = require('path');
-const { spawnSync, execFileSync } = require('child_process');
-const { TOP, readPage, stored, randomNumbers, runTests } = require('./built_page.js');
+const { spawnSync } = require('child_process');
+const { readPage, startRows, printed, stored, randomNumbers, runTests } = require('./built_page.js');
 
 const [pageFile, lfm, explain, states, walks = '60'] = process.argv.slice(2);
 const page = readPage(pageFile), { graphs } = page;
 const below = randomNumbers();
 const run = (program, args, input) => spawnSync(program, args, { input, encoding: 'utf8', maxBuffer: 1e9 });
-const rows = fs.readFileSync(path.join(TOP, 'docs/explorer/starts.txt'), 'utf8').split('\n').filter(line => line[0] !== '#').map(line => line.split('\t'));
-const printed = name => execFileSync(path.join(TOP, 'scripts/draw/explorer'), ['--print', name], { encoding: 'utf8', maxBuffer: 1e9 });
+const rows = startRows();
 const tests = [];
 
 // a random walk that also begins calls which are refused

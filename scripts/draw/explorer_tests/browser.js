@@ -1,6 +1,6 @@
 'use strict';
-// Drives a headless Chromium through its debugging pipe: messages in JSON on two file descriptors, each with a 0 at its end. It
-// needs no library and no port.
+// Drives a headless Chromium through its debugging pipe: messages in JSON on two file descriptors, each with a 0 at its end.
+// It needs no library and no port.
 const { spawn } = require('child_process');
 const fs = require('fs');
 const os = require('os');
@@ -17,7 +17,8 @@ class Browser {
   constructor() {
     this.folder = fs.mkdtempSync(path.join(os.tmpdir(), 'explorer-'));
     const options = [...OPTIONS, '--user-data-dir=' + this.folder, 'about:blank'];
-    this.child = spawn(process.env.CHROMIUM || 'chromium', options, { stdio: ['ignore', 'ignore', 'ignore', 'pipe', 'pipe'] });
+    const stdio = ['ignore', 'ignore', 'ignore', 'pipe', 'pipe'];
+    this.child = spawn(process.env.CHROMIUM || 'chromium', options, { stdio });
     this.waiting = new Map();
     // what scripts of pages have thrown
     this.faults = [];

@@ -7,19 +7,28 @@ const assert = require('assert');
 const fs = require('fs');
 const path = require('path');
 const { Browser } = require('./browser.js');
-const { readPage, stored, withoutSeats, runTests } = require('./built_page.js');
+const { readPage, stored, storedPlace, withoutSeats, runTests } = require('./built_page.js');
 
 const [pageFile, threeFile, openedFile] = process.argv.slice(2);
 const address = file => 'file://' + path.resolve(file);
 const page = readPage(pageFile);
 const browser = new Browser();
 const text = id => browser.run(`document.getElementById('${id}').textContent`);
-const words = () => browser.run(`['count', 'owner', 'handoff'].map(word =>
-  document.querySelector('[data-word=' + word + ']').nextElementSibling.nextElementSibling.textContent.replace('seat ', '')).join(' ')`);
-const choose = (list, value) => browser.run(`(() => { const list = document.getElementById('${list}'); list.value = '${value}';
-  list.dispatchEvent(new Event('change')); document.activeElement.blur(); })()`);
+// what the boxes of count, owner and handoff say
+const words = () => browser.run(`['count', 'owner', 'handoff'].map(word => {
+  const box = document.querySelector('[data-word=' + word + ']');
+  return box.nextElementSibling.nextElementSibling.textContent.replace('seat ', '');
+}).join(' ')`);
+const choose = (list, value) => browser.run(`(() => {
+  const list = document.getElementById('${list}');
+  list.value = '${value}';
+  list.dispatchEvent(new Event('change'));
+  document.activeElement.blur();
+})()`);
 const titles = () => browser.run('examples.map(({ title }) => title)');
 const chooseTitle = async title => choose('examples', (await titles()).findIndex(found => found.startsWith(title)));
+// walks the shortest way to the end of the present task
+const WALK_THE_WAY = 'showWay(event => isGoal(view.graph, view.task.goal, event)); goTo(view.path.length)';
 const tests = [];
 const test = (name, run) => tests.push([name, run]);
 const examples = page.schedules.filter(({ kind }) => kind === 'example');
@@ -29,8 +38,7 @@ const drawnBars = () => browser.run(`(() => {
   const rows = [...document.querySelectorAll('#lanes .row .hit')].map(row => row.getBoundingClientRect());
   return [...document.querySelectorAll('#lanes rect.ownbar, #lanes rect.carrybar')].map(bar => {
     const box = bar.getBoundingClientRect(), { seat, from, to } = bar.dataset, middle = row => row.y + row.height / 2;
-    return { seat, style: bar.classList[0], from: Number(from), to: Number(to), top: Math.abs(box.y - middle(rows[from])) < 2,
-      count: rows.length };
+    return { seat, from, to, isAtItsRow: Math.abs(box.y - middle(rows[from])) < 2 };
   }); })()`);
 
 // the word at whose box the disc is seen, or the seat at whose name
@@ -55,7 +63,8 @@ function placeOf(place, owner) {
 // no text is wider than what holds it, and no panel lies over another one
 const layoutFaults = () => browser.run(`(() => {
   const faults = [], box = element => element.getBoundingClientRect();
-  const panels = [...document.querySelectorAll('header, .seat, .time, #lanes, .legend, #story, #memory, .text section, details')];
+  const names = 'header, .seat, .time, #lanes, .legend, #story, #memory, .text section, details';
+  const panels = [...document.querySelectorAll(names)];
   panels.forEach((a, i) => panels.slice(i + 1).forEach(b => {
     const p = box(a), q = box(b);
     if (p.left < q.right - 1 && q.left < p.right - 1 && p.top < q.bottom - 1 && q.top < p.bottom - 1) {
@@ -68,7 +77,9 @@ const layoutFaults = () => browser.run(`(() => {
     }
   }
   const memory = box(document.querySelector('#memory svg'));
-  for (const label of document.querySelectorAll('#memory text')) if (box(label).right > memory.right + 1) faults.push('cut: ' + label.textContent);
+  for (const label of document.querySelectorAll('#memory text')) {
+    if (box(label).right > memory.right + 1) faults.push('cut: ' + label.textContent);
+  }
   for (const rect of document.querySelectorAll('#memory .box')) {
     const label = rect.nextElementSibling.nextElementSibling;
     if (box(label).width > box(rect).width) faults.push('too wide: ' + label.textContent);
@@ -78,10 +89,10 @@ const layoutFaults = () => browser.run(`(() => {
 
 // a row of a lane whose text runs into what stands at its right
 const crossedRows = () => browser.run(`(() => {
-  const labels = [...document.querySelectorAll('#lanes svg:last-child g:not(.row) > text')].map(label => [label, label.getBoundingClientRect()]);
-  const faults = [];
-  labels.forEach(([a, p], i) => labels.slice(i + 1).forEach(([b, q]) => {
-    if (Math.abs(p.y - q.y) < 5 && p.left < q.right - 1 && q.left < p.right - 1) faults.push(a.textContent + ' | ' + b.textContent);
+  const labels = [...document.querySelectorAll('#lanes svg:last-child g:not(.row) > text')];
+  const places = labels.map(label => [label.textContent, label.getBoundingClientRect()]), faults = [];
+  places.forEach(([a, p], i) => places.slice(i + 1).forEach(([b, q]) => {
+    if (Math.abs(p.y - q.y) < 5 && p.left < q.right - 1 && q.left < p.right - 1) faults.push(a + ' | ' + b);
   }));
   return faults; })()`);
 
@@ -99,17 +110,19 @@ for (const { name, title } of examples) test(`looks at ${name}, event by event`,
   }
   assert.strictEqual(withoutSeats(await text('trace')), withoutSeats(stored(name, '.out')));
   const bars = await drawnBars();
-  assert(bars.length > 0 && bars.every(({ top }) => top));
+  assert(bars.length > 0 && bars.every(({ isAtItsRow }) => isAtItsRow));
   assert.deepStrictEqual(await crossedRows(), []);
   for (const _ of ends) await browser.key('ArrowLeft', 'ArrowLeft');
   assert.strictEqual(await words(), '0 0 0');
 });
 
-for (const { name } of examples.filter(({ name }) => name !== 'locker_loses_the_exchange')) test(`clicks through ${name}`, async () => {
+const withSteps = examples.filter(({ name }) => fs.existsSync(storedPlace(name) + '.steps'));
+for (const { name } of withSteps) test(`clicks through ${name}`, async () => {
   await browser.click('#anew');
   // the begins and steps of the stored explanation, without the numbers of their lines
-  const events = trace => trace.trim().split('\n').filter(line => !line.includes(' | ')).map(line => line.replace(/^\d+ /, ''));
-  const wanted = events(stored(name, '.steps')), acts = stored(name, '.lfm').trim().split('\n').slice(1).filter(line => / [a-z]/.test(line));
+  const lines = text => text.trim().split('\n');
+  const events = text => lines(text).filter(line => !line.includes(' | ')).map(line => line.replace(/^\d+ /, ''));
+  const wanted = events(stored(name, '.steps')), acts = lines(stored(name, '.lfm')).filter(line => /^\d+ [a-z]/.test(line));
   for (const line of wanted) {
     const act = /^\d [a-z_]+ \d/.test(line) ? '.' : acts.shift().slice(2);
     await browser.click(`button[data-seat="${line[0]}"][data-act="${act}"]`);
@@ -160,9 +173,7 @@ test('by Tab and Enter alone: a task from its start to its end, and the next one
 });
 
 test('the key n begins the next task', async () => {
-  await browser.run('startTask(0)');
-  await browser.run('showWay(event => isGoal(view.graph, view.task.goal, event)); goTo(view.path.length)');
-  await browser.run('document.activeElement.blur()');
+  await browser.run(`startTask(0); ${WALK_THE_WAY}; document.activeElement.blur()`);
   await browser.key('n', 'KeyN');
   assert.match(await text('story'), /Task 2/);
 });
@@ -183,8 +194,11 @@ test('a row is a way back', async () => {
 
 test('the present row is in sight, however long the path is', async () => {
   await chooseTitle('Pop list beside push list');
-  const seen = () => browser.run(`(() => { const lanes = document.getElementById('lanes').getBoundingClientRect(),
-    row = document.querySelector('.now').getBoundingClientRect(); return row.top >= lanes.top && row.bottom <= lanes.bottom + 1; })()`);
+  const seen = () => browser.run(`(() => {
+    const lanes = document.getElementById('lanes').getBoundingClientRect();
+    const row = document.querySelector('.now').getBoundingClientRect();
+    return row.top >= lanes.top && row.bottom <= lanes.bottom + 1;
+  })()`);
   await browser.key('End', 'End');
   assert(await seen());
   for (let i = 0; i < 60; i++) await browser.key('ArrowLeft', 'ArrowLeft');
@@ -193,8 +207,11 @@ test('the present row is in sight, however long the path is', async () => {
 
 test('the schedule can be edited, and a line that leads nowhere is named', async () => {
   await browser.click('#anew');
-  await browser.run(`(() => { const schedule = document.getElementById('schedule'); schedule.value = 'seats 2\\n1 lock\\n1 *\\n1 lock\\n';
-    schedule.dispatchEvent(new Event('change')); })()`);
+  await browser.run(`(() => {
+    const schedule = document.getElementById('schedule');
+    schedule.value = 'seats 2\\n1 lock\\n1 *\\n1 lock\\n';
+    schedule.dispatchEvent(new Event('change'));
+  })()`);
   assert.match(await text('fault'), /^line 4 /);
   assert.strictEqual(await text('moment'), '3 of 3');
 });
@@ -218,7 +235,7 @@ test('a wrong mutex says so, and names its fault', async () => {
     await browser.run(`startTask(tasks.findIndex(({ text }) => text === ${JSON.stringify(task.text)}))`);
     assert.match(await text('story'), /wrong mutex/);
     assert(!/A fault:/.test(await text('story')));
-    await browser.run('showWay(event => isGoal(view.graph, view.task.goal, event)); goTo(view.path.length)');
+    await browser.run(WALK_THE_WAY);
     assert.match(await text('story'), /A fault: Seat/);
   }
 });
@@ -237,9 +254,10 @@ test('schedules of more seats can be looked at', async () => {
 });
 
 test('a link opens the same moment, also of a wrong mutex', async () => {
-  for (const begin of [`load(graphs.whole, 'seats 2\\n1 lock\\n1 *\\n2 lock\\n2 +4')`, `load(graphs.without_recheck, 'seats 2\\n1 lock\\n1 .')`]) {
-    await browser.run(begin);
-    const hash = await browser.run('location.hash'), trace = await text('trace'), name = await browser.run('view.graph.name');
+  for (const [graph, schedule] of [['whole', '1 lock\\n1 *\\n2 lock\\n2 +4'], ['without_recheck', '1 lock\\n1 .']]) {
+    await browser.run(`load(graphs.${graph}, 'seats 2\\n${schedule}')`);
+    const hash = await browser.run('location.hash'), name = await browser.run('view.graph.name');
+    const trace = await text('trace');
     await browser.open(address(pageFile) + hash);
     assert.strictEqual(await text('trace'), trace);
     assert.strictEqual(await browser.run('view.graph.name'), name);
@@ -258,16 +276,22 @@ test('landmarks, names and headings for a screen reader', async () => {
   assert.strictEqual(named('main').length, 1);
   assert.strictEqual(named('banner').length, 1);
   assert.deepStrictEqual(named('navigation'), ['moments']);
-  for (const name of ['what is happening now', 'The words in memory now', 'what has happened']) assert(named('region').includes(name), name);
+  for (const name of ['what is happening now', 'The words in memory now', 'what has happened']) {
+    assert(named('region').includes(name), name);
+  }
   assert(named('region').some(name => name.startsWith('Seat 1 ')));
   assert(named('heading').includes('Which seat makes the next step?'));
-  for (const role of ['button', 'combobox', 'slider', 'textbox']) named(role).forEach(name => assert(name.trim() !== '', `a ${role} without a name`));
+  for (const role of ['button', 'combobox', 'slider', 'textbox']) {
+    named(role).forEach(name => assert(name.trim() !== '', `a ${role} without a name`));
+  }
 });
 
-for (const [width, height, dark] of [[1500, 900, false], [1500, 900, true], [1280, 800, false], [1000, 800, false], [700, 900, false]]) {
+const MOMENTS = ['', '#seats 2 2;1 lock;1 *;2 lock;2 .;1 unlock;1 +4;2 +4',
+  '#seats 2 2;1 lock;1 *;1 start_wait;1 *;2 send_lock 1;2 *'];
+for (const [width, height, dark] of [[1500, 900], [1500, 900, true], [1280, 800], [1000, 800], [700, 900]]) {
   test(`${width} pixels${dark ? ', dark' : ''}: no text is cut, and no panel lies over another`, async () => {
-    for (const hash of ['', '#seats 2 2;1 lock;1 *;2 lock;2 .;1 unlock;1 +4;2 +4', '#seats 2 2;1 lock;1 *;1 start_wait;1 *;2 send_lock 1;2 *']) {
-      await browser.open(address(pageFile) + encodeURI(hash), width, height, dark);
+    for (const moment of MOMENTS) {
+      await browser.open(address(pageFile) + encodeURI(moment), width, height, dark);
       assert.deepStrictEqual(await layoutFaults(), []);
       assert.deepStrictEqual(await crossedRows(), []);
     }
@@ -281,7 +305,8 @@ test('on random walks no text of a lane runs into another', async () => {
       for (let i = 0; i < 60; i++) {
         const events = eventsFrom(graphs.whole, endOf(path));
         seed = (Math.imul(seed, 1664525) + 1013904223) >>> 0;
-        if (events.length) { const { seat, act } = events[Math.floor(seed / 2 ** 32 * events.length)]; extend(graphs.whole, path, seat, act); }
+        const { seat, act } = events[Math.floor(seed / 2 ** 32 * events.length)] ?? {};
+        if (seat) extend(graphs.whole, path, seat, act);
       }
       Object.assign(view, { graph: graphs.whole, path, task: null }); goTo(path.length); })()`);
     assert.deepStrictEqual(await crossedRows(), [], await text('trace'));
@@ -293,7 +318,7 @@ if (threeFile) test('the page of three seats: its tasks, and lanes', async () =>
   const many = await browser.run('tasks.length');
   assert(many >= 3);
   for (let i = 0; i < many; i++) {
-    await browser.run(`startTask(${i}); showWay(event => isGoal(view.graph, view.task.goal, event)); goTo(view.path.length)`);
+    await browser.run(`startTask(${i}); ${WALK_THE_WAY}`);
     assert((await text('story')).includes('Done.'));
     assert.deepStrictEqual(await layoutFaults(), []);
   }

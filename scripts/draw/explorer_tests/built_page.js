@@ -19,9 +19,9 @@ function functionsOf(html) {
 function readPage(file) {
   const html = fs.readFileSync(file, 'utf8'), page = functionsOf(html);
   const block = id => html.match(new RegExp(`<script type="text/plain" id="${id}">\n([^]*?)</script>`))[1];
-  const starts = [...html.matchAll(/<script .* data-start="(.*?)" data-kind="(.*?)" data-title="(.*?)">\n([^]*?)<\/script>/g)];
+  const start = /<script .* data-start="(.*?)" data-kind="(.*?)" data-title="(.*?)">\n([^]*?)<\/script>/g;
   const graphs = {}, schedules = [];
-  for (const [, name, kind, title, text] of starts) {
+  for (const [, name, kind, title, text] of html.matchAll(start)) {
     const packed = kind === 'path' ? text.slice(text.indexOf('\n\n') + 2) : text;
     if (kind !== 'example') graphs[name] = { ...page.readGraph(packed), name, kind };
     const schedule = text.split('\n\n')[0].trimEnd() + '\n';
@@ -80,4 +80,5 @@ async function runTests(tests) {
   if (failed !== 0) process.exitCode = 1;
 }
 
-module.exports = { TOP, SCHEDULES, readPage, startRows, printed, storedPlace, stored, withoutSeats, randomNumbers, runTests };
+module.exports = { TOP, SCHEDULES, readPage, startRows, printed, storedPlace, stored, withoutSeats, randomNumbers,
+  runTests };

@@ -5,7 +5,8 @@
 const assert = require('assert');
 const fs = require('fs');
 const path = require('path');
-const { TOP, SCHEDULES, readPage, startRows, printed, storedPlace, stored, withoutSeats, runTests } = require('./built_page.js');
+const { TOP, SCHEDULES, readPage, startRows, printed, storedPlace, stored, withoutSeats, runTests } =
+  require('./built_page.js');
 
 const page = readPage(process.argv[2]);
 const { graphs, whole, sentences, tasks } = page;

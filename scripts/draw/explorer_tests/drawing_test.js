@@ -102,7 +102,8 @@ function checkLanes(view) {
       const wanted = style => style ? [style + (row.moment > view.at ? ' later' : '')] : [];
       const bar = { [`owner.${seat}`]: 'ownbar', [`carried.${seat}`]: 'carrybar' }[place];
       assert.deepStrictEqual(stylesOf(bars), wanted(bar), `the bar in row ${r} of seat ${seat}`);
-      const point = seats[seat - 1].point, ends = row.event.seat === seat && row.kind === 'step' && page.isAnswer(row.event.turn);
+      const { event, kind } = row, { point } = seats[seat - 1];
+      const ends = event.seat === seat && kind === 'step' && page.isAnswer(event.turn);
       const line = point.includes(':') || ends ? 'call' : point.startsWith('sleeps') ? 'sleepline' : '';
       assert.deepStrictEqual(stylesOf(lines), wanted(line), `the line in row ${r} of seat ${seat}`);
     }

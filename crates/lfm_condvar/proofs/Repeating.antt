@@ -3,26 +3,10 @@ use Rattle.std.proofs.Common.{◌≡◌, ℕ, Bool, true, false, Some, Result, O
 use Rattle.lfm_model.specs.declared.answers.How.{How}
 use Rattle.lfm_model.specs.declared.refusals.Refusal.{Refusal}
 use Rattle.lfm_protocol.specs.declared.limits.Limits.{Limits}
+use Rattle.lfm_mutex.specs.Conditions.{FoundMayBeLeft}
 use Rattle.lfm_mutex.specs.calls.Sight.{Sight, MayRelease}
 use Rattle.lfm_condvar.specs.declared.waiters.Waiters.{Waiters}
-use Rattle.lfm_condvar.specs.Repeated.{FoundMayBeLeft, NeedNotWait, WouldWait}
 use Rattle.lfm_condvar.specs.Waits.{BeginWaitEnds, WaitEnds}
-
--- a property of each refusal holds of the refusal that `?` passes on
-pub handed_on : {X : Type 0} (P : Result X Refusal → Type 0) (q : Result X Refusal) (r : Refusal) → IsErrAnd q (λ y. y ≡ r) → P (Err r) → P q
-handed_on P (Ok x) r e h = absurd e
-handed_on P (Err y) r e h = subst (λ (x : Refusal). P (Err x)) (sym e) h
-
--- if the answer is true, the property of that case holds
-pub if_true : (b : Bool) (P Q : Type 0) → b ≡ true → MatchBool b P Q → P
-if_true true P Q e h = h
-if_true false P Q e h = absurd cc
-
-module _ {T : Type 0} (says : T → Bool → Type 0) where
-  -- what the test of the condition shows about the value that the seat holds
-  pub looked : (s : Sight T) (v : T) (b : Bool) → s.value ≡ Some v → says v b → MatchBool b (WouldWait says s) (NeedNotWait says s)
-  looked s v true is said = λ w at. let same : Some v ≡ Some w = sym is ∙ at in let e : v ≡ w = cc in subst (λ u. says u true) e said
-  looked s v false is said = (v, is, said)
 
 module _ {T : Type 0} (user own : Limits) (tries : ℕ) where
   -- a wait that is refused leaves the user seat as it was

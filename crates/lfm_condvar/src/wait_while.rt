@@ -1,29 +1,20 @@
 //! `wait_while`: a seat that holds waits again and again while a condition is true of the guarded value.
-ghost use Rattle.std.specs.Prelude.{◌≡◌, MatchBool};
+ghost use Rattle.std.specs.Prelude.{◌≡◌};
 ghost use Rattle.std.specs.Fn.{FnReturnsAt};
+ghost use Rattle.lfm_mutex.specs.Conditions.{FoundMayBeLeft};
 ghost use Rattle.lfm_mutex.specs.Belongs.{Beside, OfMutex, limits_of};
 ghost use Rattle.lfm_mutex.specs.calls.RunGoesOn.{RunGoesOnFrom};
 ghost use Rattle.lfm_mutex.specs.calls.Sight.{sight, MayRelease};
 ghost use Rattle.lfm_mutex.specs.calls.Woken.{LooksAndWakesAsGranted};
 ghost use Rattle.lfm_condvar.specs.Belongs.{CondWokenAsGranted, OfCondvar, cond_limits, cond_sight, cond_tries};
-ghost use Rattle.lfm_condvar.specs.Repeated.{FoundMayBeLeft, NeedNotWait, WaitWhileEnds, WouldWait};
+ghost use Rattle.lfm_condvar.specs.Repeated.{WaitWhileEnds};
 
 use crate::cond_seat::CondSeat;
 use crate::condvar::Condvar;
 use lfm_model::Refusal;
+use lfm_mutex::conditions::must_wait;
 use lfm_mutex::{Kept, Mutex, Seat};
 use std::sync::Wait;
-
-/// Whether the condition is true of the guarded value, or the seat doesn't hold.
-fn must_wait<T: Kept, F: Fn(&T) -> bool>(seat: &Seat<T>, condition: &F) -> bool
-    requires { F.IsAlwaysCallable condition.now }
-    ensures { MatchBool result (WouldWait (λ v b. FnReturnsAt F.Fn condition.now v b) (sight seat.now)) (NeedNotWait (λ v b. FnReturnsAt F.Fn condition.now v b) (sight seat.now)) }
-{
-    match seat.value() {
-        Some(value) => condition(value),
-        None => true,
-    }
-}
 
 impl Condvar {
     /// Waits, as `wait` does, for as long as the condition is true of the guarded value. It tests this before it waits, and

@@ -1,4 +1,5 @@
 pub mod runs
+pub mod ConditionEnds
 pub mod ends
 pub mod LawsHeld
 pub mod EndedHolds
@@ -9,4 +10,5 @@ pub mod TableStates
 pub mod Lists
 mod SectionEnds
 mod BargingEnds
+mod TimedTryEnds
 mod RoundEnds

@@ -2,6 +2,7 @@ pub mod calls
 pub mod AllSeats
 pub mod Belongs
 pub mod Close
+pub mod Conditions
 pub mod EndedHolds
 pub mod Fresh
 pub mod Laws

@@ -16,3 +16,4 @@ pub mod Granted
 pub mod Woken
 pub mod RunGoesOn
 pub mod Acts
+pub mod TimedTries

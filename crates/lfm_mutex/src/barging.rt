@@ -237,7 +237,7 @@ impl<T: Kept> Mutex<T> {
     /// Makes one try if this count is 0, and none otherwise. Reading the count costs the holder less than a failed try. It
     /// calls the fast path of `try_lock` directly: the preconditions of that path are known here.
     #[inline(always)]
-    fn try_if_free(&self, seat: &mut Seat<T>, count: u64) -> Option<How>
+    pub(crate) fn try_if_free(&self, seat: &mut Seat<T>, count: u64) -> Option<How>
         requires belongs { OfMutex seat.old self.now }
         requires free { MayTry (limits_of self.now).budget (sight seat.old) }
         ensures belongs { Beside seat.old seat.new }

@@ -7,6 +7,8 @@
 mod barging;
 mod calls;
 mod close;
+pub mod conditions;
+pub mod deadlines;
 mod debug;
 pub mod holder;
 pub mod laws;
@@ -26,6 +28,7 @@ mod serve;
 pub mod steps;
 mod stops;
 mod try_lock;
+mod try_lock_for;
 mod unlock;
 mod value_mut;
 mod wait;

@@ -2,27 +2,14 @@
 -- has the sight c before and d after; its list has the limits `own`. A seat tries at most `tries` times before it queues for
 -- the list, and at most `user_tries` times before it queues for the user mutex. `says v b`: the condition may return b for the
 -- value v.
-use Rattle.std.specs.Prelude.{◌≡◌, ℕ, zero, suc, ⊤, Bool, true, false, Some, Result, Ok, Err}
+use Rattle.std.specs.Prelude.{◌≡◌, ℕ, zero, suc, ⊤, Bool, Result, Ok, Err}
 use Rattle.lfm_model.specs.declared.answers.How.{How}
 use Rattle.lfm_model.specs.declared.refusals.Refusal.{Refusal}
 use Rattle.lfm_protocol.specs.declared.limits.Limits.{Limits}
-use Rattle.lfm_mutex.specs.calls.Sight.{Sight, Finds, MayLeave}
+use Rattle.lfm_mutex.specs.Conditions.{NeedNotWait, WouldWait}
+use Rattle.lfm_mutex.specs.calls.Sight.{Sight}
 use Rattle.lfm_plain_condvar.specs.declared.waiters.Waiters.{Waiters}
 use Rattle.lfm_plain_condvar.specs.Waits.{WaitEnds}
-
-module _ {T : Type 0} (follows : ℕ → T → T → Type 0) (fits : T → ℕ → Type 0) where
-  -- a seat that comes to hold may leave the value as it found it
-  abbrev pub FoundMayBeLeft : Type 0
-  FoundMayBeLeft = (how : How) (s t : Sight T) → Finds follows fits how s t → t.number ≡ s.number → MayLeave follows fits t
-
-module _ {T : Type 0} (says : T → Bool → Type 0) where
-  -- the seat holds a value, and the condition is false of it
-  abbrev pub NeedNotWait : Sight T → Type 0
-  NeedNotWait s = (v : T) × (s.value ≡ Some v) × says v false
-
-  -- if the seat holds a value, the condition is true of it
-  abbrev pub WouldWait : Sight T → Type 0
-  WouldWait s = (v : T) → s.value ≡ Some v → says v true
 
 module _ {T : Type 0} (follows : ℕ → T → T → Type 0) (fits : T → ℕ → Type 0) (user own : Limits) (tries user_tries : ℕ) (says : T → Bool → Type 0) where
   -- this number of waits, before each of which the condition was true

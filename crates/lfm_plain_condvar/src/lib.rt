@@ -6,7 +6,6 @@
 
 mod close;
 pub mod condvar;
-mod deadlines;
 mod debug;
 mod hold;
 mod kept;

@@ -8,7 +8,7 @@
 ghost use Rattle.std.specs.Prelude.{◌≡◌, ◌+◌, ◌<◌, ◌≤◌, [], ◌∷◌, ◌++◌, IfOk, IfSome};
 ghost use Rattle.lfm_plain_condvar.specs.Parkers.{AtHomeIfNotified, IsWakerOf, Notifies, StartsWithNone, TakesIfNotified, with_those, no_notices};
 
-use crate::deadlines::{Deadline, time_left};
+use lfm_mutex::deadlines::{Deadline, time_left};
 use atomic_table::{Join, Play, Seat, Table, TableRule};
 use std::alloc::{AllocError, Global};
 use std::collections::LinkedList;

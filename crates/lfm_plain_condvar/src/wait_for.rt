@@ -9,7 +9,7 @@ ghost use Rattle.lfm_plain_condvar.specs.Belongs.{NotifiesNobody, OfPlain, Waits
 ghost use Rattle.lfm_plain_condvar.specs.Waits.{LeftList, NoLonger, SleepEnds, WaitForEnds};
 
 use crate::condvar::PlainCondvar;
-use crate::deadlines::{Deadline, deadline_after};
+use lfm_mutex::deadlines::{Deadline, deadline_after};
 use crate::plain_seat::PlainSeat;
 use crate::user::{bars_wait, come_back, give_up};
 use crate::wait::polls_behind;

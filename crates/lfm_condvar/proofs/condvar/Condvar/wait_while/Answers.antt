@@ -4,8 +4,10 @@ use Rattle.lfm_model.specs.declared.refusals.Refusal.{Refusal}
 use Rattle.lfm_mutex.specs.Belongs.{limits_of}
 use Rattle.lfm_mutex.specs.calls.Sight.{Sight, sight}
 use Rattle.lfm_condvar.specs.Belongs.{cond_limits, cond_sight, cond_tries}
-use Rattle.lfm_condvar.specs.Repeated.{NeedNotWait, WaitWhileEnds, WouldWait}
-use Rattle.lfm_condvar.proofs.Repeating.{as_deep, handed_on, if_true, may_again, stays}
+use Rattle.lfm_mutex.specs.Conditions.{NeedNotWait, WouldWait}
+use Rattle.lfm_condvar.specs.Repeated.{WaitWhileEnds}
+use Rattle.lfm_mutex.proofs.ConditionEnds.{handed_on, if_true}
+use Rattle.lfm_condvar.proofs.Repeating.{as_deep, may_again, stays}
 use Rattle.lfm_mutex.proofs.runs.Woken.{looks_join, looks_none}
 use Rattle.lfm_mutex.proofs.runs.RunGoesOn.{run_next, run_same}
 use Rattle.lfm_condvar.proofs.condvar.Condvar.wait_while.Goals as goal

@@ -1,12 +1,12 @@
-//! When a wait with a limit is over.
+//! When a call with a time limit is over.
 use std::time::{Clock, Duration, Instant};
 
 /// The longest time that a thread parks before it looks at the clock again, in seconds.
 const LONGEST_PARK: u64 = 3600;
 
-/// When a wait is over.
+/// When a call with a time limit is over.
 #[derive(Clone, Copy, Debug)]
-pub(crate) enum Deadline {
+pub enum Deadline {
     /// At this time of the monotonic clock.
     At(Instant),
     /// Later than the clock can count.
@@ -16,7 +16,7 @@ pub(crate) enum Deadline {
 }
 
 /// The deadline after this time from now. If the clock can't be read, it has passed.
-pub(crate) fn deadline_after<R: Clock>(rt: &R, time: Duration) -> Deadline {
+pub fn deadline_after<R: Clock>(rt: &R, time: Duration) -> Deadline {
     match Instant::now(rt) {
         Ok(now) => match now.checked_add(time) {
             Some(end) => Deadline::At(end),
@@ -28,7 +28,7 @@ pub(crate) fn deadline_after<R: Clock>(rt: &R, time: Duration) -> Deadline {
 
 /// How long a thread may park before it looks at the clock again, or None if the deadline has passed or the clock can't be
 /// read.
-pub(crate) fn time_left<R: Clock>(rt: &R, deadline: Deadline) -> Option<Duration> {
+pub fn time_left<R: Clock>(rt: &R, deadline: Deadline) -> Option<Duration> {
     match deadline {
         Deadline::At(end) => left_until(rt, end),
         Deadline::Never => Some(Duration::from_secs(LONGEST_PARK)),

@@ -1,8 +1,8 @@
 use Rattle.std.proofs.Common.{refl}
 use Rattle.std.specs.Fn.{FnReturnsAt}
 use Rattle.lfm_mutex.specs.calls.Sight.{sight}
-use Rattle.lfm_plain_condvar.proofs.Repeating.{looked}
-use Rattle.lfm_plain_condvar.proofs.wait_while.must_wait.Goals as goal
+use Rattle.lfm_mutex.proofs.ConditionEnds.{looked}
+use Rattle.lfm_mutex.proofs.conditions.must_wait.Goals as goal
 
 pub returns-in-Some : goal.returns-in-Some
 returns-in-Some g c = let said : FnReturnsAt g.F.Fn c.args.condition.now c.in-Some.value.now c.condition.result = record { shown = c.in-Some.value; shows = refl; says = record { met = c.condition.ensures } } in

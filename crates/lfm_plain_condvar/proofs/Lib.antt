@@ -1,7 +1,9 @@
 pub mod Begins
 pub mod Ends
+pub mod Followed
 pub mod ListFacts
 pub mod OneHold
+pub mod Order
 pub mod Repeating
 pub mod Rule
 pub mod Taken

@@ -9,29 +9,14 @@ use Rattle.lfm_mutex.specs.declared.seat.Seat.{Seat}
 use Rattle.lfm_mutex.specs.calls.Sight.{Sight, sight, Gains, LeavesOff, LockRefused, MayLeave}
 use Rattle.lfm_mutex.specs.calls.WakeUps.{grants_of}
 use Rattle.lfm_mutex.specs.calls.Woken.{LooksAndWakesAsGranted, WakesNobody, WokenAsGranted}
-use Rattle.lfm_mutex.specs.Reach.{Leads, Reached}
 use Rattle.lfm_mutex.proofs.runs.Woken.{looks_join, may_look, woken_join, woken_none}
 use Rattle.lfm_plain_condvar.specs.declared.waiters.Waiters.{Waiters}
-use Rattle.lfm_plain_condvar.specs.Keeping.{WaitersFollow}
-use Rattle.lfm_plain_condvar.specs.Holds.{SeatKept, Since, StepsOfOneHold, HeldOnce, InHand, IsOf, Unlocks, LocksList, Rewrites}
+use Rattle.lfm_plain_condvar.specs.Keeping.{Since, WaitersFollow}
+use Rattle.lfm_plain_condvar.specs.Holds.{SeatKept, StepsOfOneHold, HeldOnce, InHand, IsOf, Unlocks, LocksList, Rewrites}
+use Rattle.lfm_plain_condvar.proofs.Followed.{since_reached}
 
 abbrev pub WaitersFit : Waiters → ℕ → Type 0
 WaitersFit v k = Unit {0}
-
-stays : (v : Waiters) → Since v v
-stays v = record { same = (refl, refl); added = omega arith; woken = omega arith; timed_out = omega arith }
-
-led : (n s : ℕ) (path : List (ℕ × Waiters)) (v w : Waiters) → Leads WaitersFollow n s path v w → Since v w
-led n s [] v w e = subst (Since v) e (stays v)
-led n s (p ∷ ps) v w h = let r = led n s ps p.1 w h.2 in let f = h.1 in let a = r.added in let b = r.woken in let d = r.timed_out in let x = f.1 in let y = f.2 in let z = f.3 in record {
-  same = (r.same.0 ∙ f.0.0, r.same.1 ∙ f.0.1);
-  added = omega arith;
-  woken = omega arith;
-  timed_out = omega arith;
-}
-
-pub since_reached : (n s : ℕ) (v w : Waiters) → Reached WaitersFollow n s v w → Since v w
-since_reached n s v w r = led n s r.0 v w r.1
 
 some_of : {A : Type 0} (o : Option A) → is_some o ≡ true → (x : A) × (o ≡ Some x)
 some_of (Some x) h = (x, refl)
@@ -75,7 +60,8 @@ may_leave_it z n budget s t u x v w h r y is =
     let value : u.value ≡ Some w = ap (λ q. q.value) r.1 in
     let same : x ≡ v = one_some t.value x v h.value r.0 in
     let last : u.last ≡ Some v = ap (λ q. q.last) r.1 ∙ h.last ∙ ap (λ q. Some q) same in
-    (tt, λ l was. subst (λ (k : Waiters). WaitersFollow u.number l k) (one_some u.value w y value is) (subst (λ (k : Waiters). WaitersFollow u.number k w) (one_some u.last v l last was) r.2))
+    let own : WaitersFollow u.number v w = subst (λ (k : ℕ). WaitersFollow k v w) (sym (ap (λ (q : Sight Waiters). q.number) r.1)) r.2 in
+    (tt, λ l was. subst (λ (k : Waiters). WaitersFollow u.number l k) (one_some u.value w y value is) (subst (λ (k : Waiters). WaitersFollow u.number k w) (one_some u.last v l last was) own))
 
 -- the seat holds once and is awake, also after it changed the list
 pub still_held : (z : TableId) (n budget : ℕ) (s t u : Sight Waiters) (x v w : Waiters) → InHand z n budget s t x x → Rewrites t u v w → (u.depth ≡ 1) × (u.asleep ≡ false)
@@ -95,13 +81,13 @@ one_hold z n budget s t u y x v w h r l tk aw =
     let of : IsOf z n v = subst (IsOf z n) same h.is_of in
     let found : y.found ≡ Some v = l.7 ∙ ap (λ q. q.found) r.1 ∙ h.found ∙ ap (λ q. Some q) same in
     record {
-      held = record { finds = λ q was. subst (Since q) same (h.finds q was); found = found; leaves = last; spare = h.spare; takes = tk ∙ ap (λ q. q.takes) r.1 ∙ h.takes; number = named };
+      held = record { finds = λ q was. subst (Since s.number q) same (h.finds q was); found = found; leaves = last; spare = h.spare; takes = tk ∙ ap (λ q. q.takes) r.1 ∙ h.takes; number = named };
       kept = record {
         out = l.3;
         awake = aw ∙ ap (λ q. q.asleep) r.1 ∙ h.awake;
         high = (let a = h.high in omega arith);
         there = ap is_some last;
-        made = λ q is. subst (IsOf z n) (one_some y.last w q last is) (r.2.0.0 ∙ of.0, ap (λ k. k.root.table_id) r.2.0.1 ∙ of.1);
+        made = λ q is. subst (IsOf z n) (one_some y.last w q last is) (r.2.same.0 ∙ of.0, ap (λ k. k.root.table_id) r.2.same.1 ∙ of.1);
       };
       is_of = of;
     }

@@ -3,7 +3,7 @@ use Rattle.std.proofs.Common.{◌≡◌, ℕ, List, [], ◌∷◌, ◌++◌, ref
 use Rattle.lfm_plain_condvar.specs.declared.waiters.Waiter.{Waiter}
 use Rattle.lfm_plain_condvar.specs.declared.waiters.Waiters.{Waiters}
 use Rattle.lfm_plain_condvar.specs.Belongs.{numbers_of}
-use Rattle.lfm_plain_condvar.specs.Keeping.{TakesFirst, WaitersFollow}
+use Rattle.lfm_plain_condvar.specs.Keeping.{TakesFirst}
 
 pub takes_none : (v : Waiters) → TakesFirst [] v v
 takes_none v = (refl, refl, omega arith, refl, (refl, refl))
@@ -28,9 +28,3 @@ numbers_more (y ∷ gone) x = ap (λ (l : List ℕ). y.waker.number ∷ l) (numb
 -- one more was notified
 pub told_more : (gone : List Waiter) (x : Waiter) (first before after : List ℕ) → before ≡ first ++ numbers_of gone → after ≡ before ++ x.waker.number ∷ [] → after ≡ first ++ numbers_of (gone ++ x ∷ [])
 told_more gone x first before after a b = b ∙ (ap (λ (l : List ℕ). l ++ x.waker.number ∷ []) a ∙ (append_assoc first (numbers_of gone) (x.waker.number ∷ []) ∙ ap (λ (l : List ℕ). first ++ l) (sym (numbers_more gone x))))
-
-pub follows_none : (v : Waiters) → WaitersFollow 0 v v
-follows_none v = ((refl, refl), omega arith, omega arith, omega arith)
-
-pub follows_more : (u v w : Waiters) → WaitersFollow 0 u v → WaitersFollow 0 v w → WaitersFollow 0 u w
-follows_more u v w a b = let p = a.1 in let q = b.1 in let r = a.2 in let s = b.2 in let x = a.3 in let y = b.3 in ((b.0.0 ∙ a.0.0, b.0.1 ∙ a.0.1), omega arith, omega arith, omega arith)

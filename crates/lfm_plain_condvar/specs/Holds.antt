@@ -12,7 +12,7 @@ use Rattle.lfm_mutex.specs.calls.Barging.{BargesBy}
 use Rattle.lfm_mutex.specs.calls.Sight.{Sight}
 use Rattle.lfm_mutex.specs.calls.Trails.{Makes, MakesAtMost}
 use Rattle.lfm_plain_condvar.specs.declared.waiters.Waiters.{Waiters}
-use Rattle.lfm_plain_condvar.specs.Keeping.{SameSeats, WaitersFollow}
+use Rattle.lfm_plain_condvar.specs.Keeping.{Since, WaitersFollow}
 
 -- the list is of these parkers, for n seats
 abbrev pub IsOf : TableId → ℕ → Waiters → Type 0
@@ -26,17 +26,10 @@ pub record SeatKept (z : TableId) (n : ℕ) (s : Sight Waiters) : Type 0 where
   pub there : is_some s.last ≡ true
   pub made : (l : Waiters) → s.last ≡ Some l → IsOf z n l
 
--- how other seats may have changed the list: no count has fallen
-pub record Since (v w : Waiters) : Type 0 where
-  pub same : SameSeats v w
-  pub added : v.added ≤ w.added
-  pub woken : v.woken ≤ w.woken
-  pub timed_out : v.timed_out ≤ w.timed_out
-
 -- One hold of the list, which costs one take: the seat, with the sight s before and t after, found the list v and left the
--- list w. Since it last left a list, no count has fallen
+-- list w. Since it last left a list, others have changed it only as `Since` says
 pub record HeldOnce (budget : ℕ) (s t : Sight Waiters) (v w : Waiters) : Type 0 where
-  pub finds : (l : Waiters) → s.last ≡ Some l → Since l v
+  pub finds : (l : Waiters) → s.last ≡ Some l → Since s.number l v
   pub found : t.found ≡ Some v
   pub leaves : t.last ≡ Some w
   pub spare : s.takes < budget
@@ -65,7 +58,7 @@ pub record InHand (z : TableId) (n budget : ℕ) (s t : Sight Waiters) (v w : Wa
   pub value : t.value ≡ Some w
   pub last : t.last ≡ Some v
   pub found : t.found ≡ Some v
-  pub finds : (l : Waiters) → s.last ≡ Some l → Since l v
+  pub finds : (l : Waiters) → s.last ≡ Some l → Since s.number l v
   pub is_of : IsOf z n v
   pub high : s.number ≤ n
   pub number : t.number ≡ s.number
@@ -76,4 +69,4 @@ pub record InHand (z : TableId) (n budget : ℕ) (s t : Sight Waiters) (v w : Wa
 
 -- how a seat that holds may have changed the list that it found
 abbrev pub Rewrites : Sight Waiters → Sight Waiters → Waiters → Waiters → Type 0
-Rewrites s t v w = (s.value ≡ Some v) × (t ≡ record s { value = Some w }) × WaitersFollow 0 v w
+Rewrites s t v w = (s.value ≡ Some v) × (t ≡ record s { value = Some w }) × WaitersFollow s.number v w

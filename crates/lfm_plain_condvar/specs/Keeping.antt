@@ -1,5 +1,5 @@
--- How the list is changed.
-use Rattle.std.specs.Prelude.{◌≡◌, ℕ, ◌+◌, ◌≤◌, List, [], ◌∷◌, ◌++◌, Option, Some, None, Result, Ok, Err, length, remove}
+-- How the list is changed, by a call and by other seats.
+use Rattle.std.specs.Prelude.{◌≡◌, ◌≢◌, ℕ, ◌+◌, ◌≤◌, List, [], ◌∷◌, ◌++◌, Option, Some, None, Result, Ok, Err, length, remove}
 use mathlib.Core.Option.{some}
 use lib.ListN.{get_elem?}
 use Rattle.lfm_plain_condvar.specs.declared.parkers.Waker.{Waker}
@@ -7,6 +7,7 @@ use Rattle.lfm_plain_condvar.specs.declared.waiters.Enlisted.{Enlisted}
 use Rattle.lfm_plain_condvar.specs.declared.waiters.WaitCounts.{WaitCounts}
 use Rattle.lfm_plain_condvar.specs.declared.waiters.Waiter.{Waiter}
 use Rattle.lfm_plain_condvar.specs.declared.waiters.Waiters.{Waiters}
+use Rattle.lfm_plain_condvar.specs.Lists.{AllBy, Divides, GoOnFrom}
 
 abbrev pub IsNew : Waiters → Type 0
 IsNew v = (v.list.items ≡ []) × (v.added ≡ 0) × (v.woken ≡ 0) × (v.timed_out ≡ 0)
@@ -38,9 +39,30 @@ Is number ticket x = (x.waker.number ≡ number) × (x.ticket ≡ ticket)
 abbrev pub NotListed : ℕ → ℕ → Waiters → Type 0
 NotListed number ticket v = (j : ℕ) (x : Waiter) → get_elem? v.list.items j ≡ some x → Is number ticket x → ⊥
 
--- how any seat may change the list: no count falls
+-- What has happened to the list since it was v, if only seats whose numbers have the property `by` were added to it, or left
+-- it when their time was over. Any seat may have woken others
+pub record GoesOn (by : ℕ → Type 0) (v w : Waiters) : Type 0 where
+  pub same : SameSeats v w
+  -- the waiters that were added, with the next tickets
+  pub new : List Waiter
+  -- those that were woken, and those whose time was over, each in the order of their tickets
+  pub woken : List Waiter
+  pub left : List Waiter
+  pub tickets : GoOnFrom v.added new
+  -- each waiter of v and each new one either left, was woken, or still waits, and those that were woken are the oldest of those
+  -- that did not leave
+  pub places : Divides (v.list.items ++ new) (woken ++ w.list.items) left
+  pub counts : (w.added ≡ v.added + length new) × (w.woken ≡ v.woken + length woken) × (w.timed_out ≡ v.timed_out + length left)
+  pub adds_by : AllBy by new
+  pub leaves_by : AllBy by left
+
+-- how the seat with this number may change the list: it adds itself, or takes itself out, or wakes the oldest
 abbrev pub WaitersFollow : ℕ → Waiters → Waiters → Type 0
-WaitersFollow s v w = SameSeats v w × (v.added ≤ w.added) × (v.woken ≤ w.woken) × (v.timed_out ≤ w.timed_out)
+WaitersFollow s = GoesOn (λ k. k ≡ s)
+
+-- how seats other than this one may have changed the list
+abbrev pub Since : ℕ → Waiters → Waiters → Type 0
+Since s = GoesOn (λ k. k ≢ s)
 
 -- how an append ends
 abbrev pub Adds : Waker → Waiters → Waiters → Result Enlisted Waker → Type 0

@@ -7,8 +7,7 @@ ghost use Rattle.lfm_mutex.specs.Close.{AllStand, FirstMissing, HaveRun, LeftByL
 ghost use Rattle.lfm_mutex.specs.calls.RunGoesOn.{past_of};
 ghost use Rattle.lfm_mutex.specs.calls.Sight.{sight};
 ghost use Rattle.lfm_plain_condvar.specs.Belongs.{OfPlain, SamePlain};
-ghost use Rattle.lfm_plain_condvar.specs.Holds.{Since};
-ghost use Rattle.lfm_plain_condvar.specs.Keeping.{HasCounts};
+ghost use Rattle.lfm_plain_condvar.specs.Keeping.{HasCounts, Since};
 
 use crate::condvar::PlainCondvar;
 use crate::plain_seat::PlainSeat;
@@ -29,7 +28,7 @@ impl PlainCondvar {
         requires belongs { (j : ℕ) (s : _) → get_elem? seats.items j ≡ some s → OfPlain s self }
         ensures missing { IfErr result (λ e. SamePlain self e.0 × (e.1 ≡ seats) × FirstMissing (λ s. sight s.seat) seats.items (limits_of self.inner).seats e.2) }
         ensures all { IfOk result (λ _. AllStand (λ s. sight s.seat) seats.items (limits_of self.inner).seats) }
-        ensures counts { IfOk result (λ r. (w : _) × HasCounts r w × ((j : ℕ) (s : _) (l : _) → get_elem? seats.items j ≡ some s → (sight s.seat).last ≡ Some l → Since l w) × LeftLast (λ s. sight s.seat) seats.items w × LeftByLastHold (λ s. sight s.seat) seats.items w) }
+        ensures counts { IfOk result (λ r. (w : _) × HasCounts r w × ((j : ℕ) (s : _) (l : _) → get_elem? seats.items j ≡ some s → (sight s.seat).last ≡ Some l → Since (sight s.seat).number l w) × LeftLast (λ s. sight s.seat) seats.items w × LeftByLastHold (λ s. sight s.seat) seats.items w) }
         ensures run { IfOk result (λ _. HaveRun (λ s. sight s.seat) (λ s. past_of s.seat) (limits_of self.inner) seats.items) }
     {
         let PlainCondvar { inner, parkers } = self;

@@ -1,5 +1,5 @@
-//! The list is the value that the inner mutex guards. Each hold has to keep the invariant of its type, and may let none of its
-//! counts fall. So each seat knows this of the holds of all other seats.
+//! The list is the value that the inner mutex guards. Each hold has to keep the invariant of its type. It may add its own
+//! seat, take that seat out again, and wake the oldest. So each seat knows this of the holds of all other seats.
 ghost use Rattle.lfm_plain_condvar.specs.Keeping.{WaitersFollow};
 
 use crate::waiters::Waiters;

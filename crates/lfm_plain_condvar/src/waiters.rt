@@ -63,7 +63,7 @@ pub struct Waiters {
 }
 
 impl Waiters {
-    ghost use Rattle.lfm_plain_condvar.specs.Keeping.{Adds, HasCounts, IsNew, Leaves, NotListed, TakesMaybe, WaitersFollow};
+    ghost use Rattle.lfm_plain_condvar.specs.Keeping.{Adds, HasCounts, IsNew, Leaves, NotListed, TakesMaybe};
 
     /// An empty list, with room for each seat. It allocates once.
     pub(crate) fn empty(alloc: Global, seats: u64, name: ParkersName) -> Result<Waiters, AllocError>
@@ -102,8 +102,7 @@ impl Waiters {
     /// waker back and changes nothing. Neither happens: each seat has one waker, and the budgets of the seats end first.
     pub(crate) fn append(&mut self, waker: Waker) -> Result<Enlisted, Waker>
         requires { (waker.number ≤ self.old.seats) × (waker.seat.table_id ≡ self.old.name.root.table_id) }
-        ensures puts { Adds waker self.old self.new result }
-        ensures follows { WaitersFollow 0 self.old self.new }
+        ensures { Adds waker self.old self.new result }
     {
         let ahead = self.list.len();
         if ahead as u64 >= self.seats {
@@ -120,8 +119,7 @@ impl Waiters {
 
     /// Takes the oldest out, for a wake.
     pub(crate) fn take_oldest(&mut self) -> Option<Waiter>
-        ensures taken { TakesMaybe self.old self.new result }
-        ensures follows { WaitersFollow 0 self.old self.new }
+        ensures { TakesMaybe self.old self.new result }
     {
         if self.list.len() == 0 {
             return None;
@@ -146,8 +144,7 @@ impl Waiters {
     /// Takes out the seat with this number, whose time is over. If it isn't in the list with this ticket, a wake has taken it
     /// out before: it then returns None and changes nothing.
     pub(crate) fn take_out(&mut self, number: u64, ticket: u64) -> Option<Waiter>
-        ensures taken { Leaves number ticket self.old self.new result }
-        ensures follows { WaitersFollow 0 self.old self.new }
+        ensures { Leaves number ticket self.old self.new result }
     {
         let place = self.place_of(number, ticket)?;
         match self.list.remove(place) {

@@ -18,6 +18,7 @@ use std::sync::Wait;
 /// Adds the waker to the list that the seat holds.
 fn append_in_hand(cond: &mut Seat<Waiters>, waker: Waker) -> Result<Enlisted, Waker>
     requires held { 0 < (sight cond.old).depth }
+    requires own { waker.number ≡ (sight cond.old).number }
     requires known { (v : _) → (sight cond.old).value ≡ Some v → (waker.number ≤ v.seats) × (waker.seat.table_id ≡ v.name.root.table_id) }
     ensures belongs { Beside cond.old cond.new }
     ensures woken { WakesNobody cond.old cond.new }
@@ -41,6 +42,7 @@ impl PlainCondvar {
         requires belongs { OfMutex cond.old self.now.inner }
         requires kept { SeatKept (parkers_of self.now) (seats_of self.now) (sight cond.old) }
         requires spare { (sight cond.old).takes < (limits_of self.now.inner).budget }
+        requires own { waker.number ≡ (sight cond.old).number }
         requires waker { (waker.number ≤ seats_of self.now) × (waker.seat.table_id ≡ parkers_of self.now) }
         requires holder { (sight _holder.now).depth ≡ 1 }
         ensures belongs { Beside cond.old cond.new }

@@ -6,7 +6,7 @@ ghost use Rattle.lfm_mutex.specs.calls.Sight.{sight};
 ghost use Rattle.lfm_mutex.specs.calls.Woken.{LooksAndWakesAsGranted, WakesNobody};
 ghost use Rattle.lfm_plain_condvar.specs.Belongs.{numbers_of, parkers_of, seats_of};
 ghost use Rattle.lfm_plain_condvar.specs.Holds.{HeldOnce, IsOf, Rewrites, SeatKept, StepsOfOneHold};
-ghost use Rattle.lfm_plain_condvar.specs.Keeping.{TakesFirst, WaitersFollow};
+ghost use Rattle.lfm_plain_condvar.specs.Keeping.{TakesFirst};
 
 use super::leave_list;
 use crate::condvar::PlainCondvar;
@@ -21,7 +21,6 @@ fn notify_all(waiters: &mut Waiters, parkers: &Parkers, log: &mut NoticeLog) -> 
     requires log { log.old.seat.table_id ≡ parkers.now.table.shared.table_id }
     ensures takes { TakesFirst waiters.old.list.items waiters.old waiters.new }
     ensures count { result ≡ length waiters.old.list.items }
-    ensures follows { WaitersFollow 0 waiters.old waiters.new }
     ensures log { log.new.seat.table_id ≡ log.old.seat.table_id }
     ensures notified { log.new.seat.me.0.parkers ≡ log.old.seat.me.0.parkers ++ numbers_of waiters.old.list.items }
 {

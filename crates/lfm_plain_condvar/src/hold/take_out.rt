@@ -16,6 +16,7 @@ use std::sync::Wait;
 /// Takes this waiter out of the list that the seat holds.
 fn take_out_in_hand(cond: &mut Seat<Waiters>, number: u64, ticket: u64) -> Option<Waiter>
     requires held { 0 < (sight cond.old).depth }
+    requires own { number ≡ (sight cond.old).number }
     ensures belongs { Beside cond.old cond.new }
     ensures woken { WakesNobody cond.old cond.new }
     ensures does { (v : _) × (w : _) × Rewrites (sight cond.old) (sight cond.new) v w × Leaves number ticket v w result }
@@ -38,6 +39,7 @@ impl PlainCondvar {
         requires belongs { OfMutex cond.old self.now.inner }
         requires kept { SeatKept (parkers_of self.now) (seats_of self.now) (sight cond.old) }
         requires spare { (sight cond.old).takes < (limits_of self.now.inner).budget }
+        requires own { number ≡ (sight cond.old).number }
         ensures belongs { Beside cond.old cond.new }
         ensures kept { SeatKept (parkers_of self.now) (seats_of self.now) (sight cond.new) }
         ensures woken { LooksAndWakesAsGranted cond.old cond.new }

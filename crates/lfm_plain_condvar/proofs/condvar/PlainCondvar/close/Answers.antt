@@ -1,6 +1,6 @@
 use Rattle.std.proofs.Common.{rules}
 use Rattle.lfm_mutex.specs.calls.Sight.{sight}
-use Rattle.lfm_plain_condvar.proofs.OneHold.{since_reached}
+use Rattle.lfm_plain_condvar.proofs.Followed.{since_reached}
 use Rattle.lfm_plain_condvar.proofs.condvar.PlainCondvar.close.Goals as goal
 
 pub returns-in-Ok-clause-counts : goal.returns-in-Ok-clause-counts

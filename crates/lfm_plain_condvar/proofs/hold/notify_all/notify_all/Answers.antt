@@ -1,5 +1,5 @@
 use Rattle.std.proofs.Common.{[], ◌∷◌, ◌++◌, refl, sym, ◌∙◌, ap, arith, length-append, append-nil}
-use Rattle.lfm_plain_condvar.proofs.Taken.{follows_more, follows_none, takes_more, takes_none, told_more}
+use Rattle.lfm_plain_condvar.proofs.Taken.{takes_more, takes_none, told_more}
 use Rattle.lfm_plain_condvar.proofs.hold.notify_all.notify_all.Goals as goal
 
 pub taken-init : goal.taken-init
@@ -7,12 +7,11 @@ taken-init c = record {
   gone = ([], takes_none c.args.waiters.now, refl, sym (append-nil c.args.log.now.seat.me.0.parkers));
   of = c.requires.of;
   log = c.requires.log;
-  follows = follows_none c.args.waiters.now;
 }
 
 -- one more was taken out and notified
 pub taken-preserved : goal.taken-preserved
-taken-preserved c = let i = c.taken.invariant in let x = c.in-Some.waiter in let t = c.in-Some.ensures.taken.0 in let v = c.args.waiters.now in let w = c.take_oldest.new.self in record {
+taken-preserved c = let i = c.taken.invariant in let x = c.in-Some.waiter in let t = c.in-Some.ensures.0 in let v = c.args.waiters.now in let w = c.take_oldest.new.self in record {
   gone = (
     i.gone.0 ++ x ∷ [],
     takes_more i.gone.0 x v c.taken.waiters w i.gone.1 t,
@@ -21,5 +20,4 @@ taken-preserved c = let i = c.taken.invariant in let x = c.in-Some.waiter in let
   );
   of = (t.4.0 ∙ i.of.0, ap (λ y. y.root.table_id) t.4.1 ∙ i.of.1);
   log = c.notify.ensures.log ∙ i.log;
-  follows = follows_more v c.taken.waiters w i.follows c.in-Some.ensures.follows;
 }

@@ -3,7 +3,7 @@ use Rattle.std.specs.VecDeque.{deque_len}
 use Rattle.lfm_plain_condvar.specs.declared.waiters.Waiter.{Waiter}
 use Rattle.lfm_plain_condvar.specs.Belongs.{numbers_of}
 use Rattle.lfm_plain_condvar.specs.Holds.{IsOf}
-use Rattle.lfm_plain_condvar.specs.Keeping.{TakesFirst, WaitersFollow}
+use Rattle.lfm_plain_condvar.specs.Keeping.{TakesFirst}
 use Rattle.lfm_plain_condvar.proofs.hold.notify_all.notify_all.Given as goal
 
 -- those that were taken out so far were notified in order
@@ -12,7 +12,6 @@ invariant-taken l = record {
   gone : (gone : List Waiter) × TakesFirst gone l.fn.waiters l.waiters × (l.count ≡ length gone) × (l.log.seat.me.0.parkers ≡ l.fn.log.seat.me.0.parkers ++ numbers_of gone);
   of : IsOf l.parkers.table.shared.table_id l.parkers.seats l.waiters;
   log : l.log.seat.table_id ≡ l.parkers.table.shared.table_id;
-  follows : WaitersFollow 0 l.fn.waiters l.waiters;
 }
 
 abbrev pub decreases-taken : goal.decreases-taken

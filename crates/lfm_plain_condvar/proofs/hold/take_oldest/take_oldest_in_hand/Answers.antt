@@ -1,3 +1,5 @@
+use Rattle.lfm_mutex.specs.calls.Sight.{sight}
+use Rattle.lfm_plain_condvar.proofs.Followed.{follows_taken}
 use Rattle.lfm_plain_condvar.proofs.hold.take_oldest.take_oldest_in_hand.Goals as goal
 
 pub returns-clause-belongs : goal.returns-clause-belongs
@@ -7,4 +9,4 @@ pub returns-clause-woken : goal.returns-clause-woken
 returns-clause-woken c = let h = rw c.in-Some.is at (c.value_mut.follows.holds c.take_oldest.new.self) in h.5
 
 pub returns-clause-does : goal.returns-clause-does
-returns-clause-does c = let h = rw c.in-Some.is at (c.value_mut.follows.holds c.take_oldest.new.self) in (c.in-Some.waiters.now, c.take_oldest.new.self, (c.in-Some.ensures.value.1, h.0, c.take_oldest.ensures.follows), c.take_oldest.ensures.taken)
+returns-clause-does c = let h = rw c.in-Some.is at (c.value_mut.follows.holds c.take_oldest.new.self) in (c.in-Some.waiters.now, c.take_oldest.new.self, (c.in-Some.ensures.value.1, h.0, follows_taken (sight c.args.cond.now).number c.in-Some.waiters.now c.take_oldest.new.self c.take_oldest.result c.take_oldest.ensures), c.take_oldest.ensures)

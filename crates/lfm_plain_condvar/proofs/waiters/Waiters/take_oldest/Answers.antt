@@ -11,7 +11,7 @@ pub invariant_of-self-2-clause-known : goal.invariant_of-self-2-clause-known
 invariant_of-self-2-clause-known c = let s = c.args.self.now in
     all_rest (λ (w : Waiter). (w.waker.number ≤ s.seats) × (w.waker.seat.table_id ≡ s.name.root.table_id)) s.list.items c.pop_front.new.self.items c.in_ok-oldest.oldest c.in_ok-oldest.ensures.items s.known
 
-pub returns-clause-taken : goal.returns-clause-taken
-returns-clause-taken c = let s = c.args.self.now in
+pub returns : goal.returns
+returns c = let s = c.args.self.now in
     let k = first_of (λ (w : Waiter). (w.waker.number ≤ s.seats) × (w.waker.seat.table_id ≡ s.name.root.table_id)) s.list.items c.pop_front.new.self.items c.in_ok-oldest.oldest c.in_ok-oldest.ensures.items s.known in
     ((c.in_ok-oldest.ensures.items, refl, refl, refl, (refl, refl)), k.0, k.1)

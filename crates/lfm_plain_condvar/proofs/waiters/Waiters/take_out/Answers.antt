@@ -18,8 +18,8 @@ invariant_of-self-clause-known c = let s = c.args.self.now in
 pub unreachable-requires : goal.unreachable-requires
 unreachable-requires c = let s = c.args.self.now in let e = c.in_ok-place.ensures in let h = within s.list.items c.in_ok-place.place e.0 e.1 in let o = s.list.ok in let no = c.in-None.ensures.variant.1 (omega arith) in cc
 
-pub returns-clause-taken : goal.returns-clause-taken
-returns-clause-taken c = let s = c.args.self.now in let e = c.in_ok-place.ensures in let w = c.in-Some.waiter in let h = within s.list.items c.in_ok-place.place e.0 e.1 in
+pub returns : goal.returns
+returns c = let s = c.args.self.now in let e = c.in_ok-place.ensures in let w = c.in-Some.waiter in let h = within s.list.items c.in_ok-place.place e.0 e.1 in
     let at = found_at s.list.items c.in_ok-place.place w h c.in-Some.ensures.value in
     let same : e.0 ≡ w = some-injective e.0 w (sym e.1 ∙ at) in
     let is = subst (Is c.args.number c.args.ticket) same (e.2, e.3) in

@@ -142,7 +142,7 @@ module _ (number id m : ℕ) (l : Limits) (me me1 me2 : Me ℕ PoolView) (here :
         (
           record {
             trail = subst (λ (i : ℕ). second.0.trail ≡ (part me.0 m).trail ++ (seen TryCountExchange 0 ∷ seen (EnterOwnerStore Entrant.Trier How.Free) i ∷ [])) told (trail2 ∙ ap (λ ts. ts ++ seen (EnterOwnerStore Entrant.Trier How.Free) k ∷ []) trail1 ∙ append_assoc (part me.0 m).trail (seen TryCountExchange 0 ∷ []) (seen (EnterOwnerStore Entrant.Trier How.Free) k ∷ []));
-            takes = ap (λ (z : SeatState). z.takes) p2;
+            state = p2 ∙ (λ i. made_of 1 (x.takes + 1) x.posts (sym may.rests i));
             run = run_next (goes_on number id l (Begin.begin x l Call.TryLock).seat first.0.state (part me.0 m) first.0 n (sits_begun number id l (part me.0 m) may.sits Call.TryLock) first.2 first.3)
                 (subst (λ (y : View ⊤). RunGoesOn y second.0) now (goes_on number id l (part me1.0 m).state second.0.state (part me1.0 m) second.0 k (subst (λ (y : View ⊤). Sits number id l y.state y) (sym now) first.2) second.2 second.3));
           },

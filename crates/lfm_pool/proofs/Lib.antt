@@ -1,5 +1,6 @@
 -- That steps, the opening and the splitting off of a seat keep the rule of a pool, and what a seat knows after them.
 pub use Rattle.atomic_table.proofs.Lists
+pub mod Asking
 pub mod FastPaths
 pub mod Lifting
 pub mod Links
@@ -8,9 +9,12 @@ pub mod NewSeats
 pub mod Opening
 pub mod Parts
 pub mod Pushing
+pub mod Receiving
 pub mod Resting
 pub mod SeatWords
+pub mod SeveralSteps
 pub mod Splitting
 pub mod Steps
 pub mod Targets
+pub mod Trying
 pub mod WordIndexes

@@ -33,7 +33,7 @@ pub record HoldsOnce (number id : ℕ) (l : Limits) (v : View ⊤) : Type 0 wher
 pub record Enters (number : ℕ) (v w : View ⊤) : Type 0 where
   pub trail : w.trail
       ≡ v.trail ++ (seen TryCountExchange 0 ∷ seen (EnterOwnerStore Entrant.Trier How.Free) number ∷ [])
-  pub takes : w.state.takes ≡ v.state.takes + 1
+  pub state : w.state ≡ record v.state { depth = 1; takes = v.state.takes + 1 }
   pub run : RunGoesOn v w
 
 -- the seat has released the mutex, which was left free: it stored no owner, and then the subtraction found the count at 1

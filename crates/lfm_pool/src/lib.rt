@@ -3,17 +3,22 @@
 //! no value.
 //!
 //! The crate has the rule that the words of a pool keep, the opening of a pool with its seats, each step on the words of a
-//! mutex and on the link and wake words of seats, and two calls: one acquires a mutex that is free, the other gives up the
-//! only hold of a mutex that no other seat wants. No call uses the steps by which a seat queues, serves another and
-//! receives, so a seat can't queue or sleep yet.
+//! mutex and on the link and wake words of seats, and these calls: a `try_lock`, a `lock` up to the point at which its seat
+//! holds the mutex, sleeps or has taken a post over, the receive of a seat that sleeps, and an `unlock` of a mutex that no
+//! other seat wants. The calls need a seat that does not hold the mutex, or, to unlock, holds it once. No call serves another
+//! seat yet: it would collect the queued records and grant the oldest.
 #![tactic(auto)]
 
 mod accesses;
+pub mod ask;
 pub mod fast_paths;
 pub mod layout;
+mod moves;
 pub mod pool;
 mod push;
+pub mod receive;
 pub mod rule;
 mod seat_words;
 mod step;
+pub mod try_lock;
 pub mod view;

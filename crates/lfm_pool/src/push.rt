@@ -2,6 +2,8 @@
 //! to push its record, loads the handoff word once it has pushed, and takes a post over that it finds there. In each of
 //! these functions the seat has to rest in all other mutexes, and nothing changes in them, nor in what the seat knows of
 //! them. None allocates or waits.
+ghost use Rattle.lfm_words.specs.Words.{link_of};
+ghost use Rattle.lfm_laws.specs.steady.Steady.{IsSeen};
 ghost use Rattle.lfm_pool.specs.Belongs.{IsMutex, OfPool, SameSeat};
 ghost use Rattle.lfm_pool.specs.Push.{LoadsHandoff, LoadsHandoffIn, LoadsPush, LoadsPushIn, PushesIn, TakesOverIn, TakesPost};
 ghost use Rattle.lfm_pool.specs.SeatWords.{StoresLink};
@@ -46,7 +48,7 @@ pub fn load_handoff(pool: &Pool, seat: &mut PoolSeat, mutex: usize) -> u64
 /// Stores the seat's link after this push word, which it has loaded, and makes the exchange by which its record becomes the
 /// newest of the push list. Returns the push word that it found. If that is the word that was loaded, the record is in the
 /// queue, and the next step loads the handoff word. Else another seat was faster, and the next step stores the link again,
-/// after the word that was found.
+/// after the word that was found: it has a later stamp, or the push list was cleared.
 #[inline(always)]
 pub fn push(pool: &Pool, seat: &mut PoolSeat, mutex: usize, loaded: Link) -> u64
     requires belongs { OfPool seat.old pool.now }
@@ -56,6 +58,7 @@ pub fn push(pool: &Pool, seat: &mut PoolSeat, mutex: usize, loaded: Link) -> u64
     requires at { StoresLink loaded (state_of seat.old mutex) }
     ensures belongs { SameSeat seat.old seat.new }
     ensures pushes { PushesIn seat.old seat.new pool.now mutex loaded result }
+    ensures sees { IsSeen (link_of result) loaded }
 {
     link_store(pool, seat, mutex, loaded);
     let number = seat.number;

@@ -4,6 +4,7 @@ ghost use Rattle.lfm_protocol.specs.declared.seats.SeatState.{SeatState as State
 ghost use Rattle.lfm_protocol.specs.Seats.{absent};
 ghost use Rattle.lfm_table.specs.Rule.{Advanced};
 ghost use Rattle.lfm_table.specs.Steps.{CanMake};
+ghost use Rattle.lfm_pool.specs.Finds.{Finds};
 ghost use Rattle.lfm_pool.specs.Tables.{Slot, any_follows, any_fits, part};
 ghost use Rattle.lfm_pool.specs.Steps.{state_in, begun_in, call_of, IsOwnAccessOf, IsStepAt, IsTold, RestsElsewhere, Sits, StepsIn, TellsOf};
 
@@ -104,6 +105,7 @@ pub fn next_at(pool: &Pool, seat: &mut PoolSeat, mutex: usize, access: PoolAcces
     requires elsewhere { RestsElsewhere seat.old.place.me.0 mutex }
     ensures table { (seat.new.place.table_id ≡ seat.old.place.table_id) × (seat.new.place.id ≡ seat.old.place.id) × (seat.new.number ≡ seat.old.number) }
     ensures step { StepsIn seat.old.number seat.old.place.id mutex pool.now.limits (state_in seat.old.place.me.0 mutex) seat.old.place.me result seat.new.place.me }
+    ensures finds { Finds seat.old.number (state_in seat.old.place.me.0 mutex) result }
     ensures told { IsTold access.access result }
 {
     step_at::<Brand>(pool, seat, mutex, access)
@@ -135,6 +137,7 @@ pub fn next_step(pool: &Pool, seat: &mut PoolSeat, mutex: usize, access: Access)
     requires elsewhere { RestsElsewhere seat.old.place.me.0 mutex }
     ensures table { (seat.new.place.table_id ≡ seat.old.place.table_id) × (seat.new.place.id ≡ seat.old.place.id) × (seat.new.number ≡ seat.old.number) }
     ensures step { StepsIn seat.old.number seat.old.place.id mutex pool.now.limits (state_in seat.old.place.me.0 mutex) seat.old.place.me result seat.new.place.me }
+    ensures finds { Finds seat.old.number (state_in seat.old.place.me.0 mutex) result }
     ensures told { IsTold access result }
 {
     let index = own_at(mutex, word_of(access));

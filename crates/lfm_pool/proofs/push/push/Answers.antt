@@ -1,4 +1,4 @@
-use Rattle.std.proofs.Common.{ℕ, ◌<◌, refl, sym, ◌∙◌, subst, arith}
+use Rattle.std.proofs.Common.{ℕ, ◌<◌, refl, sym, ap, ◌∙◌, subst, arith}
 use Rattle.std.specs.Prelude.{length}
 use Rattle.lfm_pool.specs.Seats.{state_of}
 use Rattle.lfm_pool.specs.Steps.{Sits, StepsIn}
@@ -6,6 +6,12 @@ use Rattle.lfm_pool.specs.Tables.{part}
 use Rattle.lfm_pool.proofs.FastPaths.{elsewhere_now}
 use Rattle.lfm_pool.proofs.Pushing.{exchanges_push, pushed, sits_now}
 use Rattle.lfm_pool.proofs.SeatWords.{packs_link}
+use Rattle.lfm_protocol.specs.declared.points.Point.TheVariants.{LinkStore, PushExchange}
+use Rattle.lfm_protocol.specs.declared.points.Pusher.{Pusher}
+use Rattle.lfm_protocol.specs.declared.seats.SeatState.{SeatState}
+use Rattle.lfm_table.proofs.tables.StepFacts.{made_of}
+use Rattle.lfm_pool.specs.Moves.{MayStepIn}
+use Rattle.lfm_pool.proofs.SeveralSteps.{at_point, move_made, state_after}
 use Rattle.lfm_pool.proofs.push.push.Goals as goal
 
 pub next_step-requires-clause-table : goal.next_step-requires-clause-table
@@ -40,6 +46,13 @@ returns-clause-pushes c =
     let here : c.args.mutex < length s.place.me.0.parts = (let less = c.requires.mutex in let many = c.requires.belongs.parts in omega (arith, less, many)) in
     pushed s.number s.place.id c.args.mutex l s.place.me t.place.me h.new.seat.place.me here c.args.loaded _ h.result c.requires.at f.ensures.step refl c.requires.sits
     (subst (λ (z : ℕ × ℕ). StepsIn z.0 z.1 c.args.mutex l (state_of t c.args.mutex) t.place.me h.result h.new.seat.place.me) (λ i. (f.ensures.belongs.number i, f.ensures.belongs.id i)) h.ensures.step)
+
+pub returns-clause-sees : goal.returns-clause-sees
+returns-clause-sees c =
+    let s = c.args.seat.now in let p = c.args.pool.now in let m = c.args.mutex in let f = c.link_store in let t = f.new.seat in let x = state_of s m in let seen = c.args.loaded in
+    let may : MayStepIn s p m = record { belongs = c.requires.belongs; mutex = c.requires.mutex; sits = c.requires.sits; elsewhere = c.requires.elsewhere } in
+    let made = move_made s t p m _ (made_of x.depth x.takes x.posts (LinkStore Pusher.Locker seen)) (made_of x.depth x.takes x.posts (PushExchange Pusher.Locker seen)) (λ o. refl) may (at_point x (LinkStore Pusher.Locker seen) c.requires.at) f.ensures.step in
+    c.next_step.ensures.finds.sees Pusher.Locker seen (ap (λ (y : SeatState). y.point) (state_after s t p m _ _ may made))
 
 pub pack_link-expected-requires-clause-stamp : goal.pack_link-expected-requires-clause-stamp
 pack_link-expected-requires-clause-stamp c = let k = packs_link c.args.pool.now.mutexes c.args.pool.now.limits.seats c.args.mutex c.args.seat.now.number 0 0 (state_of c.args.seat.now c.args.mutex) c.requires.sits.ready c.args.loaded c.requires.at in let small = k.stamp in omega (arith, small)

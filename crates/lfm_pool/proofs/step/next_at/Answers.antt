@@ -1,3 +1,4 @@
+use Rattle.std.proofs.Common.{sym, ◌∙◌}
 use Rattle.lfm_pool.specs.Tables.{part}
 use Rattle.lfm_pool.specs.Steps.{state_in}
 use Rattle.lfm_pool.proofs.Parts.{can_step, sits_after, stepped}
@@ -15,3 +16,8 @@ returns-clause-step c =
       sits_after s.number s.place.id l (state_in c.args.seat.now.place.me.0 c.args.mutex) (part s.place.me.0 c.args.mutex) c.requires.sits c.step_at.result d.0 d.1 d.2,
       stepped s.number s.place.id l (state_in c.args.seat.now.place.me.0 c.args.mutex) (part s.place.me.0 c.args.mutex) c.requires.sits c.step_at.result d.0 d.1 d.2,
     )
+
+pub returns-clause-finds : goal.returns-clause-finds
+returns-clause-finds c =
+    let d = c.step_at.ensures.step in
+    record { owner = λ is same. (d.2.owner is).0 (same ∙ sym c.requires.sits.seated.named); sees = d.2.sees }

@@ -1,0 +1,43 @@
+use Rattle.std.proofs.Common.{◌∙◌}
+use Rattle.lfm_pool.proofs.Asking.{ask_bounded, asks, at_push, counts, enters, holds, loads_owner}
+use Rattle.lfm_pool.proofs.Trying.{may_try}
+use Rattle.lfm_pool.proofs.ask.begin_ask.Goals as goal
+
+pub start-count-requires-clause-is_next : goal.start-count-requires-clause-is_next
+start-count-requires-clause-is_next c =
+    let s = c.args.seat.now in let p = c.args.pool.now in let m = c.args.mutex in counts s p m (may_try s p m c.requires.belongs c.requires.mutex c.requires.may c.requires.elsewhere) c.requires.may
+
+pub go_on-requires-clause-is_next : goal.go_on-requires-clause-is_next
+go_on-requires-clause-is_next c =
+    let s = c.args.seat.now in let p = c.args.pool.now in let m = c.args.mutex in let f = c.start-count in
+    enters s p m (may_try s p m c.requires.belongs c.requires.mutex c.requires.may c.requires.elsewhere) c.requires.may f.new.seat f.result f.ensures.step f.ensures.may c.if-count-eq0.true
+
+pub returns-then-count-eq0-clause-asks : goal.returns-then-count-eq0-clause-asks
+returns-then-count-eq0-clause-asks c =
+    let s = c.args.seat.now in let p = c.args.pool.now in let m = c.args.mutex in let f = c.start-count in let h = c.go_on in
+    holds s p m (may_try s p m c.requires.belongs c.requires.mutex c.requires.may c.requires.elsewhere) c.requires.may f.new.seat f.result f.ensures.step f.ensures.may c.if-count-eq0.true h.new.seat h.result h.ensures.step
+    (h.ensures.told ∙ f.ensures.belongs.number)
+
+pub go_on-requires-2-clause-is_next : goal.go_on-requires-2-clause-is_next
+go_on-requires-2-clause-is_next c =
+    let s = c.args.seat.now in let p = c.args.pool.now in let m = c.args.mutex in let f = c.start-count in
+    loads_owner s p m (may_try s p m c.requires.belongs c.requires.mutex c.requires.may c.requires.elsewhere) c.requires.may f.new.seat f.result f.ensures.step f.ensures.may c.if-count-eq0.false
+
+pub wait-requires-clause-at : goal.wait-requires-clause-at
+wait-requires-clause-at c =
+    let s = c.args.seat.now in let p = c.args.pool.now in let m = c.args.mutex in let f = c.start-count in let h = c.go_on-2 in
+    at_push s p m (may_try s p m c.requires.belongs c.requires.mutex c.requires.may c.requires.elsewhere) c.requires.may f.new.seat f.result f.ensures.step f.ensures.may c.if-count-eq0.false h.new.seat h.result h.ensures.step h.ensures.finds h.ensures.may
+
+pub returns-clause-asks : goal.returns-clause-asks
+returns-clause-asks c =
+    let s = c.args.seat.now in let p = c.args.pool.now in let m = c.args.mutex in let f = c.start-count in let h = c.go_on-2 in let k = c.wait in
+    asks s p m (may_try s p m c.requires.belongs c.requires.mutex c.requires.may c.requires.elsewhere) c.requires.may f.new.seat f.result f.ensures.step f.ensures.may c.if-count-eq0.false h.new.seat h.result h.ensures.step h.ensures.finds h.ensures.may
+    k.new.seat k.result k.ensures.waits f.ensures.belongs.number (h.ensures.belongs.number ∙ f.ensures.belongs.number)
+
+pub returns-clause-bounded : goal.returns-clause-bounded
+returns-clause-bounded c =
+    let s = c.args.seat.now in let p = c.args.pool.now in let m = c.args.mutex in let f = c.start-count in let h = c.go_on-2 in let k = c.wait in
+    let may = may_try s p m c.requires.belongs c.requires.mutex c.requires.may c.requires.elsewhere in
+    ask_bounded s k.new.seat p m k.result may
+    (asks s p m may c.requires.may f.new.seat f.result f.ensures.step f.ensures.may c.if-count-eq0.false h.new.seat h.result h.ensures.step h.ensures.finds h.ensures.may
+    k.new.seat k.result k.ensures.waits f.ensures.belongs.number (h.ensures.belongs.number ∙ f.ensures.belongs.number))

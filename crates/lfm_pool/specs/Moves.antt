@@ -1,0 +1,39 @@
+-- Several steps of a seat in one mutex of its pool, one after another, and what the seat needs for each of them.
+use Rattle.std.specs.Prelude.{◌≡◌, ⊤, ℕ, ◌+◌, ◌≤◌, ◌++◌, List, length}
+use Rattle.lfm_protocol.specs.declared.answers.Call.{Call}
+use Rattle.lfm_protocol.specs.declared.seats.SeatState.{SeatState}
+use Rattle.lfm_table.specs.declared.seat_view.Seen.{Seen}
+use Rattle.lfm_table.specs.declared.seat_view.View.{View}
+use Rattle.lfm_table.specs.Actions.{RunGoesOn}
+use Rattle.lfm_pool.specs.declared.pool.Pool.{Pool}
+use Rattle.lfm_pool.specs.declared.pool.PoolSeat.{PoolSeat}
+use Rattle.lfm_pool.specs.Belongs.{IsMutex, OfPool}
+use Rattle.lfm_pool.specs.FastPaths.{KnowsMoreOf}
+use Rattle.lfm_pool.specs.Seats.{RestsInOthers, SitsIn}
+use Rattle.lfm_pool.specs.Steps.{StepsIn, begun_in}
+use Rattle.lfm_pool.specs.Tables.{part}
+
+-- The seat may make a step in mutex m: it is a seat of the pool and between two steps there, and it rests in all others.
+pub record MayStepIn (s : PoolSeat) (p : Pool) (m : ℕ) : Type 0 where
+  pub belongs : OfPool s p
+  pub mutex : IsMutex m p
+  pub sits : SitsIn s p m
+  pub elsewhere : RestsInOthers s m
+
+-- the seat has made exactly these steps, and its data in the mutex are x now
+pub record Made (new : List Seen) (x : SeatState) (v w : View ⊤) : Type 0 where
+  pub trail : w.trail ≡ v.trail ++ new
+  pub state : w.state ≡ x
+  pub run : RunGoesOn v w
+
+-- from s to t the seat has made exactly these steps in mutex m
+abbrev pub MakesIn : PoolSeat → PoolSeat → ℕ → List Seen → SeatState → Type 0
+MakesIn s t m new x = KnowsMoreOf m (Made new x (part s.place.me.0 m)) s.place.me t.place.me
+
+-- from s to t the seat has begun this call in mutex m and made its first step, which found or stored n
+abbrev pub StartsIn : PoolSeat → PoolSeat → Pool → ℕ → Call → ℕ → Type 0
+StartsIn s t p m call n = StepsIn s.number s.place.id m p.limits (begun_in s.place.me.0 m p.limits call) s.place.me n t.place.me
+
+-- from s to t the seat has made at most this number of steps in mutex m
+abbrev pub MakesAtMostIn : ℕ → PoolSeat → PoolSeat → ℕ → Type 0
+MakesAtMostIn k s t m = length (part t.place.me.0 m).trail ≤ length (part s.place.me.0 m).trail + k

@@ -17,7 +17,7 @@ mod words;
 use lfm_model::{NewFault, Place, SeatNo};
 use lfm_protocol::{Call, Limits, Machine, Turn};
 use lfm_words::{Handoff, Record};
-use std::alloc::Global;
+use std::alloc::{AllocError, Global};
 use std::marker::Model;
 
 /// The state of a mutex: its words and seats after the calls and steps made since its start.
@@ -57,6 +57,15 @@ impl State {
             Ok(machine) => Ok(State { machine }),
             Err(_) => Err(NewFault::Memory),
         }
+    }
+
+    /// A copy of this state. It allocates four times, and returns AllocError if an allocation failed.
+    pub fn copy(&self, alloc: Global) -> Result<State, AllocError>
+        ensures { IfOk result (λ m. m ≡ self.now) }
+    {
+        Ok(State {
+            machine: self.machine.copy(alloc)?,
+        })
     }
 
     /// Seat s begins a call: the checks in the order of the refusals, the charge of a take, and the first point. It is refused

@@ -422,6 +422,24 @@ impl Machine {
         })
     }
 
+    /// A machine with the same words, pop list and seats. It allocates as `new` does. It returns AllocError if one of these
+    /// allocations fails.
+    pub fn copy(&self, alloc: Global) -> Result<Machine, AllocError>
+        ensures { IfOk result (λ m. m ≡ self.now) }
+    {
+        Ok(Machine {
+            budget: self.budget,
+            count: self.count,
+            owner: self.owner,
+            handoff: self.handoff,
+            push: self.push,
+            popped: self.popped.copy(alloc)?,
+            links: Vec::from_slice(alloc, &self.links)?,
+            wakes: Vec::from_slice(alloc, &self.wakes)?,
+            seats: Vec::from_slice(alloc, &self.seats)?,
+        })
+    }
+
     /// Starts a call of seat s. Refused as NoSuchSeat if no seat has this number, and then for the causes of
     /// `SeatState::begin`. A refused call changes nothing.
     pub fn begin(&mut self, s: u64, call: Call) -> Turn

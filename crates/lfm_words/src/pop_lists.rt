@@ -49,6 +49,19 @@ impl PopList {
         })
     }
 
+    /// A list of the same records, with memory for as many. It allocates here and nowhere later. Returns AllocError if there is
+    /// no memory.
+    pub fn copy(&self, alloc: Global) -> Result<PopList, AllocError>
+        ensures { IfOk result (λ p. p ≡ self.now) }
+    {
+        let mut records = Vec::with_capacity(alloc, self.room)?;
+        records.extend_from_slice(&self.records)?;
+        Ok(PopList {
+            records,
+            room: self.room,
+        })
+    }
+
     /// How many records the list holds.
     pub fn len(&self) -> u64
         ensures { result ≡ length self.now.records }

@@ -154,8 +154,8 @@ fn write_refused<W: Write>(writer: &mut W, why: Why) -> Result<(), WriteFault>
     Ok(())
 }
 
-/// Writes the result of a turn.
-fn write_turn<W: Write>(writer: &mut W, act: Act, turn: Turn) -> Result<(), WriteFault>
+/// Writes the result of a turn, which this act made: `begins` or `goes on` if the call is open, the answer or the refusal.
+pub fn write_turn<W: Write>(writer: &mut W, act: Act, turn: Turn) -> Result<(), WriteFault>
     ensures { Writes (W.contents writer.old) (W.contents writer.new) (turn_text act turn) result }
 {
     match turn {
@@ -272,8 +272,8 @@ fn write_words<W: Write>(writer: &mut W, state: &State) -> Result<(), WriteFault
     Ok(())
 }
 
-/// Writes a state. Its queue is gathered in `records`, which has capacity for a record of each seat.
-fn write_state<W: Write>(
+/// Writes a state as a trace shows it. Its queue is gathered in `records`, which has capacity for a record of each seat.
+pub fn write_state<W: Write>(
     writer: &mut W,
     state: &State,
     records: &mut Vec<Record>,

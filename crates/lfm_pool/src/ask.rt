@@ -1,4 +1,4 @@
-//! The begin of `ask`, a `lock` that queues, of a seat that does not hold the mutex: up to the point at which the seat holds
+//! The start of `ask`, a `lock` that queues, of a seat that does not hold the mutex: up to the point at which the seat holds
 //! the mutex, sleeps, or has taken a post over and so has the responsibility. What a call with the responsibility does next,
 //! it collects the queued records and serves the oldest, is not in this crate yet.
 ghost use Rattle.std.specs.Prelude.{◌≡◌};

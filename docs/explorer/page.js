@@ -78,9 +78,17 @@ function taskTexts() {
   if (task === null) return [];
   const number = tasks.indexOf(task) + 1;
   const isDone = view.path.slice(view.given, view.at).some(event => isGoal(graph, task.goal, event));
-  const next = number < tasks.length ? ` <button data-task="${number}">next task<kbd>n</kbd></button>` : '';
-  const done = isDone ? [`<span class="done"><b>✓ Done.</b> ${escape(task.seen)}</span>${next}`] : [];
-  return [`<b>Task ${number}.</b> ${escape(task.text)}`, ...done];
+  const text = `<b>Task ${number}.</b> ${escape(task.text)}`;
+  if (!isDone) return [`${text} <button data-task="${number - 1}">again</button><button id="hint">show me</button>`];
+  const next = number < tasks.length ? ` <button id="following" data-task="${number}">next task<kbd>n</kbd></button>` : '';
+  return [text, `<span class="done"><b>✓ Done.</b> ${escape(task.seen)}</span>${next}`];
+}
+
+// a way to the end of the present task, to be walked
+function showTheTask() {
+  const { graph, task } = view;
+  showWay(event => isGoal(graph, task.goal, event));
+  $('story').focus();
 }
 
 // a wrong mutex says so, and names the fault if it has come to one
@@ -207,7 +215,7 @@ const KEYS = {
   Home: () => goTo(0),
   End: () => goTo(view.path.length),
   0: startAnew,
-  n: () => $('story').querySelector('[data-task]')?.click(),
+  n: () => $('following')?.click(),
 };
 
 function pressKey(event) {
@@ -225,6 +233,7 @@ function click(event) {
   if (button) choose(Number(button.seat), button.act);
   else if (task) startTask(Number(task.task));
   else if (row) goTo(Number(row.moment));
+  else if (event.target.closest('#hint')) showTheTask();
 }
 
 function copySchedule() {

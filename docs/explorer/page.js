@@ -258,9 +258,10 @@ function listen() {
   $('copy').onclick = copySchedule;
   $('examples').innerHTML = options('a free mutex', examples.map(({ title }, i) => `${i + 1}. ${title}`));
   $('examples').onchange = () => $('examples').value === '' ? startAnew() : startExample(Number($('examples').value));
-  $('ways').innerHTML = options('the shortest way to …', WAYS.map(([name]) => name));
+  const ways = WAYS.filter(([, isWanted]) => hasEvent(graphs.whole, isWanted));
+  $('ways').innerHTML = options('the shortest way to …', ways.map(([name]) => name));
   $('ways').onchange = () => {
-    if ($('ways').value !== '') showWay(WAYS[$('ways').value][1]);
+    if ($('ways').value !== '') showWay(ways[$('ways').value][1]);
     $('ways').value = '';
   };
 }

@@ -191,10 +191,19 @@ function showWay(isWanted) {
   goTo(view.at);
 }
 
+// the part of the address after #. A part that is not well encoded names nothing
+function addressPart() {
+  try {
+    return decodeURIComponent(location.hash.slice(1));
+  } catch {
+    return '';
+  }
+}
+
 // opens what the address names: a graph or a number of seats, and the lines of a schedule. Without that the page may have a
 // path of its own to begin with
 function openAddress() {
-  const [first, ...lines] = decodeURIComponent(location.hash.slice(1)).split(';');
+  const [first, ...lines] = addressPart().split(';');
   const graph = graphs[first] ?? graphs.whole, opened = examples.findIndex(({ graph }) => graph.name === 'opened');
   if (first === '' && opened >= 0) return startExample(opened);
   load(graph, [first.startsWith('seats') ? first : 'seats ' + graph.seats, ...lines].join('\n'));

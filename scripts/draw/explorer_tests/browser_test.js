@@ -275,6 +275,13 @@ test('a link opens the same moment, also of a wrong mutex', async () => {
   }
 });
 
+test('an address that names nothing opens the free mutex', async () => {
+  for (const hash of ['#%', '#seats 9', '#nothing;1 lock;1 lock']) {
+    await browser.open(address(pageFile) + hash);
+    assert.match(await text('trace'), /^1 seats 2 \| 0 0 0 free -/);
+  }
+});
+
 test('a recursive lock, and an unlock that still holds', async () => {
   await chooseTitle('Recursion');
   for (const act of ['lock', '*', 'lock', '*', 'unlock']) await browser.click(`button[data-seat="1"][data-act="${act}"]`);

@@ -18,8 +18,9 @@ const wordOf = step => (/: ([a-z]+(\.\d+)?) /.exec(step) || [])[1];
 
 const head = kind => `<marker id="${kind}head" viewBox="0 0 8 8" refX="7" refY="4" markerWidth="9" markerHeight="9"
  markerUnits="userSpaceOnUse" orient="auto"><path d="M0 0L8 4L0 8z" class="${kind}head"/></marker>`;
-const SVG_HEAD = `<defs><pattern id="stripes" width="8" height="8" patternUnits="userSpaceOnUse"
- patternTransform="rotate(45)"><path d="M0 0V8" class="stripe"/></pattern>${head('post')}${head('grant')}${head('plain')}</defs>`;
+const SVG_HEAD = `<defs>
+<pattern id="stripes" width="8" height="8" patternUnits="userSpaceOnUse" patternTransform="rotate(45)">
+<path d="M0 0V8" class="stripe"/></pattern>${['post', 'grant', 'plain'].map(head).join('')}</defs>`;
 
 // ---- the lanes: one for each seat, and one row for each start of a call, each step and each answer
 

@@ -218,6 +218,14 @@ const WAYS = [
   ['a wait that is sent', event => event.turn === 'ends Sent'],
 ];
 
+// whether a graph has such an event
+function hasEvent(graph, isWanted) {
+  return graph.texts.some(text => {
+    const [act, step, turn] = text.split('|');
+    return turn !== undefined && isWanted({ act, step, turn });
+  });
+}
+
 // the fewest events from a state to one that is wanted. Empty if there are none
 function wayTo(graph, from, isWanted) {
   const came = new Map([[from, null]]);
@@ -289,6 +297,6 @@ function listsOf(state) {
 
 if (typeof module !== 'undefined') {
   Object.assign(module.exports, { readGraph, stateAt, readSentences, sentenceName, sentence, readTasks, isGoal, makeEvent,
-    endOf, follow, lineOfNext, extend, linesOf, lineText, LARGEST_BUDGET, scheduleOf, traceOf, explanationOf, WAYS, wayTo,
-    eventsFrom, sleepsForEver, faultOf, listsOf });
+    endOf, follow, lineOfNext, extend, linesOf, lineText, LARGEST_BUDGET, scheduleOf, traceOf, explanationOf, WAYS, hasEvent,
+    wayTo, eventsFrom, sleepsForEver, faultOf, listsOf });
 }

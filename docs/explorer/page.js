@@ -78,9 +78,17 @@ function taskTexts() {
   if (task === null) return [];
   const number = tasks.indexOf(task) + 1;
   const isDone = view.path.slice(view.given, view.at).some(event => isGoal(graph, task.goal, event));
-  const next = number < tasks.length ? ` <button data-task="${number}">next task<kbd>n</kbd></button>` : '';
-  const done = isDone ? [`<span class="done"><b>✓ Done.</b> ${escape(task.seen)}</span>${next}`] : [];
-  return [`<b>Task ${number}.</b> ${escape(task.text)}`, ...done];
+  const text = `<b>Task ${number}.</b> ${escape(task.text)}`;
+  if (!isDone) return [`${text} <button data-task="${number - 1}">again</button><button id="hint">show me</button>`];
+  const next = number < tasks.length ? ` <button id="following" data-task="${number}">next task<kbd>n</kbd></button>` : '';
+  return [text, `<span class="done"><b>✓ Done.</b> ${escape(task.seen)}</span>${next}`];
+}
+
+// a way to the end of the present task, to be walked
+function showTheTask() {
+  const { graph, task } = view;
+  showWay(event => isGoal(graph, task.goal, event));
+  $('story').focus();
 }
 
 // a wrong mutex says so, and names the fault if it has come to one
@@ -183,10 +191,19 @@ function showWay(isWanted) {
   goTo(view.at);
 }
 
+// the part of the address after #. A part that is not well encoded names nothing
+function addressPart() {
+  try {
+    return decodeURIComponent(location.hash.slice(1));
+  } catch {
+    return '';
+  }
+}
+
 // opens what the address names: a graph or a number of seats, and the lines of a schedule. Without that the page may have a
 // path of its own to begin with
 function openAddress() {
-  const [first, ...lines] = decodeURIComponent(location.hash.slice(1)).split(';');
+  const [first, ...lines] = addressPart().split(';');
   const graph = graphs[first] ?? graphs.whole, opened = examples.findIndex(({ graph }) => graph.name === 'opened');
   if (first === '' && opened >= 0) return startExample(opened);
   load(graph, [first.startsWith('seats') ? first : 'seats ' + graph.seats, ...lines].join('\n'));
@@ -207,7 +224,7 @@ const KEYS = {
   Home: () => goTo(0),
   End: () => goTo(view.path.length),
   0: startAnew,
-  n: () => $('story').querySelector('[data-task]')?.click(),
+  n: () => $('following')?.click(),
 };
 
 function pressKey(event) {
@@ -225,6 +242,7 @@ function click(event) {
   if (button) choose(Number(button.seat), button.act);
   else if (task) startTask(Number(task.task));
   else if (row) goTo(Number(row.moment));
+  else if (event.target.closest('#hint')) showTheTask();
 }
 
 function copySchedule() {
@@ -249,9 +267,10 @@ function listen() {
   $('copy').onclick = copySchedule;
   $('examples').innerHTML = options('a free mutex', examples.map(({ title }, i) => `${i + 1}. ${title}`));
   $('examples').onchange = () => $('examples').value === '' ? startAnew() : startExample(Number($('examples').value));
-  $('ways').innerHTML = options('the shortest way to …', WAYS.map(([name]) => name));
+  const ways = WAYS.filter(([, isWanted]) => hasEvent(graphs.whole, isWanted));
+  $('ways').innerHTML = options('the shortest way to …', ways.map(([name]) => name));
   $('ways').onchange = () => {
-    if ($('ways').value !== '') showWay(WAYS[$('ways').value][1]);
+    if ($('ways').value !== '') showWay(ways[$('ways').value][1]);
     $('ways').value = '';
   };
 }

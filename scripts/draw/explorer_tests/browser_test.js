@@ -172,6 +172,17 @@ test('by Tab and Enter alone: a task from its start to its end, and the next one
   assert.match(await text('story'), /Task 2/);
 });
 
+test('a task shows a way to its end, and can be begun again', async () => {
+  await browser.run('startTask(5)');
+  await browser.click('#hint');
+  assert.strictEqual(await text('moment'), '11 of 20');
+  for (let i = 0; i < 9; i++) await browser.key('ArrowRight', 'ArrowRight');
+  assert.match(await text('story'), /Done\./);
+  await browser.run('goTo(12)');
+  await browser.click('#story [data-task="5"]');
+  assert.strictEqual(await text('moment'), '11 of 11');
+});
+
 test('the key n begins the next task', async () => {
   await browser.run(`startTask(0); ${WALK_THE_WAY}; document.activeElement.blur()`);
   await browser.key('n', 'KeyN');
@@ -261,6 +272,13 @@ test('a link opens the same moment, also of a wrong mutex', async () => {
     await browser.open(address(pageFile) + hash);
     assert.strictEqual(await text('trace'), trace);
     assert.strictEqual(await browser.run('view.graph.name'), name);
+  }
+});
+
+test('an address that names nothing opens the free mutex', async () => {
+  for (const hash of ['#%', '#seats 9', '#nothing;1 lock;1 lock']) {
+    await browser.open(address(pageFile) + hash);
+    assert.match(await text('trace'), /^1 seats 2 \| 0 0 0 free -/);
   }
 });
 

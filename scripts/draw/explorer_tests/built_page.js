@@ -63,7 +63,7 @@ function randomNumbers() {
   };
 }
 
-// runs tests one after the other, each with a name, and prints the counts
+// runs tests one after the other, each with a name, and prints the counts. If STOP_AT_FAULT is set, it ends at the first fault
 async function runTests(tests) {
   let passed = 0, failed = 0;
   for (const [name, test] of tests) {
@@ -74,6 +74,7 @@ async function runTests(tests) {
     } catch (error) {
       failed++;
       console.log(`FAILED ${name}: ${String(error.stack).slice(0, 1500)}`);
+      if (process.env.STOP_AT_FAULT) break;
     }
   }
   console.log(`${passed} passed, ${failed} failed`);

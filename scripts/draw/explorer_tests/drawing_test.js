@@ -147,8 +147,8 @@ function atMoments(check, momentsOf) {
 const each = check => atMoments(check, last => Array.from({ length: last + 1 }, (none, at) => at));
 const two = check => atMoments(check, last => [last, Math.floor(last / 2)]);
 runTests([
-  ['the disc of the responsibility is at the place of the trace', each(checkDisc)],
-  ['each box has its word, and the thick one is that of the last step', each(checkBoxes)],
   ['bars and lines of the lanes, row by row', two(checkLanes)],
   ['arrows of posts and grants', two(checkArrows)],
+  ['the disc of the responsibility is at the place of the trace', each(checkDisc)],
+  ['each box has its word, and the thick one is that of the last step', each(checkBoxes)],
 ]);

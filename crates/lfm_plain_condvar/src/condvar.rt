@@ -20,7 +20,7 @@ use lfm_mutex::{Mutex, Pace};
 /// what they wait for.
 ///
 /// ```
-/// // the seat holds the mutex: it gives the mutex up, sleeps until a wake takes it out of the list, and holds the mutex again
+/// // the seat holds the mutex: it gives the mutex up, sleeps until a wake takes it out, and holds the mutex again
 /// condvar.wait(rt, cond, mutex, seat)
 /// // another seat wakes the one that has waited longest
 /// condvar.wake_one(rt, cond)

@@ -22,6 +22,7 @@ pub kept_new : (z : TableId) (n : ℕ) (s : Sight Waiters) (v : Waiters) (k j : 
 kept_new z n s v k j e of h = let last : s.last ≡ Some v = ap (λ (y : Sight Waiters). y.last) e in let named : s.number ≡ j + 1 = ap (λ (y : Sight Waiters). y.number) e in record {
   out = ap (λ (y : Sight Waiters). y.depth) e;
   awake = ap (λ (y : Sight Waiters). y.asleep) e;
+  low = omega arith;
   high = omega arith;
   there = ap is_some last;
   made = λ l is. subst (IsOf z n) (one_some s.last v l last is) of;

@@ -21,11 +21,11 @@ for_ends follows fits user own tries user_tries ticket c e d s t (Woken k) l h g
 for_ends follows fits user own tries user_tries ticket c e d s t (TimedOut k) l h g = (e, subst (λ (i : ℕ). Listed own tries c e i) (sym h.0) l, subst (λ (i : ℕ). LeftList own tries e d i) (sym h.0) h.1, g)
 
 -- the oldest was taken out of the list, and then notified
-pub one_ends : (own : Limits) (tries : ℕ) (c m d : PlainSeat) (q : Result (Option OwedWakeUp) Refusal) (r : OwedWakeUp) → q ≡ Ok (Some r) → WakeLaterEnds own tries c m q → d.seat ≡ m.seat → notified_by d ≡ notified_by m ++ r.waiter.waker.number ∷ []
-    → WakeOneEnds own tries c d (Ok (Some r.waiter.ticket))
-one_ends own tries c m d q r is h same told = let e : WakeLaterEnds own tries c m (Ok (Some r)) = subst (WakeLaterEnds own tries c m) is h in (
+pub one_ends : (own : Limits) (tries : ℕ) (c m d : PlainSeat) (q : Result (Option OwedWakeUp) Refusal) (r : OwedWakeUp) (ticket : ℕ) → q ≡ Ok (Some r) → WakeLaterEnds own tries c m q → d.seat ≡ m.seat → notified_by d ≡ notified_by m ++ r.waiter.waker.number ∷ [] → ticket ≡ r.waiter.ticket
+    → WakeOneEnds own tries c d (Ok (Some ticket))
+one_ends own tries c m d q r ticket is h same told named = let e : WakeLaterEnds own tries c m (Ok (Some r)) = subst (WakeLaterEnds own tries c m) is h in (
   r.waiter,
-  refl,
+  sym named,
   subst (λ (z : Seat Waiters). (v : Waiters) × (w : Waiters) × TakesFirst (r.waiter ∷ []) v w × OneHold own tries (sight c.seat) (sight z) v w) (sym same) e.0,
   told ∙ ap (λ (l : List ℕ). l ++ r.waiter.waker.number ∷ []) e.1,
 )

@@ -1,4 +1,5 @@
 pub mod Begins
+pub mod Closing
 pub mod Ends
 pub mod Followed
 pub mod ListFacts

@@ -34,6 +34,7 @@ got z n budget how s t kept g = let f = g.8 in let l = some_of s.last kept.there
     found = f.5;
     finds = λ x is. since_reached t.seats s.number x f.0 (f.3 x is);
     is_of = (o.same.0 ∙ m.0, ap (λ y. y.root.table_id) o.same.1 ∙ m.1);
+    low = kept.low;
     high = kept.high;
     number = g.3;
     depth = g.4;
@@ -85,6 +86,7 @@ one_hold z n budget s t u y x v w h r l tk aw =
       kept = record {
         out = l.3;
         awake = aw ∙ ap (λ q. q.asleep) r.1 ∙ h.awake;
+        low = (let a = h.low in omega arith);
         high = (let a = h.high in omega arith);
         there = ap is_some last;
         made = λ q is. subst (IsOf z n) (one_some y.last w q last is) (r.2.same.0 ∙ of.0, ap (λ k. k.root.table_id) r.2.same.1 ∙ of.1);

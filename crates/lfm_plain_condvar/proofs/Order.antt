@@ -1,5 +1,5 @@
--- What becomes of tickets. The tickets of a list and of those added since rise. So one waiter has a ticket, and of a list that
--- divides into those that stay and those that leave, no two have the same.
+-- What becomes of tickets. The tickets of a list and of those added since rise. So one waiter has a ticket, and of a list
+-- that divides into those that stay and those that leave, no two have the same.
 use Rattle.std.proofs.Common.{◌≡◌, ◌≢◌, ℕ, zero, suc, ◌+◌, ◌<◌, ◌≤◌, List, [], ◌∷◌, ◌++◌, Some, refl, sym, ◌∙◌, ap, subst, arith, ◌⊎◌, ⊎_elim, inl, inr, length}
 use mathlib.Core.Option.{some, some-injective, some-ne-none}
 use lib.ListN.{get_elem?}

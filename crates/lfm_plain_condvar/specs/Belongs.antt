@@ -59,6 +59,10 @@ OwedBy (Err e) v = ⊤
 abbrev pub IsNewSeat : PlainSeat → Seat Waiters → Parkers → Type 0
 IsNewSeat c s p = (c.seat ≡ s) × HasWaker c p × (c.log.seat.table_id ≡ p.table.shared.table_id) × (notified_by c ≡ [])
 
+-- the seats of the inner mutex, of these plain seats
+abbrev pub inner_seats : List PlainSeat → List (Seat Waiters)
+inner_seats = map (λ (c : PlainSeat). c.seat)
+
 -- both are the same condvar
 abbrev pub SamePlain : PlainCondvar → PlainCondvar → Type 0
 SamePlain u v = (v.inner ≡ u.inner) × (v.parkers ≡ u.parkers)

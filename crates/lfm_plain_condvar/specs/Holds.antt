@@ -22,6 +22,7 @@ IsOf z n l = (l.seats ≡ n) × (l.name.root.table_id ≡ z)
 pub record SeatKept (z : TableId) (n : ℕ) (s : Sight Waiters) : Type 0 where
   pub out : s.depth ≡ 0
   pub awake : s.asleep ≡ false
+  pub low : 0 < s.number
   pub high : s.number ≤ n
   pub there : is_some s.last ≡ true
   pub made : (l : Waiters) → s.last ≡ Some l → IsOf z n l
@@ -44,8 +45,8 @@ LocksList own tries s t = (how : How) × BargesBy own tries s t (Ok (Locked.Held
 abbrev pub Unlocks : {T : Type 0} → Limits → Sight T → Sight T → Type 0
 Unlocks own s t = (u : Unlocked) × Makes own Call.Unlock s t (Ended (Answer.Unlocked u)) × MakesAtMost (own.seats + 7) s t
 
--- The steps of the seat in one hold: it locks the inner mutex once, and unlocks it once. In between it changes the list that it
--- holds, and nothing else in its sight
+-- The steps of the seat in one hold: it locks the inner mutex once, and unlocks it once. In between it changes the list that
+-- it holds, and nothing else in its sight
 pub record StepsOfOneHold (own : Limits) (tries : ℕ) (s t : Sight Waiters) : Type 0 where
   pub locked : Sight Waiters
   pub changed : Sight Waiters
@@ -60,6 +61,7 @@ pub record InHand (z : TableId) (n budget : ℕ) (s t : Sight Waiters) (v w : Wa
   pub found : t.found ≡ Some v
   pub finds : (l : Waiters) → s.last ≡ Some l → Since s.number l v
   pub is_of : IsOf z n v
+  pub low : 0 < s.number
   pub high : s.number ≤ n
   pub number : t.number ≡ s.number
   pub depth : t.depth ≡ 1

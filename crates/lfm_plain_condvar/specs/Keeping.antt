@@ -1,5 +1,5 @@
 -- How the list is changed, by a call and by other seats.
-use Rattle.std.specs.Prelude.{◌≡◌, ◌≢◌, ℕ, ◌+◌, ◌≤◌, List, [], ◌∷◌, ◌++◌, Option, Some, None, Result, Ok, Err, length, remove}
+use Rattle.std.specs.Prelude.{◌≡◌, ◌≢◌, ℕ, ◌+◌, ◌<◌, ◌≤◌, List, [], ◌∷◌, ◌++◌, Option, Some, None, Result, Ok, Err, length, remove}
 use mathlib.Core.Option.{some}
 use lib.ListN.{get_elem?}
 use Rattle.lfm_plain_condvar.specs.declared.parkers.Waker.{Waker}
@@ -49,8 +49,8 @@ pub record GoesOn (by : ℕ → Type 0) (v w : Waiters) : Type 0 where
   pub woken : List Waiter
   pub left : List Waiter
   pub tickets : GoOnFrom v.added new
-  -- each waiter of v and each new one either left, was woken, or still waits, and those that were woken are the oldest of those
-  -- that did not leave
+  -- each waiter of v and each new one either left, was woken, or still waits, and those that were woken are the oldest of
+  -- those that did not leave
   pub places : Divides (v.list.items ++ new) (woken ++ w.list.items) left
   pub counts : (w.added ≡ v.added + length new) × (w.woken ≡ v.woken + length woken) × (w.timed_out ≡ v.timed_out + length left)
   pub adds_by : AllBy by new
@@ -77,4 +77,4 @@ Leaves number ticket v w (Some x) = (x.waker.number ≡ number) × (x.ticket ≡
 -- how the oldest is taken out for a wake, if there is one
 abbrev pub TakesMaybe : Waiters → Waiters → Option Waiter → Type 0
 TakesMaybe v w None = (v.list.items ≡ []) × (w ≡ v)
-TakesMaybe v w (Some x) = TakesFirst (x ∷ []) v w × (x.waker.number ≤ v.seats) × (x.waker.seat.table_id ≡ v.name.root.table_id)
+TakesMaybe v w (Some x) = TakesFirst (x ∷ []) v w × (x.waker.number ≤ v.seats) × (x.waker.seat.table_id ≡ v.name.root.table_id) × (0 < x.waker.number)

@@ -1,7 +1,7 @@
--- How `wait_while` ends. The user seat has the sight s before and t after, and its mutex has the limits `user`. The plain seat
--- has the sight c before and d after; its list has the limits `own`. A seat tries at most `tries` times before it queues for
--- the list, and at most `user_tries` times before it queues for the user mutex. `says v b`: the condition may return b for the
--- value v.
+-- How `wait_while` ends. The user seat has the sight s before and t after, and its mutex has the limits `user`. The plain
+-- seat has the sight c before and d after; its list has the limits `own`. A seat tries at most `tries` times before it
+-- queues for the list, and at most `user_tries` times before it queues for the user mutex. `says v b`: the condition may
+-- return b for the value v.
 use Rattle.std.specs.Prelude.{◌≡◌, ℕ, zero, suc, ⊤, Bool, Result, Ok, Err}
 use Rattle.lfm_model.specs.declared.answers.How.{How}
 use Rattle.lfm_model.specs.declared.refusals.Refusal.{Refusal}

@@ -1,6 +1,6 @@
--- How waits end. The user seat has the sight s before and t after, and its mutex has the limits `user`. The plain seat has the
--- sight c before and d after; its list has the limits `own`. A seat tries at most `tries` times before it queues for the list,
--- and at most `user_tries` times before it queues for the user mutex.
+-- How waits end. The user seat has the sight s before and t after, and its mutex has the limits `user`. The plain seat has
+-- the sight c before and d after; its list has the limits `own`. A seat tries at most `tries` times before it queues for the
+-- list, and at most `user_tries` times before it queues for the user mutex.
 use Rattle.std.specs.Prelude.{◌≡◌, ◌⊎◌, ℕ, ◌+◌, ◌<◌, ◌≤◌, false, Result, Ok, Err}
 use Rattle.lfm_model.specs.declared.answers.How.{How}
 use Rattle.lfm_model.specs.declared.answers.Locked.{Locked}
@@ -72,8 +72,8 @@ module _ {T : Type 0} (follows : ℕ → T → T → Type 0) (fits : T → ℕ �
   WaitEnds user own tries user_tries c d s t (Ok ticket) = Listed own tries c d ticket × GivesUpAndComesBack user user_tries s t
   WaitEnds user own tries user_tries c d s t (Err r) = Refuses user own 1 tries c d s t r
 
-  -- How wait_for ends. Woken: as wait, and maybe a second hold found that a wake had taken the seat out of the list. TimedOut: a
-  -- second hold took it out of the list
+  -- How wait_for ends. Woken: as wait, and maybe a second hold found that a wake had taken the seat out of the list.
+  -- TimedOut: a second hold took it out of the list
   abbrev pub WaitForEnds : Limits → Limits → ℕ → ℕ → Sight Waiters → Sight Waiters → Sight T → Sight T → Result Waited Refusal → Type 0
   WaitForEnds user own tries user_tries c d s t (Ok (Waited.Woken ticket)) =
       (e : Sight Waiters) × Listed own tries c e ticket × (d ≡ e ⊎ NoLonger own tries e d ticket) × GivesUpAndComesBack user user_tries s t

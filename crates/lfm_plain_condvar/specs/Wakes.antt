@@ -1,5 +1,5 @@
--- How the wakes end. The plain seat is c before and d after; its list has the limits `own`, and it tries at most `tries` times
--- before it queues for the list.
+-- How the wakes end. The plain seat is c before and d after; its list has the limits `own`, and it tries at most `tries`
+-- times before it queues for the list.
 use Rattle.std.specs.Prelude.{◌≡◌, ℕ, ◌≤◌, List, [], ◌∷◌, ◌++◌, Option, Some, None, Result, Ok, Err, length}
 use Rattle.lfm_model.specs.declared.refusals.Refusal.{Refusal}
 use Rattle.lfm_protocol.specs.declared.limits.Limits.{Limits}

@@ -1,5 +1,5 @@
-//! One hold of the inner mutex: a seat locks it, changes the list, and unlocks it. The lock and the unlock are private to this
-//! module and its children, and these offer only whole holds.
+//! One hold of the inner mutex: a seat locks it, changes the list, and unlocks it. The lock and the unlock are private to
+//! this module and its children, and these offer only whole holds.
 ghost use Rattle.std.specs.Prelude.{◌≡◌, ◌<◌, false};
 ghost use Rattle.lfm_mutex.specs.Belongs.{Beside, OfMutex, limits_of, tries_of};
 ghost use Rattle.lfm_mutex.specs.calls.Sight.{sight, LeavesOff, MayLeave};

@@ -1,6 +1,6 @@
 //! The plain condition variable: a list of those that wait, guarded by a mutex of its own, and a word for each seat on which
-//! its thread sleeps. A wake takes the oldest waiter, or all, out of the list and notifies them. A woken thread locks the user
-//! mutex again by itself. A wait may have a time limit. `PlainCondvar` says when to choose it, and when `Condvar` of
+//! its thread sleeps. A wake takes the oldest waiter, or all, out of the list and notifies them. A woken thread locks the
+//! user mutex again by itself. A wait may have a time limit. `PlainCondvar` says when to choose it, and when `Condvar` of
 //! `lfm_condvar`.
 #![tactic(auto)]
 

@@ -1,5 +1,5 @@
-//! How a plain condvar is made: its parkers, an inner mutex around an empty list, and a plain seat with its waker for each seat
-//! of that mutex.
+//! How a plain condvar is made: its parkers, an inner mutex around an empty list, and a plain seat with its waker for each
+//! seat of that mutex.
 ghost use Rattle.std.specs.Prelude.{◌≡◌, ◌+◌, ◌≤◌, ℕ, [], IfErr, IfOk, IfSome, true, false, vec_capacity, vec_len};
 ghost use mathlib.Core.Option.{some};
 ghost use lib.ListN.{get_elem?};
@@ -59,12 +59,12 @@ fn with_wakers(
 }
 
 impl PlainCondvar {
-    /// Makes a condvar on which no seat waits, and returns it with its plain seats in order, numbered from 1. `seats` is 1 to
-    /// 4,095. `budget`, how many waits and wakes each plain seat may make, is 1 to 2^36; a wait with a time limit may cost two.
-    /// Any seat of any mutex may wait on it.
+    /// Makes a condvar on which no seat waits, and returns it with its plain seats in order, numbered from 1. `seats` is 1
+    /// to 4,095. `budget`, how many waits and wakes each plain seat may make, is 1 to 2^36; a wait with a time limit may
+    /// cost two. Any seat of any mutex may wait on it.
     ///
-    /// Outside these limits it returns Limit, and allocates nothing. It returns Memory if an allocation failed. No other call
-    /// of a plain condvar allocates memory.
+    /// Outside these limits it returns Limit, and allocates nothing. It returns Memory if an allocation failed. No other
+    /// call of a plain condvar allocates memory.
     pub fn new(
         alloc: Global,
         seats: u64,

@@ -1,12 +1,12 @@
 //! The parkers: one word for each seat, on which the thread of that seat parks until it is notified. Only the owner of a
-//! parker's *waker* can notify it. A waker is a slot of the table beside the words. It is in one place at a time: with the seat
-//! between its calls, in the list while the seat waits, with the wake that took the seat out of the list, or in the table after
-//! the wake has notified the parker.
+//! parker's *waker* can notify it. A waker is a slot of the table beside the words. It is in one place at a time: with the
+//! seat between its calls, in the list while the seat waits, with the wake that took the seat out of the list, or in the
+//! table after the wake has notified the parker.
 //!
 //! It is not proved that a wake-up reaches the thread: `wake_one` of the table makes a system call, and the system wakes the
 //! thread that parks on the low 32 bits of the word.
-ghost use Rattle.std.specs.Prelude.{◌≡◌, ◌+◌, ◌<◌, ◌≤◌, [], ◌∷◌, ◌++◌, IfOk, IfSome};
-ghost use Rattle.lfm_plain_condvar.specs.Parkers.{AtHomeIfNotified, IsWakerOf, Notifies, StartsWithNone, TakesIfNotified, with_those, no_notices};
+ghost use Rattle.std.specs.Prelude.{◌≡◌, ◌+◌, ◌<◌, ◌≤◌, ℕ, [], ◌∷◌, ◌++◌, IfOk, IfSome};
+ghost use Rattle.lfm_plain_condvar.specs.Parkers.{HasEachOnce, IsWakerOf, Notifies, ParkersHold, Retires, StartsWithNone, TakesIfNotified, no_notices, times, with_those};
 
 use lfm_mutex::deadlines::{Deadline, time_left};
 use atomic_table::{Join, Play, Seat, Table, TableRule};
@@ -28,17 +28,19 @@ const NOTIFIED: u64 = 2;
 /// How many pauses a thread makes between two polls of its parker.
 const PAUSES: u32 = 4;
 
-/// What a seat of the table knows: the parkers that it has notified, in order. No value of this type is ever made: it is for
-/// proofs alone.
+/// What a seat of the table knows: the parkers that it has notified, in order, and those whose wakers it has. No value of
+/// this type is ever made: it is for proofs alone.
 pub struct Notices {
     pub parkers: LinkedList<u64>,
+    pub wakers: LinkedList<u64>,
 }
 
-/// The rule of the table: the waker of a parker that was notified is in the table.
+/// The rule of the table: the waker of a parker that was notified is in the table, and at most one seat has the waker of a
+/// parker.
 pub struct ParkerRule;
 
 impl TableRule<(), Notices, ()> for ParkerRule {
-    ghost holds = { λ _. AtHomeIfNotified };
+    ghost holds = { λ _. ParkersHold };
 
     ghost first = { λ _. no_notices };
 }
@@ -55,6 +57,20 @@ pub struct ParkerNotified;
 
 impl Play<(), Notices> for ParkerNotified {
     ghost then = { Notifies };
+}
+
+/// A swap by a seat that has a waker for the last time: the waker's slot goes back to the table, and nobody takes it again.
+pub struct WakerRetired;
+
+impl Play<(), Notices> for WakerRetired {
+    ghost then = { Retires };
+}
+
+/// A load that shows that a seat has the waker of each parker at most once.
+pub struct EachWakerOnce;
+
+impl Play<(), Notices> for EachWakerOnce {
+    ghost then = { HasEachOnce };
 }
 
 /// A load by a seat that has notified no parker yet.
@@ -89,6 +105,12 @@ pub struct NoticeLog {
     pub ghost free: { seat.me.1 ≡ [] },
 }
 
+/// The wakers of a condvar that is being closed. It takes no bytes.
+#[derive(Drop)]
+pub(crate) struct GatheredWakers {
+    pub(crate) seat: Seat<(), Notices>,
+}
+
 /// Names the parkers in contracts. It takes no bytes.
 #[derive(Drop)]
 pub struct ParkersName {
@@ -105,8 +127,8 @@ pub struct Parkers {
 }
 
 impl Parkers {
-    /// Parkers for this number of seats. Each starts as notified, so its waker is in the table. The second value names them in
-    /// contracts. It allocates three times.
+    /// Parkers for this number of seats. Each starts as notified, so its waker is in the table. The second value names them
+    /// in contracts. It allocates three times.
     pub(crate) fn new(alloc: Global, seats: u64) -> Result<(Parkers, ParkersName), AllocError>
         requires { seats ≤ 4095 }
         ensures { IfOk result (λ p. (p.0.seats ≡ seats) × (p.1.root.table_id ≡ p.0.table.shared.table_id)) }
@@ -154,8 +176,8 @@ impl Parkers {
         self.take(number, EMPTY)
     }
 
-    /// Notifies the parker of this waker, and wakes its thread if that is parked. It makes one swap, one load, and a system call
-    /// if the thread is parked.
+    /// Notifies the parker of this waker, and wakes its thread if that is parked. It makes one swap, one load, and a system
+    /// call if the thread is parked.
     pub(crate) fn notify(&self, waker: Waker, log: &mut NoticeLog)
         requires waker { (waker.number ≤ self.now.seats) × (waker.seat.table_id ≡ self.now.table.shared.table_id) }
         requires log { log.old.seat.table_id ≡ self.now.table.shared.table_id }
@@ -246,6 +268,39 @@ impl Parkers {
             }
         }
         unreachable!()
+    }
+
+    /// No wakers yet.
+    pub(crate) fn no_wakers(&self) -> GatheredWakers
+        ensures { (result.seat.me.0.wakers ≡ []) × (result.seat.table_id ≡ self.now.table.shared.table_id) }
+    {
+        let (_, seat) = self.table.shared.load_new_seat::<Begun>(0);
+        GatheredWakers { seat }
+    }
+
+    /// Adds the waker to the others. Nobody can notify its parker any more.
+    pub(crate) fn gather(&self, waker: Waker, all: &mut GatheredWakers)
+        requires waker { (waker.number ≤ self.now.seats) × (waker.seat.table_id ≡ self.now.table.shared.table_id) }
+        requires all { all.old.seat.table_id ≡ self.now.table.shared.table_id }
+        ensures all { all.new.seat.table_id ≡ all.old.seat.table_id }
+        ensures has { all.new.seat.me.0.wakers ≡ all.old.seat.me.0.wakers ++ waker.number ∷ [] }
+    {
+        let Waker { mut seat, number } = waker;
+        let _found = self
+            .table
+            .shared
+            .swap::<WakerRetired>(&mut seat, number as usize, EMPTY);
+        self.table
+            .shared
+            .join_seat::<NoticesJoined>(&mut all.seat, seat);
+    }
+
+    /// Shows that no waker is there twice, by one load.
+    pub(crate) fn show_each_once(&self, all: &mut GatheredWakers)
+        requires { all.old.seat.table_id ≡ self.now.table.shared.table_id }
+        ensures { (k : ℕ) → times k all.old.seat.me.0.wakers ≤ 1 }
+    {
+        let _found = self.table.shared.load::<EachWakerOnce>(&mut all.seat, 0);
     }
 
     /// Sets the word of the parker to EMPTY, for a seat that has its waker already.

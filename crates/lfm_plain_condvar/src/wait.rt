@@ -1,5 +1,5 @@
-//! How a seat waits: it is added to the list while its user seat holds the user mutex, gives that mutex up, sleeps until it is
-//! notified, and locks the mutex again.
+//! How a seat waits: it is added to the list while its user seat holds the user mutex, gives that mutex up, sleeps until it
+//! is notified, and locks the mutex again.
 ghost use Rattle.std.specs.Prelude.{◌≡◌, ◌+◌, ◌<◌};
 ghost use Rattle.lfm_mutex.specs.Belongs.{Beside, OfMutex, limits_of, tries_of};
 ghost use Rattle.lfm_mutex.specs.calls.RunGoesOn.{RunGoesOnFrom};
@@ -17,8 +17,8 @@ use lfm_mutex::{Kept, Mutex, Pace, Seat};
 use std::mem::replace;
 use std::sync::Wait;
 
-/// How many times a seat polls before it sleeps. A seat that waits alone may be woken soon, as when two threads take turns. Its
-/// polls then cost less than a sleep and a wake-up. If others wait ahead of it, it sleeps at once.
+/// How many times a seat polls before it sleeps. A seat that waits alone may be woken soon, as when two threads take turns.
+/// Its polls then cost less than a sleep and a wake-up. If others wait ahead of it, it sleeps at once.
 pub(crate) fn polls_behind(pace: Pace, ahead: usize) -> u32
     ensures alone { ahead ≡ 0 → result ≡ pace.looks }
     ensures behind { 0 < ahead → result ≡ 0 }
@@ -27,8 +27,8 @@ pub(crate) fn polls_behind(pace: Pace, ahead: usize) -> u32
 }
 
 impl PlainCondvar {
-    /// Adds the seat to the list in one hold, while the user seat holds its mutex. The seat's waker is then in the list. If it is
-    /// refused, as Busy, the seat has its waker again.
+    /// Adds the seat to the list in one hold, while the user seat holds its mutex. The seat's waker is then in the list. If
+    /// it is refused, as Busy, the seat has its waker again.
     pub(crate) fn enlist<T: Kept, R: Wait>(
         &self,
         rt: &R,
@@ -66,18 +66,18 @@ impl PlainCondvar {
         cond.waker = Some(waker);
     }
 
-    /// Gives up the user mutex, which the seat holds at depth 1, waits until a wake takes this seat out of the list and notifies
-    /// it, and locks the user mutex again by `lock_barging`. It returns the ticket: 1 for the first that waited on this condvar,
-    /// and so on. It never returns without a wake. The seat is in the list before the user mutex is unlocked, so no wake that is
-    /// made after another thread has locked that mutex misses it.
+    /// Gives up the user mutex, which the seat holds at depth 1, waits until a wake takes this seat out of the list and
+    /// notifies it, and locks the user mutex again by `lock_barging`. It returns the ticket: 1 for the first that waited on
+    /// this condvar, and so on. It never returns without a wake. The seat is in the list before the user mutex is unlocked,
+    /// so no wake that is made after another thread has locked that mutex misses it.
     ///
     /// Refuses, in this order, before anything is changed: Asleep (the user seat sleeps, or a call of it is open), NotOwner,
-    /// Nested (it holds above depth 1), Spent (either seat has no take left). The contract has Busy too, which is not reached:
-    /// as many would have to wait as there are seats.
+    /// Nested (it holds above depth 1), Spent (either seat has no take left). The contract has Busy too, which is not
+    /// reached: as many would have to wait as there are seats.
     ///
-    /// A wait costs each seat one take. It allocates no memory, sleeps, and wakes the seat that it grants a mutex, if any. If no
-    /// other seat waited when this one was added to the list, it polls before it sleeps, as often as the pace of the user mutex
-    /// says. Otherwise it sleeps at once.
+    /// A wait costs each seat one take. It allocates no memory, sleeps, and wakes the seat that it grants a mutex, if any.
+    /// If no other seat waited when this one was added to the list, it polls before it sleeps, as often as the pace of the
+    /// user mutex says. Otherwise it sleeps at once.
     pub fn wait<T: Kept, R: Wait>(
         &self,
         rt: &R,
@@ -100,10 +100,7 @@ impl PlainCondvar {
         if cond.seat.left() == 0 {
             return Err(Refusal::Spent);
         }
-        let enlisted = match self.enlist(rt, cond, seat) {
-            Ok(enlisted) => enlisted,
-            Err(refusal) => return Err(refusal),
-        };
+        let enlisted = self.enlist(rt, cond, seat)?;
         give_up(mutex, seat);
         self.sleep(rt, cond, polls_behind(mutex.pace(), enlisted.ahead));
         come_back(rt, mutex, seat);

@@ -1,5 +1,5 @@
-//! Waits with a time limit: a seat whose time is over takes itself out of the list. If it is no longer there, a wake has taken
-//! it out, and it sleeps on until it is notified. So no wake is lost to a wait that timed out.
+//! Waits with a time limit: a seat whose time is over takes itself out of the list. If it is no longer there, a wake has
+//! taken it out, and it sleeps on until it is notified. So no wake is lost to a wait that timed out.
 ghost use Rattle.std.specs.Prelude.{◌≡◌, ◌<◌, MatchBool};
 ghost use Rattle.lfm_mutex.specs.Belongs.{Beside, OfMutex, limits_of, tries_of};
 ghost use Rattle.lfm_mutex.specs.calls.RunGoesOn.{RunGoesOnFrom};
@@ -51,7 +51,8 @@ impl PlainCondvar {
         }
     }
 
-    /// In one hold of the list, the seat takes itself out of it. Returns whether it was in the list. It then has its waker back.
+    /// In one hold of the list, the seat takes itself out of it. Returns whether it was in the list. It then has its waker
+    /// back.
     fn leave<R: Wait>(&self, rt: &R, cond: &mut PlainSeat, ticket: u64) -> bool
         requires waits { WaitsAt cond.old self.now }
         requires spare { (sight cond.old.seat).takes < (limits_of self.now.inner).budget }
@@ -72,8 +73,8 @@ impl PlainCondvar {
         }
     }
 
-    /// The time is over: the seat takes itself out of the list. If it isn't there, a wake has taken it out and is about to notify
-    /// it, and it sleeps until then.
+    /// The time is over: the seat takes itself out of the list. If it isn't there, a wake has taken it out and is about to
+    /// notify it, and it sleeps until then.
     fn end_at_deadline<R: Wait>(&self, rt: &R, cond: &mut PlainSeat, ticket: u64) -> Waited
         requires waits { WaitsAt cond.old self.now }
         requires spare { (sight cond.old.seat).takes < (limits_of self.now.inner).budget }
@@ -133,10 +134,7 @@ impl PlainCondvar {
         if cond.seat.left() < 2 {
             return Err(Refusal::Spent);
         }
-        let enlisted = match self.enlist(rt, cond, seat) {
-            Ok(enlisted) => enlisted,
-            Err(refusal) => return Err(refusal),
-        };
+        let enlisted = self.enlist(rt, cond, seat)?;
         give_up(mutex, seat);
         let polls = polls_behind(mutex.pace(), enlisted.ahead);
         let waited = self.sleep_or_leave(rt, cond, enlisted.ticket, polls, deadline);
@@ -144,12 +142,12 @@ impl PlainCondvar {
         Ok(waited)
     }
 
-    /// `wait` for at most this time from now. Returns Woken as `wait` does. Returns TimedOut if the time was over and no wake had
-    /// taken the seat out of the list: the seat has then taken itself out. In both cases the seat holds the user mutex again, at
-    /// depth 1. That lock has no time limit. If the clock can't be read, the time is over at once.
+    /// `wait` for at most this time from now. Returns Woken as `wait` does. Returns TimedOut if the time was over and no
+    /// wake had taken the seat out of the list: the seat has then taken itself out. In both cases the seat holds the user
+    /// mutex again, at depth 1. That lock has no time limit. If the clock can't be read, the time is over at once.
     ///
-    /// Refuses as `wait`, in the same order, but as Spent also if the plain seat has only one take left. A wait costs the user
-    /// seat one take, and the plain seat one, or two if it looked for itself in the list.
+    /// Refuses as `wait`, in the same order, but as Spent also if the plain seat has only one take left. A wait costs the
+    /// user seat one take, and the plain seat one, or two if it looked for itself in the list.
     pub fn wait_for<T: Kept, R: Wait + Clock>(
         &self,
         rt: &R,

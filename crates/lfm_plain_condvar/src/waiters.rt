@@ -1,7 +1,7 @@
 //! The list of those that wait, the oldest first, each with its waker and its ticket. A waiter in the list has not been
-//! notified. Whoever takes a waiter out of the list gets its waker with it. So no other thread can notify that waiter, and none
-//! that doesn't take it out.
-ghost use Rattle.std.specs.Prelude.{◌≡◌, ◌+◌, ◌≤◌, ℕ, IfOk, MatchBool, MatchOption, length};
+//! notified. Whoever takes a waiter out of the list gets its waker with it. So no other thread can notify that waiter, and
+//! none that doesn't take it out.
+ghost use Rattle.std.specs.Prelude.{◌≡◌, ◌+◌, ◌<◌, ◌≤◌, ℕ, IfOk, MatchBool, MatchOption, length};
 ghost use Rattle.std.specs.VecDeque.{deque_capacity, deque_len};
 ghost use mathlib.Core.Option.{some};
 ghost use lib.ListN.{get_elem?};
@@ -59,7 +59,7 @@ pub struct Waiters {
     pub ghost tickets: { InOrder added 0 list.items } by { InOrder-prop added 0 list.items },
     pub ghost counted: { woken + timed_out + deque_len list ≡ added },
     pub ghost room: { seats ≤ deque_capacity list },
-    pub ghost known: { (j : ℕ) (w : _) → get_elem? list.items j ≡ some w → (w.waker.number ≤ seats) × (w.waker.seat.table_id ≡ name.root.table_id) },
+    pub ghost known: { (j : ℕ) (w : _) → get_elem? list.items j ≡ some w → (w.waker.number ≤ seats) × (w.waker.seat.table_id ≡ name.root.table_id) × (0 < w.waker.number) },
 }
 
 impl Waiters {
@@ -101,7 +101,7 @@ impl Waiters {
     /// Adds a waiter with the next ticket at the end. If as many wait as there are seats, or no ticket is left, it hands the
     /// waker back and changes nothing. Neither happens: each seat has one waker, and the budgets of the seats end first.
     pub(crate) fn append(&mut self, waker: Waker) -> Result<Enlisted, Waker>
-        requires { (waker.number ≤ self.old.seats) × (waker.seat.table_id ≡ self.old.name.root.table_id) }
+        requires { (waker.number ≤ self.old.seats) × (waker.seat.table_id ≡ self.old.name.root.table_id) × (0 < waker.number) }
         ensures { Adds waker self.old self.new result }
     {
         let ahead = self.list.len();
@@ -141,8 +141,8 @@ impl Waiters {
         None
     }
 
-    /// Takes out the seat with this number, whose time is over. If it isn't in the list with this ticket, a wake has taken it
-    /// out before: it then returns None and changes nothing.
+    /// Takes out the seat with this number, whose time is over. If it isn't in the list with this ticket, a wake has taken
+    /// it out before: it then returns None and changes nothing.
     pub(crate) fn take_out(&mut self, number: u64, ticket: u64) -> Option<Waiter>
         ensures { Leaves number ticket self.old self.new result }
     {

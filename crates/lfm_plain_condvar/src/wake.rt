@@ -1,5 +1,5 @@
-//! How waiters are woken: in one hold of the inner mutex, the oldest or all are taken out of the list with their wakers. Each
-//! of them is then notified by its waker.
+//! How waiters are woken: in one hold of the inner mutex, the oldest or all are taken out of the list with their wakers.
+//! Each of them is then notified by its waker.
 ghost use Rattle.std.specs.Prelude.{◌≡◌, ◌++◌, ◌∷◌, []};
 ghost use Rattle.lfm_mutex.specs.Belongs.{limits_of, tries_of};
 ghost use Rattle.lfm_mutex.specs.calls.Woken.{LooksAndWakesAsGranted};
@@ -20,11 +20,11 @@ pub struct OwedWakeUp {
 
 impl PlainCondvar {
     /// Takes the seat that has waited longest out of the list, and returns the wake-up that it is owed, or None if no seat
-    /// waits. The caller passes that to `notify`, best after it has unlocked the user mutex: a thread that wakes earlier has to
-    /// wait for the mutex. The caller need not hold the user mutex.
+    /// waits. The caller passes that to `notify`, best after it has unlocked the user mutex: a thread that wakes earlier has
+    /// to wait for the mutex. The caller need not hold the user mutex.
     ///
-    /// Refuses with Spent if the plain seat has no take left. It costs one take. It allocates no memory, may sleep until it has
-    /// the list, and wakes no waiter.
+    /// Refuses with Spent if the plain seat has no take left. It costs one take. It allocates no memory, may sleep until it
+    /// has the list, and wakes no waiter.
     pub fn wake_one_later<R: Wait>(
         &self,
         rt: &R,
@@ -45,8 +45,8 @@ impl PlainCondvar {
         }
     }
 
-    /// Notifies a waiter that a wake took out of the list, and wakes its thread if that is parked. It costs no take, allocates
-    /// no memory and never waits. It makes one system call at most.
+    /// Notifies a waiter that a wake took out of the list, and wakes its thread if that is parked. It costs no take,
+    /// allocates no memory and never waits. It makes one system call at most.
     pub fn notify(&self, cond: &mut PlainSeat, owed: OwedWakeUp)
         requires belongs { OfPlain cond.old self.now }
         requires owed { IsOwedBy owed self.now }
@@ -59,8 +59,22 @@ impl PlainCondvar {
         self.parkers.notify(waker, &mut cond.log);
     }
 
-    /// Wakes the seat that has waited longest, and returns its ticket, or None if no seat waits. It is `wake_one_later` and then
-    /// `notify`, with the same refusal and cost.
+    /// Notifies the waiter, and returns its ticket.
+    fn notify_now(&self, cond: &mut PlainSeat, owed: OwedWakeUp) -> u64
+        requires belongs { OfPlain cond.old self.now }
+        requires owed { IsOwedBy owed self.now }
+        ensures belongs { OfPlain cond.new self.now }
+        ensures same { cond.new.seat ≡ cond.old.seat }
+        ensures notifies { notified_by cond.new ≡ notified_by cond.old ++ owed.waiter.waker.number ∷ [] }
+        ensures ticket { result ≡ owed.waiter.ticket }
+    {
+        let ticket = owed.waiter.ticket;
+        self.notify(cond, owed);
+        ticket
+    }
+
+    /// Wakes the seat that has waited longest, and returns its ticket, or None if no seat waits. It is `wake_one_later` and
+    /// then `notify`, with the same refusal and cost.
     pub fn wake_one<R: Wait>(&self, rt: &R, cond: &mut PlainSeat) -> Result<Option<u64>, Refusal>
         requires belongs { OfPlain cond.old self.now }
         ensures belongs { OfPlain cond.new self.now }
@@ -70,19 +84,15 @@ impl PlainCondvar {
         match self.wake_one_later(rt, cond) {
             Err(refusal) => Err(refusal),
             Ok(None) => Ok(None),
-            Ok(Some(owed)) => {
-                let ticket = owed.waiter.ticket;
-                self.notify(cond, owed);
-                Ok(Some(ticket))
-            }
+            Ok(Some(owed)) => Ok(Some(self.notify_now(cond, owed))),
         }
     }
 
-    /// Wakes all that wait, oldest first, and returns how many there were. The list is held until all are notified, which takes
-    /// one system call for each thread that is parked. The caller need not hold the user mutex.
+    /// Wakes all that wait, oldest first, and returns how many there were. The list is held until all are notified, which
+    /// takes one system call for each thread that is parked. The caller need not hold the user mutex.
     ///
-    /// Refuses with Spent if the plain seat has no take left. It costs one take, however many are woken. It allocates no memory
-    /// and may sleep until it has the list.
+    /// Refuses with Spent if the plain seat has no take left. It costs one take, however many are woken. It allocates no
+    /// memory and may sleep until it has the list.
     pub fn wake_all<R: Wait>(&self, rt: &R, cond: &mut PlainSeat) -> Result<u64, Refusal>
         requires belongs { OfPlain cond.old self.now }
         ensures belongs { OfPlain cond.new self.now }

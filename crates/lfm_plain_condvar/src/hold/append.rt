@@ -1,5 +1,6 @@
-//! How a seat is added to the list in one hold of the inner mutex. Its caller shows the user seat, which holds its mutex: so a
-//! wait is in the list before its user mutex can be unlocked, and no wake of a thread that locks that mutex later misses it.
+//! How a seat is added to the list in one hold of the inner mutex. Its caller shows the user seat, which holds its mutex: so
+//! a wait is in the list before its user mutex can be unlocked, and no wake of a thread that locks that mutex later misses
+//! it.
 ghost use Rattle.std.specs.Prelude.{◌≡◌, ◌<◌, ◌≤◌, Some};
 ghost use Rattle.lfm_mutex.specs.Belongs.{Beside, OfMutex, limits_of, tries_of};
 ghost use Rattle.lfm_mutex.specs.calls.Sight.{sight};
@@ -19,7 +20,7 @@ use std::sync::Wait;
 fn append_in_hand(cond: &mut Seat<Waiters>, waker: Waker) -> Result<Enlisted, Waker>
     requires held { 0 < (sight cond.old).depth }
     requires own { waker.number ≡ (sight cond.old).number }
-    requires known { (v : _) → (sight cond.old).value ≡ Some v → (waker.number ≤ v.seats) × (waker.seat.table_id ≡ v.name.root.table_id) }
+    requires known { (v : _) → (sight cond.old).value ≡ Some v → (waker.number ≤ v.seats) × (waker.seat.table_id ≡ v.name.root.table_id) × (0 < waker.number) }
     ensures belongs { Beside cond.old cond.new }
     ensures woken { WakesNobody cond.old cond.new }
     ensures does { (v : _) × (w : _) × Rewrites (sight cond.old) (sight cond.new) v w × Adds waker v w result }
@@ -43,7 +44,7 @@ impl PlainCondvar {
         requires kept { SeatKept (parkers_of self.now) (seats_of self.now) (sight cond.old) }
         requires spare { (sight cond.old).takes < (limits_of self.now.inner).budget }
         requires own { waker.number ≡ (sight cond.old).number }
-        requires waker { (waker.number ≤ seats_of self.now) × (waker.seat.table_id ≡ parkers_of self.now) }
+        requires waker { (waker.number ≤ seats_of self.now) × (waker.seat.table_id ≡ parkers_of self.now) × (0 < waker.number) }
         requires holder { (sight _holder.now).depth ≡ 1 }
         ensures belongs { Beside cond.old cond.new }
         ensures kept { SeatKept (parkers_of self.now) (seats_of self.now) (sight cond.new) }

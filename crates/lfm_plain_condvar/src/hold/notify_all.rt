@@ -1,5 +1,5 @@
-//! How all that wait are taken out of the list and notified, the oldest first, in one hold of the inner mutex. Each is notified
-//! at once, so no memory is needed for them. A woken thread doesn't need the list.
+//! How all that wait are taken out of the list and notified, the oldest first, in one hold of the inner mutex. Each is
+//! notified at once, so no memory is needed for them. A woken thread doesn't need the list.
 ghost use Rattle.std.specs.Prelude.{◌≡◌, ◌<◌, ◌++◌, [], length, Some};
 ghost use Rattle.lfm_mutex.specs.Belongs.{Beside, OfMutex, limits_of, tries_of};
 ghost use Rattle.lfm_mutex.specs.calls.Sight.{sight};

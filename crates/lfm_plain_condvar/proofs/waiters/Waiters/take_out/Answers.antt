@@ -1,4 +1,4 @@
-use Rattle.std.proofs.Common.{◌≡◌, ◌≤◌, ℕ, sym, ◌∙◌, subst, arith, refl, List}
+use Rattle.std.proofs.Common.{◌≡◌, ◌<◌, ◌≤◌, ℕ, sym, ◌∙◌, subst, arith, refl, List}
 use mathlib.Core.Option.{some, some-injective}
 use lib.ListN.{get_elem?}
 use Rattle.lfm_plain_condvar.specs.declared.waiters.Waiter.{Waiter}
@@ -12,8 +12,8 @@ invariant_of-self-clause-tickets c = let s = c.args.self.now in subst (InOrder s
 
 pub invariant_of-self-clause-known : goal.invariant_of-self-clause-known
 invariant_of-self-clause-known c = let s = c.args.self.now in
-    subst (λ (ws : List Waiter). (j : ℕ) (w : Waiter) → get_elem? ws j ≡ some w → (w.waker.number ≤ s.seats) × (w.waker.seat.table_id ≡ s.name.root.table_id)) (sym c.in-Some.ensures.items)
-    (all_without (λ (w : Waiter). (w.waker.number ≤ s.seats) × (w.waker.seat.table_id ≡ s.name.root.table_id)) s.list.items c.in_ok-place.place s.known)
+    subst (λ (ws : List Waiter). (j : ℕ) (w : Waiter) → get_elem? ws j ≡ some w → (w.waker.number ≤ s.seats) × (w.waker.seat.table_id ≡ s.name.root.table_id) × (0 < w.waker.number)) (sym c.in-Some.ensures.items)
+    (all_without (λ (w : Waiter). (w.waker.number ≤ s.seats) × (w.waker.seat.table_id ≡ s.name.root.table_id) × (0 < w.waker.number)) s.list.items c.in_ok-place.place s.known)
 
 pub unreachable-requires : goal.unreachable-requires
 unreachable-requires c = let s = c.args.self.now in let e = c.in_ok-place.ensures in let h = within s.list.items c.in_ok-place.place e.0 e.1 in let o = s.list.ok in let no = c.in-None.ensures.variant.1 (omega arith) in cc

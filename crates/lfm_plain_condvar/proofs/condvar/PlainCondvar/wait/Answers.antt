@@ -6,7 +6,7 @@ use Rattle.lfm_mutex.specs.calls.Sight.{sight}
 use Rattle.lfm_mutex.proofs.runs.RunGoesOn.{run_next}
 use Rattle.lfm_plain_condvar.specs.declared.waiters.Waiters.{Waiters}
 use Rattle.lfm_plain_condvar.specs.Waits.{Listed, Refuses, WaitEnds}
-use Rattle.lfm_plain_condvar.proofs.Repeating.{handed_on}
+use Rattle.lfm_mutex.proofs.ConditionEnds.{handed_on}
 use Rattle.lfm_plain_condvar.proofs.condvar.PlainCondvar.wait.Goals as goal
 
 pub give_up-requires-clause-leaves : goal.give_up-requires-clause-leaves

@@ -4,7 +4,7 @@ use Rattle.lfm_mutex.specs.Belongs.{limits_of, tries_of}
 use Rattle.lfm_mutex.specs.calls.Sight.{sight}
 use Rattle.lfm_mutex.proofs.runs.RunGoesOn.{run_next}
 use Rattle.lfm_plain_condvar.proofs.Ends.{for_ends}
-use Rattle.lfm_plain_condvar.proofs.Repeating.{handed_on}
+use Rattle.lfm_mutex.proofs.ConditionEnds.{handed_on}
 use Rattle.lfm_plain_condvar.specs.Waits.{Refuses, WaitForEnds}
 use Rattle.lfm_plain_condvar.proofs.condvar.PlainCondvar.wait_within.Goals as goal
 

@@ -2,6 +2,7 @@ pub mod Belongs
 pub mod Holds
 pub mod Keeping
 pub mod Lists
+pub mod Modelled
 pub mod Order
 pub mod Parkers
 pub mod Repeated

@@ -1,16 +1,24 @@
 -- That steps, the opening and the splitting off of a seat keep the rule of a pool, and what a seat knows after them.
 pub use Rattle.atomic_table.proofs.Lists
+pub mod CarrierWords
+pub mod Chains
+pub mod CollectedRecords
 pub mod FastPaths
+pub mod Keeping
 pub mod Lifting
 pub mod Links
 pub mod LoneTables
 pub mod NewSeats
 pub mod Opening
 pub mod Parts
+pub mod PoppedRecords
+pub mod PoppedViews
 pub mod Pushing
 pub mod Resting
 pub mod SeatWords
+pub mod ServingRecords
 pub mod Splitting
 pub mod Steps
 pub mod Targets
+pub mod Walking
 pub mod WordIndexes

@@ -1,5 +1,5 @@
 -- What the steps leave by which a lock puts its record into the queue.
-use Rattle.std.specs.Prelude.{◌≡◌, ⊤, ℕ, ◌++◌, ◌+◌, [], ◌∷◌, nat_eq, if◌then◌else◌}
+use Rattle.std.specs.Prelude.{◌≡◌, ⊤, ℕ, ◌++◌, ◌+◌, [], ◌∷◌, true, nat_eq, if◌then◌else◌}
 use Rattle.lfm_words.specs.declared.links.Link.{Link}
 use Rattle.lfm_words.specs.Words.{handoff_of, link_of, link_word}
 use Rattle.lfm_words.specs.declared.handoffs.Handoff.{Handoff}
@@ -15,6 +15,7 @@ use Rattle.lfm_table.specs.declared.seat_view.View.{View}
 use Rattle.lfm_table.specs.Actions.{RunGoesOn, seen}
 use Rattle.lfm_pool.specs.declared.pool.Pool.{Pool}
 use Rattle.lfm_pool.specs.declared.pool.PoolSeat.{PoolSeat}
+use Rattle.lfm_pool.specs.Chain.{rested}
 use Rattle.lfm_pool.specs.FastPaths.{KnowsMoreOf}
 use Rattle.lfm_pool.specs.Steps.{Sits}
 use Rattle.lfm_pool.specs.Tables.{part}
@@ -30,7 +31,7 @@ pub record Pushes (loaded : Link) (n : ℕ) (v w : View ⊤) : Type 0 where
 -- from s to t the seat has made such an attempt in mutex m, which found n
 abbrev pub PushesIn : PoolSeat → PoolSeat → Pool → ℕ → Link → ℕ → Type 0
 PushesIn s t p m loaded n =
-    KnowsMoreOf m (λ w. Pushes loaded n (part s.place.me.0 m) w × Sits s.number s.place.id p.limits w.state w) s.place.me t.place.me
+    KnowsMoreOf m (λ w k. Pushes loaded n (part s.place.me.0 m) w × Sits s.number s.place.id p.limits w.state w) s.place.me t.place.me
 
 -- a lock loads the push word next
 abbrev pub LoadsPush : SeatState → Type 0
@@ -48,7 +49,7 @@ pub record Steps (p : Point) (n : ℕ) (q : Point) (v w : View ⊤) : Type 0 whe
 
 -- from s to t the seat has made such a step in mutex m
 abbrev pub StepsFrom : PoolSeat → PoolSeat → Pool → ℕ → Point → ℕ → Point → Type 0
-StepsFrom s t p m q n r = KnowsMoreOf m (λ w. Steps q n r (part s.place.me.0 m) w × Sits s.number s.place.id p.limits w.state w) s.place.me t.place.me
+StepsFrom s t p m q n r = KnowsMoreOf m (λ w k. Steps q n r (part s.place.me.0 m) w × Sits s.number s.place.id p.limits w.state w) s.place.me t.place.me
 
 -- from s to t the seat has loaded the push word n of mutex m, and stores its link next
 abbrev pub LoadsPushIn : PoolSeat → PoolSeat → Pool → ℕ → ℕ → Type 0
@@ -76,4 +77,8 @@ pub record TakesOver (number : ℕ) (posted : Handoff) (n : ℕ) (v w : View ⊤
 -- from s to t the seat has made that exchange in mutex m
 abbrev pub TakesOverIn : PoolSeat → PoolSeat → Pool → ℕ → Handoff → ℕ → Type 0
 TakesOverIn s t p m posted n =
-    KnowsMoreOf m (λ w. TakesOver s.number posted n (part s.place.me.0 m) w × Sits s.number s.place.id p.limits w.state w) s.place.me t.place.me
+    KnowsMoreOf m
+    (λ w k.
+    TakesOver s.number posted n (part s.place.me.0 m) w × Sits s.number s.place.id p.limits w.state w
+    × (same_handoff (handoff_of n) posted ≡ true → k ≡ rested w.popped))
+    s.place.me t.place.me

@@ -9,11 +9,14 @@
 #![tactic(auto)]
 
 mod accesses;
+mod chain;
+mod collect;
 pub mod fast_paths;
 pub mod layout;
 pub mod pool;
 mod push;
 pub mod rule;
 mod seat_words;
+mod serve;
 mod step;
 pub mod view;

@@ -18,12 +18,12 @@ returns-then-enter_if_free-eq0-clause-bounded c =
 pub try_taken-requires-clause-may : goal.try_taken-requires-clause-may
 try_taken-requires-clause-may c =
     let s = c.args.seat.now in let p = c.args.pool.now in let m = c.args.mutex in let f = c.enter_if_free in
-    may_taken s f.new.seat p m f.result (may_try s p m c.requires.belongs c.requires.mutex c.requires.may c.requires.elsewhere) (f.ensures.finds c.if-enter_if_free-eq0.false) f.ensures.belongs
+    may_taken s f.new.seat p m f.result (may_try s p m c.requires.belongs c.requires.mutex c.requires.may c.requires.elsewhere) (f.ensures.finds c.if-enter_if_free-eq0.false) c.requires.may.flat f.ensures.belongs
 
 pub try_taken-requires-clause-at : goal.try_taken-requires-clause-at
 try_taken-requires-clause-at c =
     let s = c.args.seat.now in let p = c.args.pool.now in let m = c.args.mutex in let f = c.enter_if_free in
-    at_owner s f.new.seat p m f.result (may_try s p m c.requires.belongs c.requires.mutex c.requires.may c.requires.elsewhere) (f.ensures.finds c.if-enter_if_free-eq0.false)
+    at_owner s f.new.seat p m f.result (may_try s p m c.requires.belongs c.requires.mutex c.requires.may c.requires.elsewhere) (f.ensures.finds c.if-enter_if_free-eq0.false) c.requires.may.flat
 
 pub try_taken-requires-clause-flat : goal.try_taken-requires-clause-flat
 try_taken-requires-clause-flat c =
@@ -36,7 +36,7 @@ returns-clause-belongs c = same_then c.args.seat.now c.enter_if_free.new.seat c.
 pub returns-clause-tries : goal.returns-clause-tries
 returns-clause-tries c =
     let s = c.args.seat.now in let p = c.args.pool.now in let m = c.args.mutex in let f = c.enter_if_free in let k = c.try_taken in
-    tries_by s f.new.seat p m f.result (may_try s p m c.requires.belongs c.requires.mutex c.requires.may c.requires.elsewhere) (f.ensures.finds c.if-enter_if_free-eq0.false) k.new.seat k.result
+    tries_by s f.new.seat p m f.result (may_try s p m c.requires.belongs c.requires.mutex c.requires.may c.requires.elsewhere) (f.ensures.finds c.if-enter_if_free-eq0.false) c.requires.may.flat k.new.seat k.result
     c.if-enter_if_free-eq0.false c.requires.may.rests f.ensures.belongs.number k.ensures.ends
 
 pub returns-clause-bounded : goal.returns-clause-bounded
@@ -44,4 +44,4 @@ returns-clause-bounded c =
     let s = c.args.seat.now in let p = c.args.pool.now in let m = c.args.mutex in let f = c.enter_if_free in let k = c.try_taken in
     let may = may_try s p m c.requires.belongs c.requires.mutex c.requires.may c.requires.elsewhere in
     try_bounded s k.new.seat p m k.result may
-    (tries_by s f.new.seat p m f.result may (f.ensures.finds c.if-enter_if_free-eq0.false) k.new.seat k.result c.if-enter_if_free-eq0.false c.requires.may.rests f.ensures.belongs.number k.ensures.ends)
+    (tries_by s f.new.seat p m f.result may (f.ensures.finds c.if-enter_if_free-eq0.false) c.requires.may.flat k.new.seat k.result c.if-enter_if_free-eq0.false c.requires.may.rests f.ensures.belongs.number k.ensures.ends)

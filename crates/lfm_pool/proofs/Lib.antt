@@ -1,6 +1,7 @@
 -- That steps, the opening and the splitting off of a seat keep the rule of a pool, and what a seat knows after them.
 pub use Rattle.atomic_table.proofs.Lists
 pub mod CarrierWords
+pub mod ChainLaws
 pub mod Chains
 pub mod CollectedRecords
 pub mod FastPaths

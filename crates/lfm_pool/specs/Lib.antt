@@ -4,6 +4,7 @@ pub mod Carrying
 pub mod Chain
 pub mod Collecting
 pub mod FastPaths
+pub mod Laws
 pub mod Layout
 pub mod Push
 pub mod Rule

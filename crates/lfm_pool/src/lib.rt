@@ -12,6 +12,7 @@ mod accesses;
 mod chain;
 mod collect;
 pub mod fast_paths;
+pub mod laws;
 pub mod layout;
 pub mod pool;
 mod push;

@@ -36,6 +36,17 @@ pub fn serve_oldest(pool: &Pool, seat: &mut PoolSeat, mutex: usize, oldest: u64)
     let next = link.next;
     carried_store(pool, seat, mutex, next);
     let number = SeatNo::known(oldest);
-    grant(pool, seat, mutex, Record { seat: number, stamp });
-    Record { seat: number, stamp }
+    grant(
+        pool,
+        seat,
+        mutex,
+        Record {
+            seat: number,
+            stamp,
+        },
+    );
+    Record {
+        seat: number,
+        stamp,
+    }
 }

@@ -21,5 +21,6 @@ pub mod ServingRecords
 pub mod Splitting
 pub mod Steps
 pub mod Targets
+pub mod Unlocking
 pub mod Walking
 pub mod WordIndexes

@@ -7,6 +7,7 @@ pub mod FastPaths
 pub mod Laws
 pub mod Layout
 pub mod Push
+pub mod Releasing
 pub mod Rule
 pub mod SeatWords
 pub mod Seats

@@ -30,11 +30,11 @@ use Rattle.lfm_table.specs.declared.operations.Access.{Access}
 use Rattle.lfm_table.specs.declared.seat_view.Seen.{Seen}
 use Rattle.lfm_table.specs.declared.seat_view.View.{View}
 use Rattle.lfm_table.specs.Actions.{seen}
-use Rattle.lfm_table.proofs.tables.StepFacts.{made_of}
+use Rattle.lfm_table.proofs.tables.StepFacts.{carrying, made_of, taking}
 use Rattle.lfm_pool.specs.declared.ask.Asking.{Asking}
 use Rattle.lfm_pool.specs.declared.pool.Pool.{Pool}
 use Rattle.lfm_pool.specs.declared.pool.PoolSeat.{PoolSeat}
-use Rattle.lfm_pool.specs.Ask.{AsksIn, AskSteps, FindsChanges, IsChanged, MakesBesideFailuresIn, PushSteps, QueuesIn, QueueSteps, StepsIfPosted, TakeOverSteps, WaitsIn, asked, asked_point, attempt, attempts, failed_pushes}
+use Rattle.lfm_pool.specs.Ask.{AsksIn, AskSteps, FindsChanges, IsChanged, IsReadyAfter, MakesBesideFailuresIn, PushSteps, QueuesIn, QueueSteps, StepsIfPosted, TakeOverSteps, WaitsIn, asked, asked_point, attempt, attempts, failed_pushes}
 use Rattle.lfm_pool.specs.Belongs.{SameSeat}
 use Rattle.lfm_pool.specs.Finds.{Finds}
 use Rattle.lfm_pool.specs.Moves.{MakesIn, MayStepIn, StartsIn}
@@ -45,7 +45,7 @@ use Rattle.lfm_pool.specs.Steps.{IsPlainAccessOf, begun_in}
 use Rattle.lfm_pool.specs.Tables.{part}
 use Rattle.lfm_pool.proofs.FastPaths.{part_now}
 use Rattle.lfm_pool.proofs.Keeping.{idle_at}
-use Rattle.lfm_pool.proofs.SeveralSteps.{enters_by, inside, join, may_then, next_access, part_after, same_then, start_made, state_after, then_carry, then_move}
+use Rattle.lfm_pool.proofs.SeveralSteps.{enters_by, holds_after, inside, join, may_then, next_access, part_after, same_then, start_made, state_after, then_carry, then_move, whole_after}
 use Rattle.lfm_pool.proofs.Trying.{posts_differ, same_post}
 
 -- Push words
@@ -404,6 +404,17 @@ module _ (s : PoolSeat) (p : Pool) (m : ℕ) (may : MayStepIn s p m) (try : MayT
           asks =
               asks_as s v m asking count owner waits.0 beside not_mine waits.1
               (subst (λ (w : SeatState). MakesIn s v m (seen LockCountAdd count ∷ seen LockOwnerLoad owner ∷ waits.0) w) (flat_now (asked_point asking s.number (part v.place.me.0 m).popped)) waited)
+
+-- what the seat is ready for
+pub ready : (s t : PoolSeat) (p : Pool) (m : ℕ) (asking : Asking) → MayStepIn s p m → (state_of s m).point ≡ Rest → SameSeat s t → MayStepIn t p m → AsksIn s t m asking → IsReadyAfter asking t p m
+ready s t p m Asking.Held may rests same later asks = holds_after s t p m asks.0 (asked Asking.Held s.number (part t.place.me.0 m).popped (state_of s m)) may asks.2 later rests refl
+ready s t p m Asking.Asleep may rests same later asks = (Sleeper.Locker, ap (λ (w : SeatState). w.point) (state_after s t p m asks.0 (asked Asking.Asleep s.number (part t.place.me.0 m).popped (state_of s m)) may asks.2))
+ready s t p m Asking.Carries may rests same later asks = (
+  ap (λ (w : SeatState). w.point) (state_after s t p m asks.0 (asked Asking.Carries s.number (part t.place.me.0 m).popped (state_of s m)) may asks.2)
+      ∙ (λ i. take Carrier.Locker (sym same.number i) (oldest (part t.place.me.0 m).popped)),
+  whole_after s t p m asks.0 (asked Asking.Carries s.number (part t.place.me.0 m).popped (state_of s m)) may asks.2
+      (carrying (asked Asking.Carries s.number (part t.place.me.0 m).popped (state_of s m)) (taking Carrier.Locker s.number (oldest (part t.place.me.0 m).popped))),
+)
 
 -- The number of steps
 

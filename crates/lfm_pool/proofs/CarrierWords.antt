@@ -275,7 +275,7 @@ module _ (id m : ℕ) (v : PoolView) (here : m < length v.parts) (carries : carr
 -- What the table allows
 
 -- a list whose first seat is a seat has a first record
-first_record : (l : List Record) → 0 < first_seat l → (r : Record) × (rest : List Record) × (l ≡ r ∷ rest)
+pub first_record : (l : List Record) → 0 < first_seat l → (r : Record) × (rest : List Record) × (l ≡ r ∷ rest)
 first_record [] above = absurd (omega (arith, above))
 first_record (r ∷ rest) above = (r, rest, refl)
 

@@ -2,6 +2,7 @@
 pub use Rattle.atomic_table.proofs.Lists
 pub mod Asking
 pub mod CarrierWords
+pub mod ChainLaws
 pub mod Chains
 pub mod CollectedRecords
 pub mod FastPaths
@@ -24,5 +25,6 @@ pub mod Splitting
 pub mod Steps
 pub mod Targets
 pub mod Trying
+pub mod Unlocking
 pub mod Walking
 pub mod WordIndexes

@@ -21,6 +21,7 @@ use Rattle.lfm_laws.proofs.steady.frames.Seated.{seat_of_queued}
 use Rattle.lfm_laws.proofs.steady.queue.Popping.{queued_injective}
 use Rattle.lfm_laws.proofs.steady.queue.Pushers.{fits_at}
 use Rattle.lfm_pool.specs.Chain.{HasRecord, first_seat}
+use Rattle.lfm_pool.specs.Laws.{AreOfDifferentSeats}
 use Rattle.lfm_pool.specs.Tables.{has_link_at}
 use Rattle.lfm_pool.proofs.Targets.{collected_linked, queued_linked}
 
@@ -39,6 +40,16 @@ first_of_records f last zero r rest e = absurd (cc)
 first_of_records f last (suc n) r rest e = (
   sym (ap first_seat e),
   λ t has. let d = in_records f (last + 1) n t (subst (λ (l : List Record). HasRecord t l) (ap (λ (l : List Record). drop 1 l) e) has) in (d.0, d.1, omega (arith, d.2), d.3),
+)
+
+-- such records are of different seats, if the function differs at their stamps
+records_differ : (f : ℕ → ℕ) (last n : ℕ) → ((a b : ℕ) → last < a → a ≤ last + n → last < b → b ≤ last + n → f a ≡ f b → a ≡ b) → AreOfDifferentSeats (records f last n)
+records_differ f last zero apart = tt
+records_differ f last (suc n) apart = (
+  λ has. let d = in_records f (last + 1) n (f (last + 1)) has in
+      let same = apart (last + 1) d.0 (omega arith) (omega arith) (omega (arith, d.1)) (omega (arith, d.2)) (sym d.3) in
+      omega (arith, same, d.1),
+  records_differ f (last + 1) n (λ a b low high low' high' e. apart a b (omega (arith, low)) (omega (arith, high)) (omega (arith, low')) (omega (arith, high')) e),
 )
 
 -- a call that serves leaves no grant to any seat
@@ -69,6 +80,17 @@ module _ (c : Core) (g : Ghost) (fits : Fits c g) where
 
   pub popped_linked : (t : ℕ) → HasRecord t c.popped → has_link_at (seat c.seats t).point ≡ true
   popped_linked t has = let d = popped_stands t has in queued_linked c g fits t d.0 d.2
+
+  -- no two of them are of one seat
+  pub popped_differ : AreOfDifferentSeats c.popped
+  popped_differ =
+      let parts = fits.words.parts in
+      subst AreOfDifferentSeats (sym fits.words.listed)
+      (records_differ g.pushed_at (g.popped + g.walk) (length c.popped)
+      (λ a b low high low' high' e.
+      let first = (fits.stamps a (omega (arith, low)) (omega (arith, high, parts))).stands in
+      let second = (fits.stamps b (omega (arith, low')) (omega (arith, high', parts))).stands in
+      queued_injective a b (sym first ∙ ap g.standing e ∙ second)))
 
   -- no other record is of the same seat as the first
   pub first_alone : (r : Record) (rest : List Record) → c.popped ≡ r ∷ rest → HasRecord r.seat rest → ⊥

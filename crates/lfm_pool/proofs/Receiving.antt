@@ -1,6 +1,6 @@
 -- The steps of a try_receive of a seat that sleeps.
 use Rattle.std.proofs.Common.{◌≡◌, ◌≢◌, ℕ, ◌+◌, ◌-◌, ◌<◌, ◌≤◌, ◌/◌, List, [], ◌∷◌, length, nat_eq, if◌then◌else◌, refl, sym, ap, ◌∙◌, subst, arith, Option, Some, None}
-use Rattle.std.specs.Prelude.{Bool, true, false}
+use Rattle.std.specs.Prelude.{Bool, IfSome, true, false}
 use Rattle.std.proofs.lemmas.Bool.{eq-eqb, false≢true, leb-false, leb-true, ne_eqb}
 use Rattle.lfm_model.specs.declared.answers.How.{How}
 use Rattle.lfm_words.specs.declared.pop_lists.Record.{Record}
@@ -26,10 +26,10 @@ use Rattle.lfm_pool.specs.Belongs.{SameSeat}
 use Rattle.lfm_pool.specs.Moves.{MakesAtMostIn, MakesIn, MayStepIn, StartsIn}
 use Rattle.lfm_pool.specs.Receive.{ReceivedIn, ReceiveSteps, received}
 use Rattle.lfm_pool.specs.SeatWords.{Sleeps, TakesGrant}
-use Rattle.lfm_pool.specs.Seats.{MovesIn, state_of}
+use Rattle.lfm_pool.specs.Seats.{HoldsOnceIn, MovesIn, state_of}
 use Rattle.lfm_pool.specs.Steps.{IsPlainAccessOf, begun_in}
 use Rattle.lfm_pool.proofs.Keeping.{idle_at}
-use Rattle.lfm_pool.proofs.SeveralSteps.{at_most, enters_by, may_after, next_access, start_made, state_after, then_carry}
+use Rattle.lfm_pool.proofs.SeveralSteps.{at_most, enters_by, holds_after, may_after, next_access, start_made, state_after, then_carry}
 
 -- Where the load of the wake word leads
 
@@ -107,6 +107,11 @@ module _ (s t : PoolSeat) (p : Pool) (m word : ℕ) (may : MayStepIn s p m) (sle
         subst (λ (z : ℕ × How). MakesIn s v m (seen (ReceiveWakeLoad sleeps.0) word ∷ seen (ReceiveWakeStore (grant_stamp word)) (wake_word Quiet) ∷ seen (EnterOwnerStore Entrant.Receiver z.1) z.0 ∷ []) (made_of 1 x.takes x.posts Rest)) (λ i. (told i, sym is i))
             (then_carry s u v p m may _ _ quieted n (made_of 1 x.takes x.posts Rest) (λ o. refl) refl refl refl (λ l. refl) may2 entered),
       )
+
+-- a seat that has acquired the mutex may release it
+pub receive_holds : (s t : PoolSeat) (p : Pool) (m : ℕ) (result : Option How) → MayStepIn s p m → MayStepIn t p m → ReceivedIn s t m result → IfSome result (λ _. HoldsOnceIn t p m)
+receive_holds s t p m None may later did = tt
+receive_holds s t p m (Some how) may later did = holds_after s t p m did.1 (received (Some how) (state_of s m)) may did.4 later refl refl
 
 -- The number of steps
 

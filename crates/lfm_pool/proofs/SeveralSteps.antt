@@ -12,7 +12,7 @@ use Rattle.lfm_protocol.specs.declared.kinds.Kind.{Kind}
 use Rattle.lfm_protocol.specs.declared.points.Entrant.{Entrant}
 use Rattle.lfm_model.specs.declared.answers.How.{How}
 use Rattle.lfm_protocol.specs.declared.points.Point.{Point}
-use Rattle.lfm_protocol.specs.declared.points.Point.TheVariants.{EnterOwnerStore}
+use Rattle.lfm_protocol.specs.declared.points.Point.TheVariants.{Rest, EnterOwnerStore}
 use Rattle.lfm_protocol.specs.declared.seats.SeatState.{SeatState}
 use Rattle.lfm_protocol.specs.Place.{carries}
 use Rattle.lfm_laws.specs.steady.Steady.{DepthAt}
@@ -31,7 +31,7 @@ use Rattle.lfm_pool.specs.Belongs.{OfPool, SameSeat}
 use Rattle.lfm_pool.specs.Chain.{needs_chain, note_after, note_since, rested}
 use Rattle.lfm_pool.specs.FastPaths.{KnowsMoreOf}
 use Rattle.lfm_pool.specs.Moves.{Made, MakesAtMostIn, MakesIn, MayStepIn, StartsIn}
-use Rattle.lfm_pool.specs.Seats.{MovesIn, note_of, popped_of, state_of}
+use Rattle.lfm_pool.specs.Seats.{HoldsOnceIn, MovesIn, note_of, popped_of, state_of}
 use Rattle.lfm_pool.specs.Steps.{IsPlainAccessOf, Sits, StepsIn, begun_in}
 use Rattle.lfm_pool.specs.Tables.{part}
 use Rattle.lfm_pool.proofs.FastPaths.{both, elsewhere_now, goes_on, note_now, part_now, sits_begun}
@@ -79,6 +79,16 @@ module _ (s t : PoolSeat) (p : Pool) (m : ℕ) where
 
   pub kept_after : (new : List Seen) (x : SeatState) → MayStepIn s p m → MakesIn s t m new x → carries_value x ≡ false → note_of t m ≡ note_of s m
   kept_after new x may made idle = note_made new x may made ∙ since_idle made.0 (note_of s m) x made.3.0.state idle
+
+  -- a seat that rests and holds the mutex once may release it
+  pub holds_after : (new : List Seen) (x : SeatState) → MayStepIn s p m → MakesIn s t m new x → MayStepIn t p m → x.point ≡ Rest → x.depth ≡ 1 → HoldsOnceIn t p m
+  holds_after new x may made later rest one =
+      let is = state_after new x may made in record {
+        sits = later.sits;
+        rests = ap (λ (z : SeatState). z.point) is ∙ rest;
+        once = ap (λ (z : SeatState). z.depth) is ∙ one;
+        noted = whole_after new x may made (λ i. carries_value (made_of (one i) x.takes x.posts x.point));
+      }
 
   -- the access of the next step
   pub next_access : (new : List Seen) (x : SeatState) (seats : ℕ) (access : Access) → MayStepIn s p m → MakesIn s t m new x → IsPlainAccessOf seats t.number x access → IsPlainAccessOf seats t.number (state_of t m) access

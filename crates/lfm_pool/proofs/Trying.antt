@@ -1,6 +1,6 @@
 -- The steps of a try_lock of a seat that does not hold the mutex.
 use Rattle.std.proofs.Common.{◌≡◌, ◌≢◌, ℕ, ◌+◌, ◌-◌, ◌<◌, ◌≤◌, List, [], ◌∷◌, length, nat_eq, refl, sym, ap, ◌∙◌, subst, inl, inr, arith, Option}
-use Rattle.std.specs.Prelude.{Bool, true, false, Result, Ok, Err}
+use Rattle.std.specs.Prelude.{Bool, IfOk, true, false, Result, Ok, Err}
 use Rattle.std.proofs.lemmas.Bool.{eq-eqb, ne_eqb, not-false, not-true}
 use prog.Atomic.{either}
 use Rattle.lfm_model.specs.declared.answers.How.{How}
@@ -28,11 +28,11 @@ use Rattle.lfm_pool.specs.Belongs.{IsMutex, OfPool, SameSeat}
 use Rattle.lfm_pool.specs.Finds.{Finds}
 use Rattle.lfm_pool.specs.Moves.{MakesAtMostIn, MakesIn, MayStepIn}
 use Rattle.lfm_pool.specs.Chain.{needs_chain}
-use Rattle.lfm_pool.specs.Seats.{EntersIn, FindsTakenIn, MayTryIn, MovesIn, RestsInOthers, note_of, state_of}
+use Rattle.lfm_pool.specs.Seats.{EntersIn, FindsTakenIn, HoldsOnceIn, MayTryIn, MovesIn, RestsInOthers, note_of, state_of}
 use Rattle.lfm_pool.specs.Steps.{IsPlainAccessOf}
 use Rattle.lfm_pool.specs.TryLock.{AcceptsIn, AcceptSteps, EndsTryIn, StepsIfPosted, TakenSteps, TriesIn, TrySteps, ended, tried}
 use Rattle.lfm_pool.proofs.Keeping.{idle_at, since_carrying, since_idle}
-use Rattle.lfm_pool.proofs.SeveralSteps.{at_most, at_point, enters_by, join, may_then, move_made, next_access, packs_handoff, state_after, then_carry, then_move}
+use Rattle.lfm_pool.proofs.SeveralSteps.{at_most, at_point, enters_by, holds_after, join, may_then, move_made, next_access, packs_handoff, state_after, then_carry, then_move}
 
 -- Where each step leads
 
@@ -241,6 +241,11 @@ module _ (s t : PoolSeat) (p : Pool) (m : ℕ) where
       inr (count, ends.0, some, subst (λ (n : ℕ). TakenSteps n result ends.0) named ends.1, refl),
       join s t u p m may _ _ taken (idle_at taken_state flat refl) ends.0 (tried result (state_of s m)) (subst (λ (z : SeatState). MakesIn t u m ends.0 z) (ap (ended result) (state_after s t p m _ _ may taken) ∙ ended_tried result (state_of s m) rests) ends.2),
     )
+
+-- a seat that has acquired the mutex may release it
+pub try_holds : (s t : PoolSeat) (p : Pool) (m : ℕ) (result : Result Locked Refusal) → MayStepIn s p m → (state_of s m).point ≡ Rest → MayStepIn t p m → TriesIn s t m result → IfOk result (λ _. HoldsOnceIn t p m)
+try_holds s t p m (Ok locked) may rests later tries = holds_after s t p m tries.0 (tried (Ok locked) (state_of s m)) may tries.2 later rests refl
+try_holds s t p m (Err refusal) may rests later tries = tt
 
 -- The number of steps
 

@@ -6,10 +6,12 @@ pub mod Chain
 pub mod Collecting
 pub mod FastPaths
 pub mod Finds
+pub mod Laws
 pub mod Layout
 pub mod Moves
 pub mod Push
 pub mod Receive
+pub mod Releasing
 pub mod Rule
 pub mod SeatWords
 pub mod Seats

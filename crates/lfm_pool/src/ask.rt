@@ -4,7 +4,7 @@
 ghost use Rattle.std.specs.Prelude.{◌≡◌};
 ghost use Rattle.lfm_protocol.specs.declared.points.Point.TheVariants.{PushLoad};
 ghost use Rattle.lfm_protocol.specs.declared.points.Pusher.{Pusher};
-ghost use Rattle.lfm_pool.specs.Ask.{AsksIn, MakesBesideFailuresIn, QueuesIn, WaitsIn};
+ghost use Rattle.lfm_pool.specs.Ask.{AsksIn, IsReadyAfter, MakesBesideFailuresIn, QueuesIn, WaitsIn};
 ghost use Rattle.lfm_pool.specs.Belongs.{IsMutex, OfPool, SameSeat};
 ghost use Rattle.lfm_pool.specs.Moves.{MayStepIn};
 ghost use Rattle.lfm_pool.specs.Push.{LoadsPush};
@@ -51,6 +51,7 @@ pub fn begin_ask(pool: &Pool, seat: &mut PoolSeat, mutex: usize) -> Asking
     ensures belongs { SameSeat seat.old seat.new }
     ensures may { MayStepIn seat.new pool.now mutex }
     ensures asks { AsksIn seat.old seat.new mutex result }
+    ensures ready { IsReadyAfter result seat.new pool.now mutex }
     ensures bounded { MakesBesideFailuresIn 7 seat.old seat.new mutex }
 {
     let count = start(pool, seat, mutex, Access::FetchAdd(COUNT, 1));

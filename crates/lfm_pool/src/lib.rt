@@ -18,6 +18,7 @@ pub mod ask;
 mod chain;
 mod collect;
 pub mod fast_paths;
+pub mod laws;
 pub mod layout;
 mod moves;
 pub mod pool;

@@ -1,11 +1,14 @@
-//! How a call that carries a mutex serves the oldest queued seat, whose record is popped.
-ghost use Rattle.std.specs.Prelude.{◌≡◌};
+//! How a call that carries a mutex serves the oldest queued seat: whose record is popped, or else, in an `unlock`, is found by
+//! collecting the push list.
+ghost use Rattle.std.specs.Prelude.{◌≡◌, None, IfSome};
 ghost use Rattle.lfm_pool.specs.Belongs.{IsMutex, OfPool, SameSeat};
 ghost use Rattle.lfm_pool.specs.Chain.{first_seat, rested};
+ghost use Rattle.lfm_pool.specs.Releasing.{FindsNoneIn, GrantsNextIn, IsServing};
 ghost use Rattle.lfm_pool.specs.Seats.{note_of, popped_of, RestsInOthers, SitsIn};
 ghost use Rattle.lfm_pool.specs.Serving.{GrantsIn, IsOldest, ServesOldest};
 
-use crate::chain::{carried_store, chain_load};
+use crate::chain::{carried_load, carried_store, chain_load};
+use crate::collect::{clear_head, collect};
 use crate::pool::{Pool, PoolSeat};
 use crate::seat_words::grant;
 use lfm_model::SeatNo;
@@ -49,4 +52,38 @@ pub fn serve_oldest(pool: &Pool, seat: &mut PoolSeat, mutex: usize, oldest: u64)
         seat: number,
         stamp,
     }
+}
+
+/// Serves the oldest queued seat for an `unlock` that has found others in the count. If records are popped, it grants the
+/// oldest. Else it collects the push list, and grants the oldest record of that. Returns the record that it granted: the call
+/// has ended, and the caller has to wake the thread of that seat. Returns None if the push list was empty too: the seats that
+/// are counted have not pushed their records yet, and the next step of the call posts.
+///
+/// The seat has to rest in all other mutexes. Nothing changes in them, nor in what the seat knows of them. It allocates
+/// nothing and does not wait.
+pub fn serve(pool: &Pool, seat: &mut PoolSeat, mutex: usize) -> Option<Record>
+    requires belongs { OfPool seat.old pool.now }
+    requires mutex { IsMutex mutex pool.now }
+    requires sits { SitsIn seat.old pool.now mutex }
+    requires elsewhere { RestsInOthers seat.old mutex }
+    requires at { IsServing seat.old mutex }
+    requires whole { note_of seat.old mutex ≡ rested (popped_of seat.old mutex) }
+    ensures belongs { SameSeat seat.old seat.new }
+    ensures grants { IfSome result (λ r. GrantsNextIn seat.old seat.new pool.now mutex r) }
+    ensures none { result ≡ None → FindsNoneIn seat.old seat.new pool.now mutex }
+{
+    let oldest = carried_load(pool, seat, mutex);
+    if oldest != 0 {
+        return Some(serve_oldest(pool, seat, mutex, oldest));
+    }
+    let word = clear_head(pool, seat, mutex);
+    let cleared = unpack_link(word);
+    let head = cleared.next;
+    if head == 0 {
+        return None;
+    }
+    let record = collect(pool, seat, mutex, head);
+    let Record { seat: next, stamp } = record;
+    grant(pool, seat, mutex, Record { seat: next, stamp });
+    Some(Record { seat: next, stamp })
 }

@@ -1,4 +1,4 @@
-use Rattle.lfm_pool.proofs.Trying.{at_owner, entered_free, may_free, may_taken, may_try, still_flat, tries_by, try_bounded}
+use Rattle.lfm_pool.proofs.Trying.{at_owner, entered_free, may_free, may_taken, may_try, still_flat, tries_by, try_bounded, try_holds}
 use Rattle.lfm_pool.proofs.SeveralSteps.{same_then}
 use Rattle.lfm_pool.proofs.try_lock.try_lock.Goals as goal
 
@@ -45,3 +45,14 @@ returns-clause-bounded c =
     let may = may_try s p m c.requires.belongs c.requires.mutex c.requires.may c.requires.elsewhere in
     try_bounded s k.new.seat p m k.result may
     (tries_by s f.new.seat p m f.result may (f.ensures.finds c.if-enter_if_free-eq0.false) c.requires.may.flat k.new.seat k.result c.if-enter_if_free-eq0.false c.requires.may.rests f.ensures.belongs.number k.ensures.ends)
+
+pub returns-then-enter_if_free-eq0-clause-holds : goal.returns-then-enter_if_free-eq0-clause-holds
+returns-then-enter_if_free-eq0-clause-holds c =
+    let s = c.args.seat.now in let p = c.args.pool.now in let m = c.args.mutex in
+    try_holds s c.enter_if_free.new.seat p m _ (may_try s p m c.requires.belongs c.requires.mutex c.requires.may c.requires.elsewhere) c.requires.may.rests (returns-then-enter_if_free-eq0-clause-may c)
+    (returns-then-enter_if_free-eq0-clause-tries c)
+
+pub returns-clause-holds : goal.returns-clause-holds
+returns-clause-holds c =
+    let s = c.args.seat.now in let p = c.args.pool.now in let m = c.args.mutex in
+    try_holds s c.try_taken.new.seat p m c.try_taken.result (may_try s p m c.requires.belongs c.requires.mutex c.requires.may c.requires.elsewhere) c.requires.may.rests c.try_taken.ensures.may (returns-clause-tries c)

@@ -280,6 +280,7 @@ module _ (number id m : ℕ) (l : Limits) (me me1 me2 : Me ℕ PoolView) (here :
           record {
             trail = trail2 ∙ ap (λ ts. ts ++ seen (ReleaseCountSubtract Unlocker) k ∷ []) trail1 ∙ append_assoc (part me.0 m).trail (seen (ReleaseOwnerStore Unlocker) 0 ∷ []) (seen (ReleaseCountSubtract Unlocker) k ∷ []);
             state = p2;
+            kept = second.3.listed ∙ ap (λ (y : SeatState). popped_by_step y number k second.3.popped) p1 ∙ listed2;
             run = run_next (goes_on number id l (Begin.begin x l Call.Unlock).seat first.0.state (part me.0 m) first.0 n (sits_begun number id l (part me.0 m) holds.sits Call.Unlock) first.2 first.3)
                 (subst (λ (y : View ⊤). RunGoesOn y second.0) now (goes_on number id l (part me1.0 m).state second.0.state (part me1.0 m) second.0 k (subst (λ (y : View ⊤). Sits number id l y.state y) (sym now) first.2) second.2 second.3));
           },

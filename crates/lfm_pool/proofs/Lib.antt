@@ -25,6 +25,7 @@ pub mod Splitting
 pub mod Steps
 pub mod Targets
 pub mod Trying
+pub mod UnlockSteps
 pub mod Unlocking
 pub mod Walking
 pub mod WordIndexes

@@ -54,12 +54,13 @@ pub record FindsTaken (n : ℕ) (v w : View ⊤) : Type 0 where
   pub run : RunGoesOn v w
 
 -- The seat has released the mutex and has the responsibility, since the subtraction found the count n, which is not 1: it
--- serves the oldest record of the pop list, or collects the push list first if there is none.
+-- serves the oldest record of the pop list, which is as it was, or collects the push list first if there is none.
 pub record Serves (number n : ℕ) (v w : View ⊤) : Type 0 where
   pub trail : w.trail
       ≡ v.trail ++ (seen (ReleaseOwnerStore Unlocker) 0 ∷ seen (ReleaseCountSubtract Unlocker) n ∷ [])
   pub state : w.state
       ≡ record v.state { depth = 0; point = take (Carrier.Releaser Unlocker) number (oldest v.popped) }
+  pub kept : w.popped ≡ v.popped
   pub run : RunGoesOn v w
 
 -- what the seat knows of mutex m has changed, to a view and a note of which this holds, and nothing that it knows of other

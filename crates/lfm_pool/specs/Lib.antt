@@ -19,3 +19,4 @@ pub mod Serving
 pub mod Steps
 pub mod Tables
 pub mod TryLock
+pub mod Unlock

@@ -1,16 +1,15 @@
--- Writes of the seat that carries a mutex to words that no table of a mutex has: the links of popped records, and the carried
--- word. They keep the rule of the pool.
-use Rattle.std.proofs.Common.{◌≡◌, ◌≢◌, ◌⊎◌, ℕ, ◌-◌, ◌+◌, ◌*◌, ◌<◌, ◌≤◌, List, [], ◌∷◌, drop, length, set, refl, sym, ap, ◌∙◌, subst, ⊎_elim, inl, inr, arith, length-set}
-use Rattle.std.specs.Prelude.{⊤, Bool, true, false, slice_index}
+-- Writes of the seat that carries a mutex to words that no table of a mutex has: the links of popped records, and the
+-- carried word. They keep the rule of the pool.
+use Rattle.std.proofs.Common.{◌≡◌, ◌≢◌, ℕ, ◌-◌, ◌+◌, ◌*◌, ◌<◌, List, [], ◌∷◌, drop, length, set, refl, sym, ap, ◌∙◌, subst, ⊎_elim, inl, inr, arith, length-set}
+use Rattle.std.specs.Prelude.{⊤, true, slice_index}
 use Rattle.std.proofs.lemmas.Bool.{cases_eq, false≢true}
 use Rattle.std.proofs.lemmas.List.{get_or-set_other, get_or-set_same, set-get_or}
 use mathlib.Core.Option.{some, some-injective}
 use lib.ListN.{get_elem?}
-use Rattle.atomic_table.specs.Table.{State, Me, keeps, Allows}
+use Rattle.atomic_table.specs.Table.{State, Me, keeps}
 use Rattle.atomic_table.proofs.Lists.{at_set, set_again, set_here, set_else}
 use Rattle.lfm_words.specs.declared.pop_lists.Record.{Record}
 use Rattle.lfm_protocol.specs.Limits.{max_seats}
-use Rattle.lfm_protocol.specs.Seats.{seat}
 use Rattle.lfm_laws.specs.steady.Numbered.{changed}
 use Rattle.lfm_laws.specs.table.Carried.{carries_value}
 use Rattle.lfm_table.specs.declared.seat_view.View.{View}
@@ -24,10 +23,10 @@ use Rattle.lfm_pool.specs.Carrying.{CarriesIn, MayAccess, NotesIn}
 use Rattle.lfm_pool.specs.Seats.{note_of, popped_of}
 use Rattle.lfm_pool.specs.Chain.{AreWithin, HasRecord, IsChain, first_link, first_seat}
 use Rattle.lfm_pool.specs.Rule.{own_at, link_at, wake_at, HeldPool, NobodyCarries}
-use Rattle.lfm_pool.specs.Tables.{IsUncollected, known, note, part, with_part, rests, has_link}
+use Rattle.lfm_pool.specs.Tables.{IsUncollected, note, part, with_part, rests, has_link}
 use Rattle.lfm_pool.proofs.Chains.{chain_on, has_dropped}
 use Rattle.lfm_pool.proofs.Links.{linked_busy}
-use Rattle.lfm_pool.proofs.LoneTables.{changed_same, changed_other, known_same, known_other, note_same, note_other, part_same, part_other, seats_of}
+use Rattle.lfm_pool.proofs.LoneTables.{changed_same, changed_other, note_same, note_other, part_same, part_other, seats_of}
 use Rattle.lfm_pool.proofs.PoppedRecords.{first_alone}
 use Rattle.lfm_pool.proofs.PoppedViews.{HasLinkAt, popped_view}
 use Rattle.lfm_pool.proofs.Steps.{one_carries}

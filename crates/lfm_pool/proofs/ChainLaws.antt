@@ -1,16 +1,15 @@
 -- The laws of chains.
-use Rattle.std.proofs.Common.{◌≡◌, ◌≢◌, ℕ, zero, suc, ◌+◌, ◌-◌, ◌*◌, ◌<◌, ◌≤◌, List, [], ◌∷◌, drop, length, map, nat_eq, refl, sym, ap, ◌∙◌, subst, inl, inr, arith, if◌then◌else◌}
+use Rattle.std.proofs.Common.{◌≡◌, ℕ, zero, suc, ◌-◌, ◌<◌, ◌≤◌, List, [], ◌∷◌, drop, length, refl, ap, ◌∙◌, subst, inl, inr, arith, if◌then◌else◌}
 use Rattle.std.specs.Prelude.{slice_index}
 use Rattle.std.proofs.lemmas.Bool.{ne_eqb}
 use Rattle.atomic_table.specs.Table.{State}
 use Rattle.lfm_words.specs.declared.links.Link.{Link}
 use Rattle.lfm_words.specs.declared.pop_lists.Record.{Record}
-use Rattle.lfm_words.specs.Words.{link_of, link_word, seat_field_size}
-use Rattle.lfm_protocol.specs.Limits.{max_seats}
+use Rattle.lfm_words.specs.Words.{link_of, seat_field_size}
 use Rattle.lfm_laws.proofs.table.Packing.{link_packed}
 use Rattle.lfm_table.proofs.tables.RuleKept.{length_at}
 use Rattle.lfm_pool.specs.declared.view.PoolView.{PoolView}
-use Rattle.lfm_pool.specs.Chain.{HasRecord, IsChain, first_link, first_seat}
+use Rattle.lfm_pool.specs.Chain.{HasRecord, IsChain, first_seat}
 use Rattle.lfm_pool.specs.Laws.{AreOfDifferentSeats, ChainsAreWalked, seats_of_records, walked}
 use Rattle.lfm_pool.specs.Rule.{HeldPool, link_at}
 use Rattle.lfm_pool.proofs.PoppedRecords.{popped_differ}

@@ -1,5 +1,5 @@
 -- Chains of records in link words: what becomes of them if words change, or if a record is added or taken out.
-use Rattle.std.proofs.Common.{◌≡◌, ◌⊎◌, ℕ, zero, suc, ◌-◌, ◌+◌, ◌*◌, List, [], ◌∷◌, drop, ◌∙◌, refl, inl, inr}
+use Rattle.std.proofs.Common.{◌≡◌, ◌⊎◌, ℕ, zero, suc, ◌-◌, List, [], ◌∷◌, drop, ◌∙◌, refl, inl, inr}
 use Rattle.std.specs.Prelude.{slice_index}
 use Rattle.lfm_words.specs.declared.pop_lists.Record.{Record}
 use Rattle.lfm_pool.specs.Chain.{HasRecord, IsChain, first_seat}

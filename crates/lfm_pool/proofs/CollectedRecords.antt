@@ -1,6 +1,6 @@
 -- Collecting one record: the seat after the load of its link, and after the store of its link in the chain.
-use Rattle.std.proofs.Common.{◌≡◌, ℕ, ◌+◌, ◌-◌, ◌*◌, ◌^◌, ◌<◌, ◌≤◌, List, ◌∷◌, length, refl, sym, ap, ◌∙◌, subst, arith}
-use Rattle.std.specs.Prelude.{⊤, true}
+use Rattle.std.proofs.Common.{◌≡◌, ℕ, ◌+◌, ◌-◌, ◌^◌, ◌<◌, List, ◌∷◌, length, refl, sym, ap, ◌∙◌, arith}
+use Rattle.std.specs.Prelude.{⊤}
 use Rattle.atomic_table.specs.Table.{Me}
 use Rattle.lfm_words.specs.declared.pop_lists.Record.{Record}
 use Rattle.lfm_words.specs.Popped.{oldest}
@@ -10,7 +10,6 @@ use Rattle.lfm_protocol.specs.declared.points.Point.{Point}
 use Rattle.lfm_protocol.specs.declared.seats.SeatState.{SeatState}
 use Rattle.lfm_protocol.specs.Points.{kind}
 use Rattle.lfm_table.specs.declared.operations.Access.{Access}
-use Rattle.lfm_protocol.specs.declared.points.Point.TheVariants.{TakeLinkLoad}
 use Rattle.lfm_protocol.specs.After.{loaded}
 use Rattle.lfm_protocol.specs.Place.{carries}
 use Rattle.lfm_laws.specs.table.Carried.{carries_value}
@@ -22,14 +21,14 @@ use Rattle.lfm_pool.specs.declared.pool.Pool.{Pool}
 use Rattle.lfm_pool.specs.declared.pool.PoolSeat.{PoolSeat}
 use Rattle.lfm_pool.specs.declared.view.Note.{Note}
 use Rattle.lfm_pool.specs.declared.view.PoolView.{PoolView}
-use Rattle.lfm_pool.specs.Belongs.{IsMutex, OfPool, SameSeat}
+use Rattle.lfm_pool.specs.Belongs.{IsMutex, OfPool}
 use Rattle.lfm_pool.specs.Carrying.{CarriesIn, NotesIn}
 use Rattle.lfm_pool.specs.Chain.{note_after, note_by}
 use Rattle.lfm_pool.specs.Collecting.{ClearsHead, CollectsOneIn}
 use Rattle.lfm_pool.specs.Seats.{MovesIn, note_of, popped_of, state_of}
 use Rattle.lfm_pool.specs.SeatWords.{LoadsLink}
 use Rattle.lfm_pool.specs.Steps.{IsOwnAccessOf}
-use Rattle.lfm_pool.specs.Tables.{note, part, with_part}
+use Rattle.lfm_pool.specs.Tables.{part, with_part}
 use Rattle.lfm_pool.proofs.FastPaths.{note_now, part_now, twice_with}
 
 module _ (p : Pool) (s s1 : PoolSeat) (m target n : ℕ) (mutex : IsMutex m p) (belongs : OfPool s p) (at : LoadsLink target (state_of s m)) (step : MovesIn s s1 p m n) where

@@ -1,6 +1,6 @@
 -- What each step needs of the chain: most need nothing, a step that gives the mutex away and the load of a link do. And what
 -- the seat notes after it.
-use Rattle.std.proofs.Common.{◌≡◌, ℕ, ◌+◌, List, drop, refl, sym, ap, ◌∙◌, arith, Option}
+use Rattle.std.proofs.Common.{◌≡◌, ℕ, List, drop, refl, sym, ap, ◌∙◌}
 use Rattle.std.specs.Prelude.{⊤, Bool, true, false}
 use Rattle.std.proofs.lemmas.Bool.{false≢true}
 use Rattle.lfm_words.specs.declared.pop_lists.Record.{Record}

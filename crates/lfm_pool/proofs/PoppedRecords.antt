@@ -1,6 +1,6 @@
 -- The popped records of one mutex: their seats are queued and differ, and the seat whose link a call loads next is none of
 -- them and has no grant.
-use Rattle.std.proofs.Common.{◌≡◌, ◌≢◌, ℕ, zero, suc, ◌+◌, ◌<◌, ◌≤◌, List, [], ◌∷◌, drop, length, if◌then◌else◌, refl, sym, ap, ◌∙◌, subst, inl, inr, arith, Option, Some, None}
+use Rattle.std.proofs.Common.{◌≡◌, ℕ, zero, suc, ◌+◌, ◌<◌, ◌≤◌, List, ◌∷◌, drop, length, if◌then◌else◌, refl, sym, ap, ◌∙◌, subst, inl, inr, arith, Option, None}
 use Rattle.std.specs.Prelude.{Bool, true, false}
 use Rattle.std.proofs.lemmas.Bool.{false≢true}
 use Rattle.lfm_words.specs.declared.pop_lists.Record.{Record}

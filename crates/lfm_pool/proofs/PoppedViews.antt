@@ -1,18 +1,17 @@
 -- The seats of the popped records of a mutex, by their views: each is in a call at this mutex, or sleeps there.
-use Rattle.std.proofs.Common.{◌≡◌, ◌⊎◌, ℕ, zero, suc, ◌+◌, ◌*◌, ◌<◌, ◌≤◌, List, [], ◌∷◌, length, refl, sym, ap, ◌∙◌, subst, inl, inr, arith}
-use Rattle.std.specs.Prelude.{true, false}
+use Rattle.std.proofs.Common.{◌≡◌, ◌⊎◌, ℕ, zero, suc, ◌+◌, ◌<◌, ◌≤◌, List, [], ◌∷◌, length, refl, sym, ap, ◌∙◌, subst, inl, inr, arith}
+use Rattle.std.specs.Prelude.{true}
 use Rattle.std.proofs.lemmas.Bool.{false≢true}
 use mathlib.Core.Option.{some}
 use lib.ListN.{get_elem?}
 use Rattle.atomic_table.specs.Table.{State}
 use Rattle.lfm_words.specs.declared.pop_lists.Record.{Record}
 use Rattle.lfm_protocol.specs.declared.seats.SeatState.{SeatState}
-use Rattle.lfm_protocol.specs.Core.{Core}
 use Rattle.lfm_protocol.specs.Seats.{seat}
 use Rattle.lfm_pool.specs.declared.view.PoolView.{PoolView}
 use Rattle.lfm_pool.specs.Chain.{HasRecord}
 use Rattle.lfm_pool.specs.Rule.{HeldPool}
-use Rattle.lfm_pool.specs.Tables.{IsKept, part, has_link, has_link_at}
+use Rattle.lfm_pool.specs.Tables.{part, has_link, has_link_at}
 use Rattle.lfm_pool.proofs.PoppedRecords.{popped_linked, popped_seat}
 
 pub element : {A : Type 0} (l : List A) (j : ℕ) → ((x : A) × (get_elem? l j ≡ some x)) ⊎ (length l ≤ j)

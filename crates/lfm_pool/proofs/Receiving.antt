@@ -1,5 +1,5 @@
 -- The steps of a try_receive of a seat that sleeps.
-use Rattle.std.proofs.Common.{◌≡◌, ◌≢◌, ℕ, ◌+◌, ◌-◌, ◌<◌, ◌≤◌, ◌/◌, List, [], ◌∷◌, length, nat_eq, if◌then◌else◌, refl, sym, ap, ◌∙◌, subst, arith, Option, Some, None}
+use Rattle.std.proofs.Common.{◌≡◌, ◌≢◌, ℕ, ◌-◌, ◌<◌, ◌≤◌, ◌/◌, List, [], ◌∷◌, length, nat_eq, if◌then◌else◌, refl, sym, ap, ◌∙◌, subst, arith, Option, Some, None}
 use Rattle.std.specs.Prelude.{Bool, IfSome, true, false}
 use Rattle.std.proofs.lemmas.Bool.{eq-eqb, false≢true, leb-false, leb-true, ne_eqb}
 use Rattle.lfm_model.specs.declared.answers.How.{How}
@@ -8,7 +8,6 @@ use Rattle.lfm_words.specs.declared.wakes.Wake.TheVariants.{Quiet, Waiting, Clai
 use Rattle.lfm_words.specs.Words.{grant_stamp, is_grant_word, wake_word}
 use Rattle.lfm_protocol.specs.After.{after_wake_load, how_granted}
 use Rattle.lfm_protocol.specs.declared.answers.Call.{Call}
-use Rattle.lfm_protocol.specs.declared.limits.Limits.{Limits}
 use Rattle.lfm_protocol.specs.declared.points.Entrant.{Entrant}
 use Rattle.lfm_protocol.specs.declared.points.Point.{Point}
 use Rattle.lfm_protocol.specs.declared.points.Point.TheVariants.{Rest, Asleep, ReceiveWakeLoad, ReceiveWakeStore, EnterOwnerStore}

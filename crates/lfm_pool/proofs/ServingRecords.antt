@@ -1,20 +1,17 @@
--- Serving the oldest popped record: what the load of its link tells, and the seat after the store of the carried word and the
--- grant.
-use Rattle.std.proofs.Common.{◌≡◌, ℕ, ◌+◌, ◌*◌, ◌<◌, ◌≤◌, ◌^◌, List, [], ◌∷◌, drop, length, refl, sym, ap, ◌∙◌, subst, inl, inr, arith}
-use Rattle.std.specs.Prelude.{⊤, true}
+-- Serving the oldest popped record: what the load of its link tells, and the seat after the store of the carried word and
+-- the grant.
+use Rattle.std.proofs.Common.{◌≡◌, ℕ, ◌+◌, ◌*◌, ◌<◌, ◌≤◌, List, [], ◌∷◌, drop, length, refl, sym, ap, ◌∙◌, subst, inl, inr, arith}
+use Rattle.std.specs.Prelude.{⊤}
 use Rattle.atomic_table.specs.Table.{Me}
 use Rattle.lfm_words.specs.declared.links.Link.{Link}
 use Rattle.lfm_words.specs.declared.pop_lists.Record.{Record}
 use Rattle.lfm_words.specs.declared.wakes.Wake.TheVariants.{Grant}
 use Rattle.lfm_words.specs.Words.{link_word, seat_field_size, wake_word}
-use Rattle.lfm_protocol.specs.declared.limits.Limits.{Limits}
 use Rattle.lfm_protocol.specs.declared.points.Point.{Point}
 use Rattle.lfm_protocol.specs.declared.points.Point.TheVariants.{GrantWakeStore}
-use Rattle.lfm_protocol.specs.declared.seats.SeatState.{SeatState}
 use Rattle.lfm_protocol.specs.Limits.{max_seats}
 use Rattle.lfm_protocol.specs.Place.{carries}
 use Rattle.lfm_protocol.specs.Points.{target}
-use Rattle.lfm_laws.specs.table.Carried.{carries_value}
 use Rattle.lfm_table.specs.declared.seat_view.View.{View}
 use Rattle.lfm_table.proofs.tables.StepFacts.{carrying}
 use Rattle.lfm_pool.specs.declared.pool.Pool.{Pool}
@@ -26,7 +23,7 @@ use Rattle.lfm_pool.specs.Carrying.{CarriesIn, NotesIn}
 use Rattle.lfm_pool.specs.Chain.{AreWithin, HasRecord, first_link, first_seat, note_after, rested}
 use Rattle.lfm_pool.specs.Seats.{MovesIn, RestsInOthers, SitsIn, note_of, popped_of, state_of}
 use Rattle.lfm_pool.specs.SeatWords.{Grants}
-use Rattle.lfm_pool.specs.Serving.{GrantsIn, IsOldest, ServesOldest}
+use Rattle.lfm_pool.specs.Serving.{GrantsIn, ServesOldest}
 use Rattle.lfm_pool.specs.Steps.{RestsElsewhere, Sits, Stepped}
 use Rattle.lfm_pool.specs.Tables.{note, part, with_part}
 use Rattle.lfm_pool.proofs.FastPaths.{elsewhere_with, twice_with}

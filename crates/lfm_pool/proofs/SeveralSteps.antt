@@ -1,9 +1,7 @@
 -- Several steps of a seat in one mutex of its pool: what holds of the seat after each of them, and what they add up to.
-use Rattle.std.proofs.Common.{◌≡◌, ◌≢◌, ℕ, ◌+◌, ◌*◌, ◌<◌, ◌≤◌, List, [], ◌∷◌, ◌++◌, length, nat_eq, refl, sym, ap, ◌∙◌, subst, arith, append_assoc, length-append, Option}
+use Rattle.std.proofs.Common.{◌≡◌, ℕ, ◌<◌, ◌≤◌, List, [], ◌∷◌, ◌++◌, length, refl, sym, ap, ◌∙◌, subst, arith, append_assoc, length-append, Option}
 use Rattle.std.specs.Prelude.{⊤, true, false}
 use Rattle.std.proofs.lemmas.Nat.{div-add-mod'}
-use Rattle.atomic_table.specs.Table.{Me}
-use prog.Atomic.{either}
 use Rattle.lfm_words.specs.declared.pop_lists.Record.{Record}
 use Rattle.lfm_words.specs.Popped.{oldest}
 use Rattle.lfm_words.specs.Words.{handoff_of, handoff_word}
@@ -26,8 +24,7 @@ use Rattle.lfm_table.proofs.tables.Actions.{run_next}
 use Rattle.lfm_table.proofs.tables.StepFacts.{carrying, made_of}
 use Rattle.lfm_pool.specs.declared.pool.Pool.{Pool}
 use Rattle.lfm_pool.specs.declared.pool.PoolSeat.{PoolSeat}
-use Rattle.lfm_pool.specs.declared.view.PoolView.{PoolView}
-use Rattle.lfm_pool.specs.Belongs.{OfPool, SameSeat}
+use Rattle.lfm_pool.specs.Belongs.{SameSeat}
 use Rattle.lfm_pool.specs.Chain.{needs_chain, note_after, note_since, rested}
 use Rattle.lfm_pool.specs.FastPaths.{KnowsMoreOf}
 use Rattle.lfm_pool.specs.Moves.{Made, MakesAtMostIn, MakesIn, MayStepIn, StartsIn}

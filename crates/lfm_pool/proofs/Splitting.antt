@@ -19,10 +19,9 @@ use Rattle.lfm_protocol.specs.Core.{Core}
 use Rattle.lfm_table.specs.Actions.{events_of}
 use Rattle.lfm_table.proofs.tables.SplitsAndJoins.{splits, splits_keep}
 use Rattle.lfm_pool.specs.declared.view.Known.{Known}
-use Rattle.lfm_pool.specs.declared.view.Note.{Note}
 use Rattle.lfm_pool.specs.declared.view.PoolView.{PoolView}
 use Rattle.lfm_pool.proofs.LoneTables.{seats_of}
-use Rattle.lfm_pool.specs.Tables.{any_follows, any_fits, MutexTable, IsKept, IsUncollected, known, note, part, rests, has_link, unnoted}
+use Rattle.lfm_pool.specs.Tables.{any_follows, any_fits, MutexTable, IsKept, known, note, part, rests, has_link, unnoted}
 use Rattle.lfm_pool.specs.Rule.{wake_at, HeldPool, NobodyCarries, left_view, right_view, MaySplit}
 
 -- Lists with one more element

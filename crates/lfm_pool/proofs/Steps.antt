@@ -1,5 +1,5 @@
 -- The next step of a seat in one mutex keeps the rule of the pool.
-use Rattle.std.proofs.Common.{◌≡◌, ◌≢◌, ◌⊎◌, ℕ, ◌+◌, ◌*◌, ◌<◌, ◌≤◌, List, [], ◌∷◌, drop, length, set, nat_le, refl, sym, ap, ◌∙◌, subst, ⊎_elim, inl, inr, arith, tests, Option, Some}
+use Rattle.std.proofs.Common.{◌≡◌, ◌≢◌, ◌⊎◌, ℕ, ◌+◌, ◌*◌, ◌<◌, ◌≤◌, List, drop, length, set, refl, sym, ap, ◌∙◌, subst, inl, inr, arith, tests, Option, Some}
 use Rattle.std.specs.Prelude.{⊤, Bool, true, false, slice_index}
 use Rattle.std.proofs.lemmas.List.{get_or-set_other, get_or-set_same}
 use Rattle.std.proofs.lemmas.Bool.{cases_eq, false≢true}

@@ -1,5 +1,5 @@
 -- The begin of an unlock: the two steps of its release, and the serving of the oldest queued seat after them.
-use Rattle.std.proofs.Common.{◌≡◌, ◌≢◌, ℕ, ◌+◌, ◌<◌, ◌≤◌, List, [], ◌∷◌, ◌++◌, length, Option, Some, None, refl, sym, ap, ◌∙◌, subst, arith, append_assoc, length-append}
+use Rattle.std.proofs.Common.{◌≡◌, ◌≢◌, ℕ, ◌+◌, ◌≤◌, List, [], ◌∷◌, ◌++◌, length, Option, Some, None, refl, sym, ap, ◌∙◌, subst, arith, append_assoc, length-append}
 use Rattle.std.specs.Prelude.{⊤}
 use Rattle.lfm_words.specs.declared.pop_lists.Record.{Record}
 use Rattle.lfm_words.specs.declared.wakes.Wake.TheVariants.{Grant}
@@ -21,7 +21,6 @@ use Rattle.lfm_pool.specs.declared.view.Note.{Note}
 use Rattle.lfm_pool.specs.Belongs.{IsMutex, OfPool, SameSeat}
 use Rattle.lfm_pool.specs.Chain.{rested}
 use Rattle.lfm_pool.specs.Collecting.{loads_of}
-use Rattle.lfm_pool.specs.FastPaths.{KnowsMoreOf}
 use Rattle.lfm_pool.specs.Moves.{MakesAtMostIn, MayStepIn}
 use Rattle.lfm_pool.specs.Releasing.{AreQueued, FindsNoneIn, GrantsNextIn, IsServing, collecting}
 use Rattle.lfm_pool.specs.Seats.{HoldsOnceIn, LeavesIn, RestsInOthers, ServesIn, note_of, popped_of, state_of}

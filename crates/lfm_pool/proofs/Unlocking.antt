@@ -1,6 +1,6 @@
 -- An unlock that serves the oldest queued seat: the seat after each part of it.
-use Rattle.std.proofs.Common.{◌≡◌, ◌≢◌, ℕ, ◌+◌, ◌*◌, ◌^◌, ◌<◌, ◌≤◌, List, [], ◌∷◌, ◌++◌, drop, length, nat_eq, if◌then◌else◌, refl, sym, ap, ◌∙◌, subst, arith, append_assoc}
-use Rattle.std.specs.Prelude.{⊤, true}
+use Rattle.std.proofs.Common.{◌≡◌, ◌≢◌, ℕ, ◌<◌, List, [], ◌∷◌, ◌++◌, drop, length, nat_eq, if◌then◌else◌, refl, sym, ap, ◌∙◌, subst, arith, append_assoc}
+use Rattle.std.specs.Prelude.{⊤}
 use Rattle.std.proofs.lemmas.Bool.{ne_eqb}
 use Rattle.atomic_table.specs.Table.{Me}
 use Rattle.lfm_words.specs.declared.pop_lists.Record.{Record}
@@ -34,7 +34,7 @@ use Rattle.lfm_pool.specs.Releasing.{AreQueued, FindsNone, FindsNoneIn, GrantsNe
 use Rattle.lfm_pool.specs.Seats.{MovesIn, RestsInOthers, SitsIn, note_of, popped_of, state_of}
 use Rattle.lfm_pool.specs.SeatWords.{Grants, LoadsLink}
 use Rattle.lfm_pool.specs.Serving.{GrantsIn, IsOldest, ServesOldest}
-use Rattle.lfm_pool.specs.Steps.{RestsElsewhere, Sits, Stepped}
+use Rattle.lfm_pool.specs.Steps.{RestsElsewhere, Sits}
 use Rattle.lfm_pool.specs.Tables.{note, part, with_part}
 use Rattle.lfm_pool.proofs.CarrierWords.{first_record}
 use Rattle.lfm_pool.proofs.FastPaths.{elsewhere_with, goes_on, note_now, part_now, twice_with}

@@ -1,5 +1,5 @@
 -- The walk through a cleared push list: what holds of the seat after each record that it has collected.
-use Rattle.std.proofs.Common.{◌≡◌, ◌≢◌, ℕ, ◌+◌, ◌*◌, ◌^◌, ◌<◌, ◌≤◌, List, [], ◌∷◌, ◌++◌, drop, length, nat_eq, if◌then◌else◌, refl, sym, ap, ◌∙◌, subst, arith, append_assoc, append-nil}
+use Rattle.std.proofs.Common.{◌≡◌, ◌≢◌, ℕ, ◌+◌, ◌^◌, ◌<◌, ◌≤◌, List, [], ◌∷◌, ◌++◌, drop, length, nat_eq, if◌then◌else◌, refl, sym, ap, ◌∙◌, subst, arith, append_assoc, append-nil}
 use Rattle.std.specs.Prelude.{⊤, true}
 use Rattle.std.proofs.lemmas.Bool.{ne_eqb}
 use Rattle.std.proofs.lemmas.List.{set-get_or}
@@ -7,8 +7,7 @@ use Rattle.atomic_table.specs.Table.{Me}
 use Rattle.lfm_words.specs.declared.links.Link.{Link}
 use Rattle.lfm_words.specs.declared.pop_lists.Record.{Record}
 use Rattle.lfm_words.specs.Popped.{oldest}
-use Rattle.lfm_words.specs.Words.{link_of, link_word, seat_field_size}
-use Rattle.lfm_protocol.specs.declared.kinds.Kind.{Kind}
+use Rattle.lfm_words.specs.Words.{link_of, link_word}
 use Rattle.lfm_protocol.specs.declared.points.Carrier.{Carrier}
 use Rattle.lfm_protocol.specs.declared.points.Point.{Point}
 use Rattle.lfm_protocol.specs.declared.points.Point.TheVariants.{TakeLinkLoad}
@@ -32,18 +31,18 @@ use Rattle.lfm_pool.specs.declared.view.Note.{Note}
 use Rattle.lfm_pool.specs.declared.view.PoolView.{PoolView}
 use Rattle.lfm_pool.specs.Belongs.{IsMutex, OfPool, SameSeat}
 use Rattle.lfm_pool.specs.Carrying.{CarriesIn, NotesIn}
-use Rattle.lfm_pool.specs.Chain.{first_seat, rested}
-use Rattle.lfm_pool.specs.Collecting.{Collects, CollectsIn, CollectsOneIn, loads_of, walk_head}
+use Rattle.lfm_pool.specs.Chain.{first_seat}
+use Rattle.lfm_pool.specs.Collecting.{CollectsIn, CollectsOneIn, loads_of, walk_head}
 use Rattle.lfm_pool.specs.Seats.{RestsInOthers, SitsIn, note_of, popped_of, state_of}
 use Rattle.lfm_pool.specs.SeatWords.{LoadsLink}
-use Rattle.lfm_pool.specs.Steps.{RestsElsewhere, Sits, Stepped}
+use Rattle.lfm_pool.specs.Steps.{RestsElsewhere, Sits}
 use Rattle.lfm_pool.specs.Tables.{note, part, unnoted, with_part}
 use Rattle.lfm_pool.proofs.FastPaths.{elsewhere_with, goes_on, twice_with}
 use Rattle.lfm_pool.proofs.LoneTables.{note_same, part_same}
 use Rattle.lfm_pool.proofs.SeatWords.{target_of_load}
 
--- From s0 to s the seat has collected records in mutex m, the first of them that of the seat `head`, and the last that of the
--- seat `newer`, or none if that is 0. It collects that of the seat `target` next.
+-- From s0 to s the seat has collected records in mutex m, the first of them that of the seat `head`, and the last that of
+-- the seat `newer`, or none if that is 0. It collects that of the seat `target` next.
 pub record Walking (p : Pool) (s0 s : PoolSeat) (m : ℕ) (carrier : Carrier) (head target newer : ℕ) : Type 0 where
   pub same : SameSeat s0 s
   pub only : s.place.me ≡ (with_part s0.place.me.0 m (part s.place.me.0 m) (note_of s m), s0.place.me.1)

@@ -20,8 +20,8 @@ CarriesIn s m = carries_value (state_of s m) ≡ true
 abbrev pub NotesIn : PoolSeat → PoolSeat → ℕ → Note → Type 0
 NotesIn s t m k = t.place.me ≡ (with_part s.place.me.0 m (part s.place.me.0 m) k, s.place.me.1)
 
--- The access by which the word at this index becomes f of what it was keeps the rule. It finds or stores this number, the seat
--- knows `after` then, and the access tells that these records are of seats.
+-- The access by which the word at this index becomes f of what it was keeps the rule. It finds or stores this number, the
+-- seat knows `after` then, and the access tells that these records are of seats.
 abbrev pub MayAccess : ℕ → ℕ → Me ℕ PoolView → ℕ → (ℕ → ℕ) → ℕ → PoolView → List Record → Type 0
 MayAccess slots id me index f number after within =
     Allows HeldPool slots id me index f (λ n me'. (f n ≡ number) × (me' ≡ (after, me.1)) × AreWithin max_seats within)

@@ -1,6 +1,6 @@
 -- The popped records of a mutex as a chain in the link words of their seats, from the oldest on, and what the seat that
 -- carries the mutex knows of it.
-use Rattle.std.specs.Prelude.{◌≡◌, ◌⊎◌, ⊤, ℕ, ◌-◌, ◌*◌, ◌+◌, ◌≤◌, Bool, true, false, List, [], ◌∷◌, slice_index, Option}
+use Rattle.std.specs.Prelude.{◌≡◌, ◌⊎◌, ⊤, ℕ, ◌-◌, ◌+◌, ◌≤◌, Bool, true, false, List, [], ◌∷◌, slice_index}
 use Rattle.lfm_words.specs.declared.pop_lists.Record.{Record}
 use Rattle.lfm_words.specs.Popped.{oldest}
 use Rattle.lfm_words.specs.Words.{link_word}

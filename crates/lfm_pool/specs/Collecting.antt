@@ -46,8 +46,8 @@ abbrev pub walk_head : List Record → ℕ → ℕ
 walk_head [] next = next
 walk_head (r ∷ rest) next = walk_head rest r.seat
 
--- A call of the seat with this number has collected the push list whose newest record was that of the seat `head`: the record
--- r is the oldest, and the call serves it next.
+-- A call of the seat with this number has collected the push list whose newest record was that of the seat `head`: the
+-- record r is the oldest, and the call serves it next.
 pub record Collects (carrier : Carrier) (head number : ℕ) (r : Record) (v w : View ⊤) : Type 0 where
   pub oldest : IsOldest r w.popped
   pub begins : walk_head w.popped 0 ≡ head
@@ -55,8 +55,8 @@ pub record Collects (carrier : Carrier) (head number : ℕ) (r : Record) (v w : 
   pub state : w.state ≡ record v.state { point = serves carrier number r }
   pub run : RunGoesOn v w
 
--- From s to t the seat has done so in mutex m. All records but the oldest are in the chain, and the carried word names the
--- oldest of these: what the call has to leave to the seat that it serves.
+-- From s to t the seat has done so in mutex m. All these records are in the chain, and the carried word names the one after
+-- the oldest, as the seat that is served has to find it.
 abbrev pub CollectsIn : PoolSeat → PoolSeat → Pool → ℕ → ℕ → Record → Type 0
 CollectsIn s t p m head r =
     (carrier : Carrier) × ((state_of s m).point ≡ TakeLinkLoad carrier head)

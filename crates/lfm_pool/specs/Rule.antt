@@ -34,7 +34,8 @@ NobodyCarries m views = (j : ℕ) (v : PoolView) → get_elem? views j ≡ some 
 -- - dues, chain: the popped records of a mutex are a chain in the link words, but for so many at the front: the record whose
 --   link a call has loaded last
 -- - noted: a seat that carries a mutex notes how many these are, and what the carried word holds
--- - idle: if no seat carries a mutex, all its popped records are in the chain, and the carried word has the seat of the oldest
+-- - idle: if no seat carries a mutex, all its popped records are in the chain, and the carried word has the seat of the
+--   oldest
 -- - wakes: the wake word of a seat is that of the mutex in which it does not rest
 -- - quiet, fresh: the wake word of a seat that rests in all mutexes, or is not split off yet, is QUIET
 pub record HeldPool (s : State ℕ PoolView) : Type 0 where

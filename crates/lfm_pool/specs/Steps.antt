@@ -123,7 +123,7 @@ StepsIn number id m l p me n me' =
     (w : View ⊤) × (me' ≡ (with_part me.0 m w (note_after p w (note me.0 m)), me.1))
     × Sits number id l w.state w × Stepped number p (part me.0 m) n w
 
--- The seat, whose data in mutex m are p, may make its step there, as far as the chain goes
+-- the seat, whose data in mutex m are p, may make its step there, as far as the chain goes
 abbrev pub KeepsChainIn : ℕ → ℕ → SeatState → PoolView → Type 0
 KeepsChainIn number m p v = KeepsChain p number (part v m) (note v m)
 

@@ -1,7 +1,7 @@
-//! The accesses of the seat that carries a mutex, or holds it, to words that no other seat touches then: the link words of the
-//! popped records, which are a chain from the oldest record on, and the carried word. The mutex by itself would keep its
-//! popped records in a list, so that none of these accesses is a step of its protocol: what the seat knows of the mutex stays
-//! as it is, but for its note.
+//! The accesses of the seat that carries a mutex, or holds it, to words that no other seat touches then: the link words of
+//! the popped records, which are a chain from the oldest record on, and the carried word. The mutex by itself would keep its
+//! popped records in a list, so that none of these accesses is a step of its protocol: what the seat knows of the mutex
+//! stays as it is, but for its note.
 //!
 //! In each of these functions nothing changes in other mutexes, nor in what the seat knows of them. None allocates or waits.
 ghost use Rattle.std.specs.Prelude.{◌≡◌, List, [], ◌+◌, ◌*◌, ◌^◌, ◌<◌, ◌≤◌, ℕ};
@@ -93,8 +93,8 @@ pub struct ChainLink {
     pub link: Link,
 }
 
-/// Puts the oldest popped record into the chain: stores its link there. A call does so right after it has loaded the record's
-/// link, by which the record became the oldest popped one.
+/// Puts the oldest popped record into the chain: stores its link there. A call does so right after it has loaded the
+/// record's link, by which the record became the oldest popped one.
 #[inline(always)]
 pub fn chain_store(pool: &Pool, seat: &mut PoolSeat, mutex: usize, chained: ChainLink)
     requires belongs { OfPool seat.old pool.now }

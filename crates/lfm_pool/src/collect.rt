@@ -42,8 +42,8 @@ pub struct Walk {
     pub newer: u64,
 }
 
-/// Collects one record: loads its link, which makes it the oldest popped record, and puts it into the chain. Returns the link
-/// that it loaded: the stamp of the record, and the seat of the record pushed before it, or 0 if it is the oldest.
+/// Collects one record: loads its link, which makes it the oldest popped record, and puts it into the chain. Returns the
+/// link that it loaded: the stamp of the record, and the seat of the record pushed before it, or 0 if it is the oldest.
 #[inline(always)]
 pub fn collect_one(pool: &Pool, seat: &mut PoolSeat, mutex: usize, walk: Walk) -> Link
     requires belongs { OfPool seat.old pool.now }

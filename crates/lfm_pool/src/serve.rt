@@ -1,5 +1,5 @@
-//! How a call that carries a mutex serves the oldest queued seat: whose record is popped, or else, in an `unlock`, is found by
-//! collecting the push list.
+//! How a call that carries a mutex serves the oldest queued seat: whose record is popped, or else, in an `unlock`, is found
+//! by collecting the push list.
 ghost use Rattle.std.specs.Prelude.{◌≡◌, None, IfSome};
 ghost use Rattle.lfm_pool.specs.Belongs.{IsMutex, OfPool, SameSeat};
 ghost use Rattle.lfm_pool.specs.Chain.{first_seat, rested};
@@ -14,9 +14,9 @@ use crate::seat_words::grant;
 use lfm_model::SeatNo;
 use lfm_words::{Record, unpack_link};
 
-/// Takes the oldest popped record out of the chain, and stores a grant for its seat. Returns the record. `oldest` is the seat
-/// that the carried word names. It wakes no thread: the caller has to wake the one of that seat. It makes one step of the
-/// call, and loads a link and stores the carried word before it.
+/// Takes the oldest popped record out of the chain, and stores a grant for its seat. Returns the record. `oldest` is the
+/// seat that the carried word names. It wakes no thread: the caller has to wake the one of that seat. It makes one step of
+/// the call, and loads a link and stores the carried word before it.
 ///
 /// The seat has to rest in all other mutexes. Nothing changes in them, nor in what the seat knows of them. It allocates
 /// nothing and does not wait.
@@ -55,9 +55,9 @@ pub fn serve_oldest(pool: &Pool, seat: &mut PoolSeat, mutex: usize, oldest: u64)
 }
 
 /// Serves the oldest queued seat for an `unlock` that has found others in the count. If records are popped, it grants the
-/// oldest. Else it collects the push list, and grants the oldest record of that. Returns the record that it granted: the call
-/// has ended, and the caller has to wake the thread of that seat. Returns None if the push list was empty too: the seats that
-/// are counted have not pushed their records yet, and the next step of the call posts.
+/// oldest. Else it collects the push list, and grants the oldest record of that. Returns the record that it granted: the
+/// call has ended, and the caller has to wake the thread of that seat. Returns None if the push list was empty too: the
+/// seats that are counted have not pushed their records yet, and the next step of the call posts.
 ///
 /// The seat has to rest in all other mutexes. Nothing changes in them, nor in what the seat knows of them. It allocates
 /// nothing and does not wait.

@@ -1,4 +1,4 @@
-use Rattle.std.proofs.Common.{◌≡◌, ℕ, ap, sym, subst, ◌∙◌, arith}
+use Rattle.std.proofs.Common.{ℕ, ap, sym, subst, ◌∙◌, arith}
 use Rattle.lfm_pool.specs.Collecting.{CollectsIn}
 use Rattle.lfm_pool.proofs.Walking.{now_count, walk_carries, walk_elsewhere, walk_ends, walk_room, walk_starts, walk_target, walks_on}
 use Rattle.lfm_pool.proofs.collect.collect.Goals as goal

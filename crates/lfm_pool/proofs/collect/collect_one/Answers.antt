@@ -1,10 +1,9 @@
-use Rattle.std.proofs.Common.{◌∷◌, List, ap, sym, subst, ◌∙◌}
+use Rattle.std.proofs.Common.{ap, sym, subst, ◌∙◌}
 use Rattle.lfm_words.specs.declared.links.Link.{Link}
-use Rattle.lfm_words.specs.declared.pop_lists.Record.{Record}
 use Rattle.lfm_words.specs.Words.{link_word}
 use Rattle.lfm_pool.specs.Chain.{first_link, first_seat}
 use Rattle.lfm_pool.specs.Collecting.{CollectsOneIn}
-use Rattle.lfm_pool.specs.Seats.{popped_of, state_of}
+use Rattle.lfm_pool.specs.Seats.{state_of}
 use Rattle.lfm_pool.proofs.CollectedRecords.{collected, collected_carries, collected_due, collected_popped}
 use Rattle.lfm_pool.proofs.SeatWords.{target_of_load}
 use Rattle.lfm_pool.proofs.collect.collect_one.Goals as goal

@@ -1,7 +1,6 @@
 use Rattle.std.proofs.Common.{sym, ap, ◌∙◌, Some, None}
 use Rattle.lfm_protocol.specs.After.{how_granted}
 use Rattle.lfm_pool.proofs.Receiving.{at_grant, enters, may_loaded, may_quiet, receive_bounded, receive_holds, receives, sleeps_on}
-use Rattle.lfm_pool.proofs.SeveralSteps.{same_then}
 use Rattle.lfm_pool.proofs.receive.try_receive.Goals as goal
 
 pub returns-then-not-is_grant_word-clause-may : goal.returns-then-not-is_grant_word-clause-may

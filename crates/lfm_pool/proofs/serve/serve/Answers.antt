@@ -1,4 +1,4 @@
-use Rattle.std.proofs.Common.{◌≡◌, ap, sym, ◌∙◌}
+use Rattle.std.proofs.Common.{ap, sym, ◌∙◌}
 use Rattle.lfm_pool.specs.Belongs.{OfPool}
 use Rattle.lfm_pool.specs.Tables.{note}
 use Rattle.lfm_pool.proofs.Unlocking.{cleared_elsewhere, cleared_loads, cleared_none, cleared_sits, cleared_whole, clears, collected_elsewhere, collected_grants, collected_rest, collected_sits, found_none, granted_collected, granted_popped, grants_from, none_from, none_popped, rests_too, serves_popped, serving_carries, serving_oldest, serving_too, sits_too, whole_too}

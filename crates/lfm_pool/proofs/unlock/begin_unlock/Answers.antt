@@ -1,4 +1,3 @@
-use Rattle.std.proofs.Common.{◌∙◌}
 use Rattle.lfm_pool.specs.declared.unlock.Unlocking.{Unlocking}
 use Rattle.lfm_pool.proofs.SeveralSteps.{same_then}
 use Rattle.lfm_pool.proofs.UnlockSteps.{finds_nobody, hands, is_serving, may_free, may_release, may_serve, may_unlocked, none_of, unlock_bounded, whole_to_serve}

@@ -24,8 +24,8 @@ abbrev pub release : ℕ → List Seen
 release count = seen (ReleaseOwnerStore Unlocker) 0 ∷ seen (ReleaseCountSubtract Unlocker) count ∷ []
 
 -- The unlock has found others in the count, and has granted the record r: the oldest of those that were popped, or if none
--- was, of those in the push list, which it has collected first. It found this push word then. It has ended, and the seat does
--- not hold the mutex.
+-- was, of those in the push list, which it has found in this push word and has collected first. It has ended, and the seat
+-- does not hold the mutex.
 pub record Hands (r : Record) (v w : View ⊤) : Type 0 where
   pub count : ℕ
   pub others : count ≢ 1
@@ -36,8 +36,8 @@ pub record Hands (r : Record) (v w : View ⊤) : Type 0 where
   pub state : w.state ≡ record v.state { depth = 0; point = Rest }
   pub run : RunGoesOn v w
 
--- The unlock has found others in the count, but none in the queue: no record was popped, and the push list was empty, as this
--- push word tells. It is open and posts next.
+-- The unlock has found others in the count, but none in the queue: no record was popped, and the push list was empty, as
+-- this push word tells. It is open and posts next.
 pub record FindsNobody (v w : View ⊤) : Type 0 where
   pub count : ℕ
   pub others : count ≢ 1
@@ -47,8 +47,8 @@ pub record FindsNobody (v w : View ⊤) : Type 0 where
   pub state : w.state ≡ record v.state { depth = 0; point = ReleaseHandoffStore Unlocker }
   pub run : RunGoesOn v w
 
--- From s to t the seat, which held mutex m once, has begun an unlock of it and has come this far. Before it posts, all popped
--- records have to be in the chain, and the carried word has to name the oldest: that is so.
+-- From s to t the seat, which held mutex m once, has begun an unlock of it and has come this far. If it posts next, all
+-- popped records are in the chain, and the carried word names the oldest: a step that gives the mutex away needs that.
 abbrev pub UnlocksIn : Unlocking → PoolSeat → PoolSeat → Pool → ℕ → Type 0
 UnlocksIn Unlocking.Free s t p m = LeavesIn s t p m
 UnlocksIn (Unlocking.Granted r) s t p m =

@@ -16,16 +16,16 @@ use lfm_words::Record;
 pub enum Unlocking {
     /// No other seat wanted the mutex: it is free. The call has ended.
     Free,
-    /// The mutex is granted to the seat of this record, the oldest one. The call has ended. The caller has to wake the thread
-    /// of that seat.
+    /// The mutex is granted to the seat of this record, the oldest one. The call has ended. The caller has to wake the
+    /// thread of that seat.
     Granted(Record),
     /// Other seats are counted, but none has pushed its record yet. The call is open, and its next step posts the mutex.
     Posts,
 }
 
-/// Begins an `unlock` of this mutex by a seat that holds it once. If no other seat wants the mutex, it is free then. Else the
-/// call serves the oldest queued seat: if records are popped, it grants the oldest of them; if none is, it collects the push
-/// list, and grants the oldest record of that. Returns how far the call has come. It wakes no thread.
+/// Begins an `unlock` of this mutex by a seat that holds it once. If no other seat wants the mutex, it is free then. Else
+/// the call serves the oldest queued seat: if records are popped, it grants the oldest of them; if none is, it collects the
+/// push list, and grants the oldest record of that. Returns how far the call has come. It wakes no thread.
 ///
 /// The seat has to rest in all mutexes, and to hold this one once, so that there is no refusal. It may hold other mutexes.
 /// Nothing changes in them, nor in what the seat knows of them. The call makes at most 5 atomic steps, and one more for each

@@ -1,5 +1,5 @@
 -- The steps of a lock up to the point at which its seat holds the mutex, sleeps, or has taken a post over.
-use Rattle.std.proofs.Common.{◌≡◌, ◌≢◌, ◌⊎◌, ℕ, ◌+◌, ◌-◌, ◌*◌, ◌^◌, ◌<◌, ◌≤◌, List, [], ◌∷◌, ◌++◌, length, nat_eq, nat_lt, if◌then◌else◌, refl, sym, ap, ◌∙◌, subst, inl, inr, arith, tests, length-append, Option}
+use Rattle.std.proofs.Common.{◌≡◌, ◌≢◌, ℕ, ◌+◌, ◌-◌, ◌*◌, ◌^◌, ◌<◌, ◌≤◌, List, [], ◌∷◌, ◌++◌, length, nat_eq, nat_lt, if◌then◌else◌, refl, sym, ap, ◌∙◌, subst, inl, inr, arith, tests, length-append, Option}
 use Rattle.std.specs.Prelude.{⊤, Bool, true, false}
 use Rattle.std.proofs.lemmas.Bool.{cases_eq, eq-eqb, ne_eqb, not-false, not-true}
 use Rattle.std.proofs.lemmas.Nat.{div-add-mod'}
@@ -16,34 +16,36 @@ use Rattle.lfm_protocol.specs.declared.limits.Limits.{Limits}
 use Rattle.lfm_protocol.specs.declared.points.Carrier.{Carrier}
 use Rattle.lfm_protocol.specs.declared.points.Entrant.{Entrant}
 use Rattle.lfm_protocol.specs.declared.points.Point.{Point}
-use Rattle.lfm_protocol.specs.declared.points.Point.TheVariants.{Rest, Asleep, LockCountAdd, LockOwnerLoad, PushLoad, LinkStore, PushExchange, PushedHandoffLoad, PushedHandoffExchange, EnterOwnerStore}
+use Rattle.lfm_protocol.specs.declared.points.Point.TheVariants.{Rest, Asleep, LockCountAdd, LockOwnerLoad, PushLoad, LinkStore, PushedHandoffLoad, PushedHandoffExchange, EnterOwnerStore}
 use Rattle.lfm_protocol.specs.declared.points.Pusher.{Pusher}
 use Rattle.lfm_protocol.specs.declared.points.Sleeper.TheVariants as Sleeper
 use Rattle.lfm_protocol.specs.declared.seats.SeatState.{SeatState}
 use Rattle.lfm_protocol.specs.Begin as Begin
 use Rattle.lfm_protocol.specs.Points.{kind}
 use Rattle.lfm_laws.specs.steady.Steady.{IsSeen}
+use Rattle.lfm_laws.specs.table.Carried.{carries_value}
 use Rattle.lfm_laws.specs.table.Words.{stepped_by}
 use Rattle.lfm_laws.proofs.table.Packing.{same_link_word}
 use Rattle.lfm_table.specs.declared.operations.Access.{Access}
 use Rattle.lfm_table.specs.declared.seat_view.Seen.{Seen}
 use Rattle.lfm_table.specs.declared.seat_view.View.{View}
 use Rattle.lfm_table.specs.Actions.{seen}
-use Rattle.lfm_table.proofs.tables.StepFacts.{made_of}
+use Rattle.lfm_table.proofs.tables.StepFacts.{carrying, made_of, taking}
 use Rattle.lfm_pool.specs.declared.ask.Asking.{Asking}
 use Rattle.lfm_pool.specs.declared.pool.Pool.{Pool}
 use Rattle.lfm_pool.specs.declared.pool.PoolSeat.{PoolSeat}
-use Rattle.lfm_pool.specs.Ask.{AsksIn, AskSteps, FindsChanges, IsChanged, MakesBesideFailuresIn, PushSteps, QueuesIn, QueueSteps, StepsIfPosted, TakeOverSteps, WaitsIn, asked, asked_point, attempt, attempts, failed_pushes}
+use Rattle.lfm_pool.specs.Ask.{AsksIn, AskSteps, FindsChanges, IsChanged, IsReadyAfter, MakesBesideFailuresIn, PushSteps, QueuesIn, QueueSteps, StepsIfPosted, TakeOverSteps, WaitsIn, asked, asked_point, attempt, attempts, failed_pushes}
 use Rattle.lfm_pool.specs.Belongs.{SameSeat}
 use Rattle.lfm_pool.specs.Finds.{Finds}
 use Rattle.lfm_pool.specs.Moves.{MakesIn, MayStepIn, StartsIn}
 use Rattle.lfm_pool.specs.Push.{LoadsHandoff, LoadsHandoffIn, LoadsPush, LoadsPushIn, PushesIn, StepsFrom, TakesOverIn, TakesPost}
 use Rattle.lfm_pool.specs.SeatWords.{StoresLink}
 use Rattle.lfm_pool.specs.Seats.{MayTryIn, MovesIn, state_of}
-use Rattle.lfm_pool.specs.Steps.{IsOwnAccessOf, begun_in}
+use Rattle.lfm_pool.specs.Steps.{IsPlainAccessOf, begun_in}
 use Rattle.lfm_pool.specs.Tables.{part}
 use Rattle.lfm_pool.proofs.FastPaths.{part_now}
-use Rattle.lfm_pool.proofs.SeveralSteps.{enters_by, inside, join, may_then, next_access, part_after, same_then, start_made, state_after, then_move}
+use Rattle.lfm_pool.proofs.Keeping.{idle_at}
+use Rattle.lfm_pool.proofs.SeveralSteps.{enters_by, holds_after, inside, join, may_then, next_access, part_after, same_then, start_made, state_after, then_carry, then_move, whole_after}
 use Rattle.lfm_pool.proofs.Trying.{posts_differ, same_post}
 
 -- Push words
@@ -128,14 +130,15 @@ pub record Pushing (s t : PoolSeat) (p : Pool) (m word : ℕ) : Type 0 where
   pub first : ℕ
   pub finds : List ℕ
   pub changes : FindsChanges first finds word
+  pub flat : (state_of s m).depth ≡ 0
   pub made : MakesIn s t m (seen (PushLoad Pusher.Locker) first ∷ attempts first finds) (record (state_of s m) { point = LinkStore Pusher.Locker (link_of word) })
 
 -- one step that changes only the point
 step_from : (s t : PoolSeat) (p : Pool) (m n : ℕ) (q r : Point) → StepsFrom s t p m q n r → MakesIn s t m (seen q n ∷ []) (record (state_of s m) { point = r })
-step_from s t p m n q r did = (did.0, did.1, record { trail = did.2.0.trail; state = did.2.0.state; run = did.2.0.run })
+step_from s t p m n q r did = (did.0, did.1, did.2, (record { trail = did.3.0.trail; state = did.3.0.state; run = did.3.0.run }, did.3.2))
 
 may_from : (s t : PoolSeat) (p : Pool) (m n : ℕ) (q r : Point) → MayStepIn s p m → SameSeat s t → StepsFrom s t p m q n r → MayStepIn t p m
-may_from s t p m n q r may same did = may_then s t p m may same (did.0, did.1, did.2.1)
+may_from s t p m n q r may same did = may_then s t p m may same (did.0, did.1, did.2, did.3.1)
 
 pub begins_push : (s t : PoolSeat) (p : Pool) (m word : ℕ) → MayStepIn s p m → SameSeat s t → LoadsPushIn s t p m word → Pushing s t p m word
 begins_push s t p m word may same did = record {
@@ -144,12 +147,16 @@ begins_push s t p m word may same did = record {
   first = word;
   finds = [];
   changes = refl;
+  flat = did.3.0.flat;
   made = step_from s t p m word (PushLoad Pusher.Locker) (LinkStore Pusher.Locker (link_of word)) did;
 }
 
 module _ (s t : PoolSeat) (p : Pool) (m word : ℕ) (may : MayStepIn s p m) (so : Pushing s t p m word) where
   abbrev x : SeatState
   x = state_of s m
+
+  idle : carries_value (record x { point = LinkStore Pusher.Locker (link_of word) }) ≡ false
+  idle = idle_at (record x { point = LinkStore Pusher.Locker (link_of word) }) so.flat refl
 
   pub stores_next : (link : Link) → link ≡ link_of word → StoresLink link (state_of t m)
   stores_next link e = ap (λ (z : SeatState). z.point) (state_after s t p m _ _ may so.made) ∙ ap (λ (l : Link). LinkStore Pusher.Locker l) (sym e)
@@ -159,14 +166,14 @@ module _ (s t : PoolSeat) (p : Pool) (m word : ℕ) (may : MayStepIn s p m) (so 
     did_of = subst (λ (l : Link). PushesIn t u p m l n) is did
 
     tried : MakesIn t u m (attempt word n) (record (state_of t m) { point = if same_link (link_of n) (link_of word) then PushedHandoffLoad Pusher.Locker else LinkStore Pusher.Locker (link_of n) })
-    tried = (did_of.0, did_of.1, record { trail = did_of.2.0.trail; state = did_of.2.0.state; run = did_of.2.0.run })
+    tried = (did_of.0, did_of.1, did_of.2, (record { trail = did_of.3.0.trail; state = did_of.3.0.state; run = did_of.3.0.run }, did_of.3.2))
 
     -- to which point the attempt leads, from the data that the seat had at first
     tried_to : (q : Point) → (if same_link (link_of n) (link_of word) then PushedHandoffLoad Pusher.Locker else LinkStore Pusher.Locker (link_of n)) ≡ q → MakesIn t u m (attempt word n) (record x { point = q })
     tried_to q leads = subst (λ (z : SeatState). MakesIn t u m (attempt word n) z) ((λ i. record (state_of t m) { point = leads i }) ∙ ap (λ (z : SeatState). record z { point = q }) (state_after s t p m _ _ may so.made)) tried
 
     pub may_more : SameSeat t u → MayStepIn u p m
-    may_more same = may_then t u p m so.may same (did.0, did.1, did.2.1)
+    may_more same = may_then t u p m so.may same (did.0, did.1, did.2, did.3.1)
 
     pub goes_on_pushing : SameSeat t u → IsSeen (link_of n) link → n ≢ word → Pushing s u p m n
     goes_on_pushing same is_seen other =
@@ -178,8 +185,9 @@ module _ (s t : PoolSeat) (p : Pool) (m word : ℕ) (may : MayStepIn s p m) (so 
           first = so.first;
           finds = so.finds ++ n ∷ [];
           changes = changes_more so.first so.finds word n so.changes (changed word n (subst (λ (l : Link). IsSeen (link_of n) l) is is_seen) other);
+          flat = so.flat;
           made = subst (λ (l : List Seen). MakesIn s u m (seen (PushLoad Pusher.Locker) so.first ∷ l) (record x { point = LinkStore Pusher.Locker (link_of n) })) (sym (attempts_more so.first so.finds word n so.changes))
-              (join s t u p m may _ _ so.made (attempt word n) (record x { point = LinkStore Pusher.Locker (link_of n) }) more);
+              (join s t u p m may _ _ so.made idle (attempt word n) (record x { point = LinkStore Pusher.Locker (link_of n) }) more);
         }
 
     pub has_pushed : n ≡ word → QueuesIn s u m
@@ -189,7 +197,7 @@ module _ (s t : PoolSeat) (p : Pool) (m word : ℕ) (may : MayStepIn s p m) (so 
           seen (PushLoad Pusher.Locker) so.first ∷ (attempts so.first so.finds ++ attempt word word),
           (so.first, so.finds, word, so.changes, refl),
           subst (λ (k : ℕ). MakesIn s u m (seen (PushLoad Pusher.Locker) so.first ∷ (attempts so.first so.finds ++ attempt word k)) (record x { point = PushedHandoffLoad Pusher.Locker })) same
-              (join s t u p m may _ _ so.made (attempt word n) (record x { point = PushedHandoffLoad Pusher.Locker }) more),
+              (join s t u p m may _ _ so.made idle (attempt word n) (record x { point = PushedHandoffLoad Pusher.Locker }) more),
         )
 
 -- After the push
@@ -215,13 +223,20 @@ module _ (s t : PoolSeat) (p : Pool) (m : ℕ) (may : MayStepIn s p m) (pushed :
         (step_from t u p m word (PushedHandoffLoad Pusher.Locker) _ did)
 
     pub may_handoff : MayStepIn t p m → SameSeat t u → MayStepIn u p m
-    may_handoff may1 same = may_then t u p m may1 same (did.0, did.1, did.2.1)
+    may_handoff may1 same = may_then t u p m may1 same (did.0, did.1, did.2, did.3.1)
+
+    -- the seat does not carry the mutex
+    flat : y.depth ≡ 0
+    flat = sym (ap (λ (z : SeatState). z.depth) (state_after s t p m _ _ may pushed.2)) ∙ did.3.0.flat
+
+    idle_after : carries_value (record y { point = PushedHandoffLoad Pusher.Locker }) ≡ false
+    idle_after = idle_at (record y { point = PushedHandoffLoad Pusher.Locker }) flat refl
 
     pub sleeps_at_once : is_posted_word word ≡ false → WaitsIn s u m Asking.Asleep
     sleeps_at_once none = (
       pushed.0 ++ seen (PushedHandoffLoad Pusher.Locker) word ∷ [],
       (pushed.0, word, [], pushed.1, subst (λ (b : Bool). StepsIfPosted b Asking.Asleep word []) (sym none) (refl, refl), refl),
-      join s t u p m may _ _ pushed.2 (seen (PushedHandoffLoad Pusher.Locker) word ∷ []) (record y { point = Asleep Sleeper.Locker }) (read_to (Asleep Sleeper.Locker) (handoff_none word (Asleep Sleeper.Locker) (PushedHandoffExchange Pusher.Locker (handoff_of word)) none)),
+      join s t u p m may _ _ pushed.2 idle_after (seen (PushedHandoffLoad Pusher.Locker) word ∷ []) (record y { point = Asleep Sleeper.Locker }) (read_to (Asleep Sleeper.Locker) (handoff_none word (Asleep Sleeper.Locker) (PushedHandoffExchange Pusher.Locker (handoff_of word)) none)),
     )
 
     module _ (some : is_posted_word word ≡ true) (may1 : MayStepIn t p m) where
@@ -236,7 +251,7 @@ module _ (s t : PoolSeat) (p : Pool) (m : ℕ) (may : MayStepIn s p m) (pushed :
         took_of = subst (λ (h : Handoff). TakesOverIn u v p m h n) is took
 
         pub may_post : SameSeat u v → MayStepIn v p m
-        may_post same = may_then u v p m may2 same (took.0, took.1, took.2.1)
+        may_post same = may_then u v p m may2 same (took.0, took.1, took.2, took.3.1)
 
         -- the exchange, and where it leads
         taken_to : (q : Point) → (if same_handoff (handoff_of n) (handoff_of word) then take Carrier.Locker u.number (oldest took_of.0.popped) else Asleep Sleeper.Locker) ≡ q
@@ -244,18 +259,22 @@ module _ (s t : PoolSeat) (p : Pool) (m : ℕ) (may : MayStepIn s p m) (pushed :
         taken_to q leads = (
           took_of.0,
           took_of.1,
-          record {
-            trail = took_of.2.0.trail;
-            state = took_of.2.0.state ∙ ((λ i. record (state_of u m) { point = leads i }) ∙ ap (λ (z : SeatState). record z { point = q }) (state_after t u p m _ _ may1 found));
-            run = took_of.2.0.run;
-          },
+          took_of.2,
+          (
+            record {
+              trail = took_of.3.0.trail;
+              state = took_of.3.0.state ∙ ((λ i. record (state_of u m) { point = leads i }) ∙ ap (λ (z : SeatState). record z { point = q }) (state_after t u p m _ _ may1 found));
+              run = took_of.3.0.run;
+            },
+            took_of.3.3,
+          ),
         )
 
         both_to : (k : ℕ) (q : Point) → MakesIn u v m (seen (PushedHandoffExchange Pusher.Locker (handoff_of word)) k ∷ []) (record y { point = q })
             → MakesIn s v m (pushed.0 ++ seen (PushedHandoffLoad Pusher.Locker) word ∷ seen (PushedHandoffExchange Pusher.Locker (handoff_of word)) k ∷ []) (record y { point = q })
         both_to k q last =
-            join s t v p m may _ _ pushed.2 (seen (PushedHandoffLoad Pusher.Locker) word ∷ seen (PushedHandoffExchange Pusher.Locker (handoff_of word)) k ∷ []) (record y { point = q })
-            (join t u v p m may1 _ _ found (seen (PushedHandoffExchange Pusher.Locker (handoff_of word)) k ∷ []) (record y { point = q }) last)
+            join s t v p m may _ _ pushed.2 idle_after (seen (PushedHandoffLoad Pusher.Locker) word ∷ seen (PushedHandoffExchange Pusher.Locker (handoff_of word)) k ∷ []) (record y { point = q })
+            (join t u v p m may1 _ _ found (idle_at (record y { point = PushedHandoffExchange Pusher.Locker (handoff_of word) }) flat refl) (seen (PushedHandoffExchange Pusher.Locker (handoff_of word)) k ∷ []) (record y { point = q }) last)
 
         pub sleeps_after : n ≢ word → WaitsIn s v m Asking.Asleep
         sleeps_after other =
@@ -267,7 +286,7 @@ module _ (s t : PoolSeat) (p : Pool) (m : ℕ) (may : MayStepIn s p m) (pushed :
 
         -- the view after the exchange
         now : part v.place.me.0 m ≡ took_of.0
-        now = part_now u.number u.place.id m p.limits u.place.me v.place.me v.place.me (inside u v p m may2) took_of.0 took_of.1
+        now = part_now u.number u.place.id m p.limits u.place.me v.place.me v.place.me (inside u v p m may2) took_of.0 took_of.1 took_of.2
 
         pub carries : n ≡ word → u.number ≡ s.number → WaitsIn s v m Asking.Carries
         carries same named =
@@ -322,8 +341,8 @@ module _ (s : PoolSeat) (p : Pool) (m : ℕ) (may : MayStepIn s p m) (try : MayT
   begun : begun_in s.place.me.0 m p.limits Call.Lock ≡ made_of 0 (z.takes + 1) z.posts LockCountAdd
   begun = lock_begun z p.limits try.rests try.flat try.charged
 
-  pub counts : IsOwnAccessOf p.limits.seats s.number (begun_in s.place.me.0 m p.limits Call.Lock) (Access.FetchAdd 0 1)
-  counts = subst (λ (w : SeatState). IsOwnAccessOf p.limits.seats s.number w (Access.FetchAdd 0 1)) (sym begun) ((Kind.CountAdd, refl, refl, (λ n. refl), refl), omega arith)
+  pub counts : IsPlainAccessOf p.limits.seats s.number (begun_in s.place.me.0 m p.limits Call.Lock) (Access.FetchAdd 0 1)
+  counts = subst (λ (w : SeatState). IsPlainAccessOf p.limits.seats s.number w (Access.FetchAdd 0 1)) (sym begun) (((Kind.CountAdd, refl, refl, (λ n. refl), refl), omega arith), refl)
 
   module _ (t : PoolSeat) (count : ℕ) (did : StartsIn s t p m Call.Lock count) (may1 : MayStepIn t p m) where
     -- the mutex was free
@@ -331,9 +350,9 @@ module _ (s : PoolSeat) (p : Pool) (m : ℕ) (may : MayStepIn s p m) (try : MayT
       alone : MakesIn s t m (seen LockCountAdd 0 ∷ []) (made_of 0 (z.takes + 1) z.posts (EnterOwnerStore Entrant.Locker How.Free))
       alone =
           subst (λ (n : ℕ). MakesIn s t m (seen LockCountAdd n ∷ []) (made_of 0 (z.takes + 1) z.posts (EnterOwnerStore Entrant.Locker How.Free))) free
-          (start_made s t p m count (made_of 0 (z.takes + 1) z.posts LockCountAdd) (made_of 0 (z.takes + 1) z.posts (EnterOwnerStore Entrant.Locker How.Free)) (λ o. counted_free (z.takes + 1) z.posts s.number count o free) Call.Lock may begun did)
+          (start_made s t p m count (made_of 0 (z.takes + 1) z.posts LockCountAdd) (made_of 0 (z.takes + 1) z.posts (EnterOwnerStore Entrant.Locker How.Free)) (λ o. counted_free (z.takes + 1) z.posts s.number count o free) (λ deep. refl) Call.Lock may begun did)
 
-      pub enters : IsOwnAccessOf p.limits.seats t.number (state_of t m) (Access.Store 1 t.number)
+      pub enters : IsPlainAccessOf p.limits.seats t.number (state_of t m) (Access.Store 1 t.number)
       enters = next_access s t p m _ _ p.limits.seats (Access.Store 1 t.number) may alone (enters_by p.limits.seats t.number 0 (z.takes + 1) z.posts Entrant.Locker How.Free)
 
       pub holds : (u : PoolSeat) (stored : ℕ) → MovesIn t u p m stored → stored ≡ s.number → AsksIn s u m Asking.Held
@@ -342,16 +361,16 @@ module _ (s : PoolSeat) (p : Pool) (m : ℕ) (may : MayStepIn s p m) (try : MayT
         refl,
         subst (λ (w : SeatState). MakesIn s u m (seen LockCountAdd 0 ∷ seen (EnterOwnerStore Entrant.Locker How.Free) s.number ∷ []) w) (λ i. record { depth = 1; takes = z.takes + 1; posts = z.posts; point = sym try.rests i })
             (subst (λ (n : ℕ). MakesIn s u m (seen LockCountAdd 0 ∷ seen (EnterOwnerStore Entrant.Locker How.Free) n ∷ []) (made_of 1 (z.takes + 1) z.posts Rest)) told
-            (then_move s t u p m may _ _ alone stored (made_of 1 (z.takes + 1) z.posts Rest) (λ o. refl) may1 entered)),
+            (then_carry s t u p m may _ _ alone stored (made_of 1 (z.takes + 1) z.posts Rest) (λ o. refl) refl refl refl (λ l. refl) may1 entered)),
       )
 
     -- another seat was counted
     module _ (beside : count ≢ 0) where
       second : MakesIn s t m (seen LockCountAdd count ∷ []) (made_of 0 (z.takes + 1) z.posts LockOwnerLoad)
-      second = start_made s t p m count (made_of 0 (z.takes + 1) z.posts LockCountAdd) (made_of 0 (z.takes + 1) z.posts LockOwnerLoad) (λ o. counted_taken (z.takes + 1) z.posts s.number count o beside) Call.Lock may begun did
+      second = start_made s t p m count (made_of 0 (z.takes + 1) z.posts LockCountAdd) (made_of 0 (z.takes + 1) z.posts LockOwnerLoad) (λ o. counted_taken (z.takes + 1) z.posts s.number count o beside) (λ deep. refl) Call.Lock may begun did
 
-      pub loads_owner : IsOwnAccessOf p.limits.seats t.number (state_of t m) (Access.Load 1)
-      loads_owner = next_access s t p m _ _ p.limits.seats (Access.Load 1) may second ((Kind.OwnerLoad, refl, refl, (λ n. refl), refl), omega arith)
+      pub loads_owner : IsPlainAccessOf p.limits.seats t.number (state_of t m) (Access.Load 1)
+      loads_owner = next_access s t p m _ _ p.limits.seats (Access.Load 1) may second (((Kind.OwnerLoad, refl, refl, (λ n. refl), refl), omega arith), refl)
 
       module _ (u : PoolSeat) (owner : ℕ) (loaded : MovesIn t u p m owner) (finds : Finds t.number (state_of t m) owner) (may2 : MayStepIn u p m) where
         not_own : owner ≢ t.number
@@ -362,7 +381,7 @@ module _ (s : PoolSeat) (p : Pool) (m : ℕ) (may : MayStepIn s p m) (try : MayT
             omega (arith, held, flat)
 
         third : MakesIn s u m (seen LockCountAdd count ∷ seen LockOwnerLoad owner ∷ []) (made_of 0 (z.takes + 1) z.posts (PushLoad Pusher.Locker))
-        third = then_move s t u p m may _ _ second owner (made_of 0 (z.takes + 1) z.posts (PushLoad Pusher.Locker)) (λ o. other_owner (z.takes + 1) z.posts t.number owner o not_own) may1 loaded
+        third = then_move s t u p m may _ _ second owner (made_of 0 (z.takes + 1) z.posts (PushLoad Pusher.Locker)) (λ o. other_owner (z.takes + 1) z.posts t.number owner o not_own) refl refl may1 loaded
 
         pub at_push : LoadsPush (state_of u m)
         at_push = ap (λ (w : SeatState). w.point) (state_after s u p m _ _ may third)
@@ -370,7 +389,7 @@ module _ (s : PoolSeat) (p : Pool) (m : ℕ) (may : MayStepIn s p m) (try : MayT
         module _ (v : PoolSeat) (asking : Asking) (waits : WaitsIn u v m asking) (named : t.number ≡ s.number) (same : u.number ≡ s.number) where
           waited : MakesIn s v m (seen LockCountAdd count ∷ seen LockOwnerLoad owner ∷ waits.0) (made_of 0 (z.takes + 1) z.posts (asked_point asking s.number (part v.place.me.0 m).popped))
           waited =
-              join s u v p m may _ _ third waits.0 (made_of 0 (z.takes + 1) z.posts (asked_point asking s.number (part v.place.me.0 m).popped))
+              join s u v p m may _ _ third refl waits.0 (made_of 0 (z.takes + 1) z.posts (asked_point asking s.number (part v.place.me.0 m).popped))
               (subst (λ (w : SeatState). MakesIn u v m waits.0 w)
               ((λ i. record (state_after s u p m _ _ may third i) { point = asked_point asking (same i) (part v.place.me.0 m).popped }))
               waits.2)
@@ -385,6 +404,17 @@ module _ (s : PoolSeat) (p : Pool) (m : ℕ) (may : MayStepIn s p m) (try : MayT
           asks =
               asks_as s v m asking count owner waits.0 beside not_mine waits.1
               (subst (λ (w : SeatState). MakesIn s v m (seen LockCountAdd count ∷ seen LockOwnerLoad owner ∷ waits.0) w) (flat_now (asked_point asking s.number (part v.place.me.0 m).popped)) waited)
+
+-- what the seat is ready for
+pub ready : (s t : PoolSeat) (p : Pool) (m : ℕ) (asking : Asking) → MayStepIn s p m → (state_of s m).point ≡ Rest → SameSeat s t → MayStepIn t p m → AsksIn s t m asking → IsReadyAfter asking t p m
+ready s t p m Asking.Held may rests same later asks = holds_after s t p m asks.0 (asked Asking.Held s.number (part t.place.me.0 m).popped (state_of s m)) may asks.2 later rests refl
+ready s t p m Asking.Asleep may rests same later asks = (Sleeper.Locker, ap (λ (w : SeatState). w.point) (state_after s t p m asks.0 (asked Asking.Asleep s.number (part t.place.me.0 m).popped (state_of s m)) may asks.2))
+ready s t p m Asking.Carries may rests same later asks = (
+  ap (λ (w : SeatState). w.point) (state_after s t p m asks.0 (asked Asking.Carries s.number (part t.place.me.0 m).popped (state_of s m)) may asks.2)
+      ∙ (λ i. take Carrier.Locker (sym same.number i) (oldest (part t.place.me.0 m).popped)),
+  whole_after s t p m asks.0 (asked Asking.Carries s.number (part t.place.me.0 m).popped (state_of s m)) may asks.2
+      (carrying (asked Asking.Carries s.number (part t.place.me.0 m).popped (state_of s m)) (taking Carrier.Locker s.number (oldest (part t.place.me.0 m).popped))),
+)
 
 -- The number of steps
 
@@ -437,4 +467,4 @@ ask_count Asking.Asleep number new h = more_steps Asking.Asleep h.0 h.1 h.2 new 
 ask_count Asking.Carries number new h = more_steps Asking.Carries h.0 h.1 h.2 new h.5 h.6
 
 pub ask_bounded : (s t : PoolSeat) (p : Pool) (m : ℕ) (asking : Asking) → MayStepIn s p m → AsksIn s t m asking → MakesBesideFailuresIn 7 s t m
-ask_bounded s t p m asking may asks = (asks.0, ap (λ (v : View ⊤). v.trail) (part_after s t p m _ _ may asks.2) ∙ asks.2.2.trail, ask_count asking s.number asks.0 asks.1)
+ask_bounded s t p m asking may asks = (asks.0, ap (λ (v : View ⊤). v.trail) (part_after s t p m _ _ may asks.2) ∙ asks.2.3.0.trail, ask_count asking s.number asks.0 asks.1)

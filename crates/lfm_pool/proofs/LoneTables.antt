@@ -19,8 +19,10 @@ use Rattle.lfm_table.specs.declared.seat_view.View.{View}
 use Rattle.lfm_table.specs.Rule.{no_view}
 use Rattle.lfm_table.proofs.tables.RuleKept.{length_at}
 use Rattle.lfm_pool.proofs.Resting.{resting_wakes_are_quiet}
+use Rattle.lfm_pool.specs.declared.view.Known.{Known}
+use Rattle.lfm_pool.specs.declared.view.Note.{Note}
 use Rattle.lfm_pool.specs.declared.view.PoolView.{PoolView}
-use Rattle.lfm_pool.specs.Tables.{MutexTable, IsKept, part, with_part, rests_at, rests}
+use Rattle.lfm_pool.specs.Tables.{MutexTable, IsKept, known, note, part, with_part, rests_at, rests, unnoted}
 
 pub changed_same : {A : Type 0} (f : ℕ → A) (i : ℕ) (x : A) → changed f i x i ≡ x
 changed_same f i x = rw (eq-eqb i i refl) refl
@@ -59,8 +61,20 @@ quiet_wake p h seats j v sized at rest =
 
 -- Views
 
-pub part_same : (v : PoolView) (m : ℕ) (w : View ⊤) → m < length v.parts → part (with_part v m w) m ≡ w
-part_same v m w here = get_or-set_same v.parts m w no_view here
+pub known_same : (v : PoolView) (m : ℕ) (w : View ⊤) (n : Note) → m < length v.parts → known (with_part v m w n) m ≡ record { view = w; note = n }
+known_same v m w n here = get_or-set_same v.parts m (record { view = w; note = n }) (unnoted no_view) here
 
-pub part_other : (v : PoolView) (m n : ℕ) (w : View ⊤) → n ≢ m → part (with_part v m w) n ≡ part v n
-part_other v m n w other = get_or-set_other v.parts m n w no_view other
+pub known_other : (v : PoolView) (m i : ℕ) (w : View ⊤) (n : Note) → i ≢ m → known (with_part v m w n) i ≡ known v i
+known_other v m i w n other = get_or-set_other v.parts m i (record { view = w; note = n }) (unnoted no_view) other
+
+pub part_same : (v : PoolView) (m : ℕ) (w : View ⊤) (n : Note) → m < length v.parts → part (with_part v m w n) m ≡ w
+part_same v m w n here = ap (λ (k : Known). k.view) (known_same v m w n here)
+
+pub note_same : (v : PoolView) (m : ℕ) (w : View ⊤) (n : Note) → m < length v.parts → note (with_part v m w n) m ≡ n
+note_same v m w n here = ap (λ (k : Known). k.note) (known_same v m w n here)
+
+pub part_other : (v : PoolView) (m i : ℕ) (w : View ⊤) (n : Note) → i ≢ m → part (with_part v m w n) i ≡ part v i
+part_other v m i w n other = ap (λ (k : Known). k.view) (known_other v m i w n other)
+
+pub note_other : (v : PoolView) (m i : ℕ) (w : View ⊤) (n : Note) → i ≢ m → note (with_part v m w n) i ≡ note v i
+note_other v m i w n other = ap (λ (k : Known). k.note) (known_other v m i w n other)

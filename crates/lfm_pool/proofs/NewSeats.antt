@@ -15,8 +15,9 @@ use Rattle.lfm_table.proofs.tables.FreshSeats.{fresh_became, fresh_ready, fresh_
 use Rattle.lfm_table.proofs.tables.Starts.{limit_facts}
 use Rattle.lfm_pool.specs.declared.pool.Pool.{Pool}
 use Rattle.lfm_pool.specs.declared.pool.PoolSeat.{PoolSeat}
+use Rattle.lfm_pool.specs.declared.view.Known.{Known}
 use Rattle.lfm_pool.specs.declared.view.PoolView.{PoolView}
-use Rattle.lfm_pool.specs.Tables.{part, rests}
+use Rattle.lfm_pool.specs.Tables.{part, rests, unnoted}
 use Rattle.lfm_pool.specs.Rule.{MaySplit, left_view, right_view}
 use Rattle.lfm_pool.specs.Steps.{RestsElsewhere, Sits}
 use Rattle.lfm_pool.specs.FastPaths.{MayTry}
@@ -65,17 +66,17 @@ split_may_try id l k allowed most =
 
 -- what a seat of a pool with this many mutexes knows, if it knows the same of each
 abbrev pub same_of_each : ℕ → View ⊤ → PoolView
-same_of_each mutexes v = record { parts = replicate mutexes v }
+same_of_each mutexes v = record { parts = replicate mutexes (unnoted v) }
 
 map_same : {A B : Type 0} (f : A → B) (n : ℕ) (x : A) → map f (replicate n x) ≡ replicate n (f x)
 map_same f zero x = refl
 map_same f (suc n) x = ap (λ ys. f x ∷ ys) (map_same f n x)
 
 pub left_same : (mutexes : ℕ) (l : Limits) (k : ℕ) → left_view (same_of_each mutexes (first_after l k)) ≡ same_of_each mutexes (first_after l (k + 1))
-left_same mutexes l k = λ i. record { parts = map_same with_split mutexes (first_after l k) i }
+left_same mutexes l k = λ i. record { parts = map_same (λ (x : Known). record x { view = with_split x.view }) mutexes (unnoted (first_after l k)) i }
 
 pub right_same : (mutexes : ℕ) (l : Limits) (k : ℕ) → right_view (same_of_each mutexes (first_after l k)) ≡ same_of_each mutexes (split_after l k)
-right_same mutexes l k = λ i. record { parts = map_same split_view mutexes (first_after l k) i }
+right_same mutexes l k = λ i. record { parts = map_same (λ (x : Known). unnoted (split_view x.view)) mutexes (unnoted (first_after l k)) i }
 
 same_at : {A : Type 0} (n i : ℕ) (x d : A) → i < n → get_or (replicate n x) i d ≡ x
 same_at zero i x d less = absurd (omega (arith, less))
@@ -83,18 +84,18 @@ same_at (suc n) zero x d less = refl
 same_at (suc n) (suc i) x d less = same_at n i x d (omega (arith, less))
 
 pub part_same_of_each : (mutexes m : ℕ) (v : View ⊤) → m < mutexes → part (same_of_each mutexes v) m ≡ v
-part_same_of_each mutexes m v less = same_at mutexes m v no_view less
+part_same_of_each mutexes m v less = ap (λ (x : Known). x.view) (same_at mutexes m (unnoted v) (unnoted no_view) less)
 
 pub same_may_split : (mutexes : ℕ) (l : Limits) (k : ℕ) → 0 < mutexes → k + 2 ≤ l.seats → MaySplit (same_of_each mutexes (first_after l k))
 same_may_split mutexes l k some most =
-    let long : length (replicate mutexes (first_after l k)) ≡ mutexes = length-replicate mutexes (first_after l k) in (
+    let long : length (replicate mutexes (unnoted (first_after l k))) ≡ mutexes = length-replicate mutexes (unnoted (first_after l k)) in (
       omega (arith, long, some),
       λ m less. rw (part_same_of_each mutexes m (first_after l k) (omega (arith, long, less))) (refl, most),
     )
 
 pub same_rests : (mutexes m : ℕ) (v : View ⊤) → rests v ≡ true → RestsElsewhere (same_of_each mutexes v) m
 same_rests mutexes m v rest n less other =
-    let long : length (replicate mutexes v) ≡ mutexes = length-replicate mutexes v in
+    let long : length (replicate mutexes (unnoted v)) ≡ mutexes = length-replicate mutexes (unnoted v) in
     rw (part_same_of_each mutexes n v (omega (arith, long, less))) rest
 
 -- a seat that knows the same of each mutex, where it rests, has made no step and may try, is new
@@ -102,7 +103,7 @@ pub is_new : (s : PoolSeat) (p : Pool) (number : ℕ) (l : Limits) (v : View ⊤
     → v.trail ≡ [] → rests v ≡ true → MayTry number s.place.id l v → OfPool s p × IsNew number p s
 is_new s p number l v table limits_are named me none rest may =
     let seen : (m : ℕ) → IsMutex m p → part s.place.me.0 m ≡ v = λ m less. ap (λ (z : Me ℕ PoolView). part z.0 m) me ∙ part_same_of_each p.mutexes m v less in (
-      record { table = table; parts = ap (λ (z : Me ℕ PoolView). length z.0.parts) me ∙ length-replicate p.mutexes v },
+      record { table = table; parts = ap (λ (z : Me ℕ PoolView). length z.0.parts) me ∙ length-replicate p.mutexes (unnoted v) },
       record {
         number_is = named;
         may_try = λ m less. subst (λ (z : ℕ × Limits × View ⊤). MayTry z.0 s.place.id z.1 z.2) (λ i. (sym named i, sym limits_are i, sym (seen m less) i)) may;

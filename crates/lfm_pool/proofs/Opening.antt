@@ -9,11 +9,16 @@ use Rattle.atomic_table.specs.Table.{opening}
 use Rattle.lfm_protocol.specs.declared.limits.Limits.{Limits}
 use Rattle.lfm_protocol.specs.Limits.{are_in_limits}
 use Rattle.lfm_table.specs.declared.rule.Moving.{Moving}
+use Rattle.lfm_table.specs.declared.seat_view.View.{View}
 use Rattle.lfm_table.specs.Rule.{first_view}
-use Rattle.lfm_table.proofs.tables.Starts.{starts}
+use Rattle.lfm_protocol.specs.Core.{Core}
+use Rattle.lfm_laws.specs.laws.Schedules.{reached}
+use Rattle.lfm_laws.specs.table.Carried.{carries_value}
+use Rattle.lfm_table.specs.Actions.{events_of}
+use Rattle.lfm_table.proofs.tables.Starts.{starts, starts_at}
 use Rattle.lfm_pool.proofs.NewSeats.{part_same_of_each}
 use Rattle.lfm_pool.specs.declared.view.PoolView.{PoolView}
-use Rattle.lfm_pool.specs.Tables.{any_follows, any_fits, MutexTable, IsKept, part, rests, has_link}
+use Rattle.lfm_pool.specs.Tables.{any_follows, any_fits, MutexTable, IsKept, part, rests, has_link, unnoted}
 use Rattle.lfm_pool.specs.Rule.{own_at, wake_at, HeldPool, first_pool_view}
 
 zero_at : (n i : ℕ) → ◌≡◌ {A = ℕ} (get_or (replicate n 0) i 0) 0
@@ -35,6 +40,13 @@ module _ (mutexes : ℕ) (l : Limits) (allowed : are_in_limits l.seats l.budget 
   table_opens : IsKept table
   table_opens = starts any_follows any_fits l (replicate (4 + 2 * l.seats) 0) moving allowed refl refl refl tt
 
+  -- no record is popped
+  none_popped : table_opens.core.popped ≡ []
+  unfolding table_opens
+  none_popped =
+      let at = starts_at any_follows any_fits l (replicate (4 + 2 * l.seats) 0) moving allowed refl refl refl tt in
+      ap (λ (c : Core). c.popped) (table_opens.run.here ∙ (λ i. reached (at.0 i) (events_of (at.1 i))))
+
   part_is : (m : ℕ) → m < mutexes → part (first_pool_view mutexes l) m ≡ first_view l tt
   part_is m less = part_same_of_each mutexes m (first_view l tt) less
 
@@ -51,12 +63,18 @@ module _ (mutexes : ℕ) (l : Limits) (allowed : are_in_limits l.seats l.budget 
         kept = λ m less. table_opens;
         sized = λ m less. length-replicate (4 + 2 * l.seats) 0;
         long = ap (λ w. length w) are ∙ length-replicate (mutexes * 8 + l.seats * 2) 0;
-        wide = λ j z e. ap (λ (y : PoolView). length y.parts) (sym (one_at (first_pool_view mutexes l) z j e).1) ∙ length-replicate mutexes (first_view l tt);
+        wide = λ j z e. ap (λ (y : PoolView). length y.parts) (sym (one_at (first_pool_view mutexes l) z j e).1) ∙ length-replicate mutexes (unnoted (first_view l tt));
         counted = λ m less. refl;
         parts = λ m j z less e. rw ((one_at (first_pool_view mutexes l) z j e).0, part_at j m z less e) refl;
         own = λ m i less few. zero_word (own_at m i) ∙ sym (zero_at (4 + 2 * l.seats) i);
         elsewhere = λ m n j z less less' differ e busy. absurd (false≢true (sym busy ∙ ap rests (part_at j m z less e)));
-        linked = λ m j z less e has. absurd (false≢true (sym (ap has_link (part_at j m z less e)) ∙ has));
+        popped = λ m. [];
+        listed = λ m less. none_popped;
+        linked = λ m j z less e has. absurd (false≢true (sym (ap has_link (part_at j m z less e)) ∙ has.linked));
+        dues = λ m. 0;
+        chain = λ m less. tt;
+        noted = λ m j z less e carries. absurd (false≢true (sym (ap (λ (y : View ⊤). carries_value y.state) (part_at j m z less e)) ∙ carries));
+        idle = λ m less none. (refl, zero_word (own_at m 4));
         wakes = λ m j z less e busy. absurd (false≢true (sym busy ∙ ap rests (part_at j m z less e)));
         quiet = λ j z e all. zero_word (wake_at mutexes j);
         fresh = λ j far less. zero_word (wake_at mutexes j);

@@ -85,6 +85,8 @@ module _ (number id : ℕ) (l : Limits) (p : SeatState) (v : View ⊤) (sits : S
     stepped = record {
       popped = did.popped;
       had = did.had;
+      deep = did.deep;
+      room = did.room;
       state = did.state ∙ ap (λ (i : ℕ). (stepped_by p i n (oldest did.popped)).seat) sits.seated.named;
       listed = did.listed ∙ ap (λ (i : ℕ). popped_by_step p i n did.popped) sits.seated.named;
       trail = did.trail;

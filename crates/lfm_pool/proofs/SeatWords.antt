@@ -19,6 +19,8 @@ use Rattle.lfm_laws.specs.table.Ready.{IsReady, PacksLink}
 use Rattle.lfm_table.specs.declared.operations.Access.{Access}
 use Rattle.lfm_pool.specs.declared.pool.PoolSeat.{PoolSeat}
 use Rattle.lfm_pool.specs.Belongs.{SameSeat}
+use Rattle.lfm_pool.specs.Chain.{note_after}
+use Rattle.lfm_pool.specs.Tables.{note}
 use Rattle.lfm_pool.specs.SeatWords.{StoresLink, LoadsLink, Grants, Sleeps, TakesGrant}
 use Rattle.lfm_pool.specs.Steps.{IsStepAt, IsWordAt, StepsIn, is_at_seat_word}
 use Rattle.lfm_pool.proofs.FastPaths.{length_with}
@@ -110,5 +112,5 @@ same_after s t l m n p same did = record {
   table = same.0;
   id = same.1;
   number = same.2;
-  parts = ap (λ z. length z.0.parts) did.1 ∙ length_with s.place.me.0 m did.0;
+  parts = ap (λ z. length z.0.parts) did.1 ∙ length_with s.place.me.0 m did.0 (note_after p did.0 (note s.place.me.0 m));
 }

@@ -1,21 +1,28 @@
 -- A seat that is split off the first one keeps the rule: it is split off at each table of a mutex.
 use Rattle.std.proofs.Common.{◌≡◌, ◌≢◌, ◌⊎◌, ℕ, zero, suc, ◌+◌, ◌<◌, List, [], ◌∷◌, ◌++◌, length, set, refl, sym, ap, ◌∙◌, subst, ⊎_elim, inl, inr, arith, length-set}
 use Rattle.std.specs.Prelude.{⊤, true, slice_index}
-use Rattle.std.proofs.lemmas.Bool.{false≢true}
+use Rattle.std.proofs.lemmas.Bool.{cases_eq, false≢true}
 use Rattle.std.proofs.lemmas.List.{get_or-map, length-map, length-append}
-use mathlib.Core.Option.{some, some-ne-none}
+use mathlib.Core.Option.{some, some-injective, some-ne-none}
 use lib.ListN.{get_elem?}
 use Rattle.atomic_table.specs.Table.{State, Splits}
 use Rattle.atomic_table.proofs.Lists.{at_set, set_here, set_else}
+use Rattle.lfm_words.specs.Words.{is_grant_word}
 use Rattle.lfm_table.specs.declared.seat_view.View.{View}
+use Rattle.lfm_pool.specs.Chain.{HasRecord}
 use Rattle.lfm_table.specs.Rule.{no_view, split_view, with_split}
 use Rattle.lfm_table.proofs.tables.RuleKept.{length_at}
 use Rattle.lfm_table.proofs.tables.OneView.{at_end}
-use Rattle.lfm_table.proofs.tables.SplitsAndJoins.{splits}
+use Rattle.lfm_laws.specs.laws.Schedules.{reached}
+use Rattle.lfm_laws.specs.table.Carried.{carries_value}
+use Rattle.lfm_protocol.specs.Core.{Core}
+use Rattle.lfm_table.specs.Actions.{events_of}
+use Rattle.lfm_table.proofs.tables.SplitsAndJoins.{splits, splits_keep}
+use Rattle.lfm_pool.specs.declared.view.Known.{Known}
 use Rattle.lfm_pool.specs.declared.view.PoolView.{PoolView}
 use Rattle.lfm_pool.proofs.LoneTables.{seats_of}
-use Rattle.lfm_pool.specs.Tables.{any_follows, any_fits, MutexTable, IsKept, part, rests, has_link}
-use Rattle.lfm_pool.specs.Rule.{wake_at, HeldPool, left_view, right_view, MaySplit}
+use Rattle.lfm_pool.specs.Tables.{any_follows, any_fits, MutexTable, IsKept, known, note, part, rests, has_link, unnoted}
+use Rattle.lfm_pool.specs.Rule.{wake_at, HeldPool, NobodyCarries, left_view, right_view, MaySplit}
 
 -- Lists with one more element
 
@@ -30,11 +37,17 @@ end_before (x ∷ xs) y z (suc j) e = end_before xs y z j e
 
 -- Parts
 
+left_known : (v : PoolView) (m : ℕ) → m < length v.parts → known (left_view v) m ≡ record (known v m) { view = with_split (part v m) }
+left_known v m less = get_or-map (λ (k : Known). record k { view = with_split k.view }) v.parts m (unnoted no_view) (unnoted no_view) less
+
 left_part : (v : PoolView) (m : ℕ) → m < length v.parts → part (left_view v) m ≡ with_split (part v m)
-left_part v m less = get_or-map with_split v.parts m no_view no_view less
+left_part v m less = ap (λ (k : Known). k.view) (left_known v m less)
+
+left_note : (v : PoolView) (m : ℕ) → m < length v.parts → note (left_view v) m ≡ note v m
+left_note v m less = ap (λ (k : Known). k.note) (left_known v m less)
 
 right_part : (v : PoolView) (m : ℕ) → m < length v.parts → part (right_view v) m ≡ split_view (part v m)
-right_part v m less = get_or-map split_view v.parts m no_view no_view less
+right_part v m less = ap (λ (k : Known). k.view) (get_or-map (λ (k : Known). unnoted (split_view k.view)) v.parts m (unnoted no_view) (unnoted no_view) less)
 
 module _ (v : PoolView) (may : MaySplit v) (s : State ℕ PoolView) (h : HeldPool s) (at : get_elem? s.views 0 ≡ some v) where
   within : (m : ℕ) → m < h.mutexes → m < length v.parts
@@ -51,6 +64,14 @@ module _ (v : PoolView) (may : MaySplit v) (s : State ℕ PoolView) (h : HeldPoo
 
   kept_after : (m : ℕ) → m < h.mutexes → IsKept (after m)
   kept_after m less = splits any_follows any_fits (part v m) (may.1 m (within m less)).0 (may.1 m (within m less)).1 (h.tables m) (h.kept m less) (h.parts m 0 v less at)
+
+  -- the core of the table is the same
+  same_core : (m : ℕ) (less : m < h.mutexes) → (kept_after m less).core ≡ (h.kept m less).core
+  unfolding kept_after
+  same_core m less =
+      let k = h.kept m less in
+      let same = splits_keep any_follows any_fits (part v m) (may.1 m (within m less)).0 (may.1 m (within m less)).1 (h.tables m) (h.kept m less) (h.parts m 0 v less at) in
+      (kept_after m less).run.here ∙ (λ i. reached (same.0 i) (events_of (same.1 i))) ∙ sym k.run.here
 
   lengths : (m : ℕ) → m < h.mutexes → length (table_views m) ≡ length views
   lengths m less = length-set (h.tables m).views 0 (with_split (part v m)) ∙ h.counted m less ∙ sym (length-set s.views 0 (left_view v))
@@ -97,9 +118,9 @@ module _ (v : PoolView) (may : MaySplit v) (s : State ℕ PoolView) (h : HeldPoo
     sized = h.sized;
     long = h.long;
     wide = λ j z e. ⊎_elim
-        (λ (t : (j ≡ 0) × (left_view v ≡ z)). ap (λ (y : PoolView). length y.parts) (sym t.1) ∙ length-map v.parts with_split ∙ h.wide 0 v at)
+        (λ (t : (j ≡ 0) × (left_view v ≡ z)). ap (λ (y : PoolView). length y.parts) (sym t.1) ∙ length-map v.parts (λ (k : Known). record k { view = with_split k.view }) ∙ h.wide 0 v at)
         (λ t. ⊎_elim (λ (u : (j ≢ 0) × (get_elem? s.views j ≡ some z)). h.wide j z u.1)
-        (λ (u : (j ≡ length views) × (right_view v ≡ z)). ap (λ (y : PoolView). length y.parts) (sym u.1) ∙ length-map v.parts split_view ∙ h.wide 0 v at) t)
+        (λ (u : (j ≡ length views) × (right_view v ≡ z)). ap (λ (y : PoolView). length y.parts) (sym u.1) ∙ length-map v.parts (λ (k : Known). unnoted (split_view k.view)) ∙ h.wide 0 v at) t)
         (which j z e);
     counted = λ m less. length-append (table_views m) (split_view (part v m) ∷ []) ∙ ap (λ (n : ℕ). n + 1) (lengths m less) ∙ sym (length-append views (right_view v ∷ []));
     parts = parts_after;
@@ -109,11 +130,27 @@ module _ (v : PoolView) (may : MaySplit v) (s : State ℕ PoolView) (h : HeldPoo
         (λ t. ⊎_elim (λ (u : (j ≢ 0) × (get_elem? s.views j ≡ some z)). h.elsewhere m n j z less less' differ u.1 busy)
         (λ (u : (j ≡ length views) × (right_view v ≡ z)). right_rests n z less' u.1) t)
         (which j z e);
+    popped = h.popped;
+    listed = λ m less. ap (λ (c : Core). c.popped) (same_core m less) ∙ h.listed m less;
     linked = λ m j z less e has. ⊎_elim
-        (λ (t : (j ≡ 0) × (left_view v ≡ z)). rw t.0 (h.linked m 0 v less at (sym (ap has_link (left_is m z less t.1)) ∙ has)))
-        (λ t. ⊎_elim (λ (u : (j ≢ 0) × (get_elem? s.views j ≡ some z)). h.linked m j z less u.1 has)
-        (λ (u : (j ≡ length views) × (right_view v ≡ z)). absurd (false≢true (sym (ap has_link (right_is m z less u.1)) ∙ has))) t)
+        (λ (t : (j ≡ 0) × (left_view v ≡ z)). rw t.0 (h.linked m 0 v less at (record {
+          linked = ap has_link (sym (left_is m z less t.1)) ∙ has.linked;
+          ungranted = ap (λ (i : ℕ). is_grant_word (slice_index (h.tables m).words (4 + h.seats + i))) (sym t.0) ∙ has.ungranted;
+          unpopped = λ old. has.unpopped (subst (λ (i : ℕ). HasRecord (i + 1) (h.popped m)) (sym t.0) old);
+        })))
+        (λ t. ⊎_elim
+        (λ (u : (j ≢ 0) × (get_elem? s.views j ≡ some z)). h.linked m j z less u.1 (record { linked = has.linked; ungranted = has.ungranted; unpopped = has.unpopped }))
+        (λ (u : (j ≡ length views) × (right_view v ≡ z)). absurd (false≢true (sym (ap has_link (right_is m z less u.1)) ∙ has.linked))) t)
         (which j z e);
+    dues = h.dues;
+    chain = h.chain;
+    noted = λ m j z less e carries. ⊎_elim
+        (λ (t : (j ≡ 0) × (left_view v ≡ z)). ap (λ (y : PoolView). note y m) (sym t.1) ∙ left_note v m (within m less) ∙ h.noted m 0 v less at (ap (λ (y : View ⊤). carries_value y.state) (sym (left_is m z less t.1)) ∙ carries))
+        (λ t. ⊎_elim
+        (λ (u : (j ≢ 0) × (get_elem? s.views j ≡ some z)). h.noted m j z less u.1 carries)
+        (λ (u : (j ≡ length views) × (right_view v ≡ z)). absurd (false≢true (sym (ap (λ (y : View ⊤). carries_value y.state) (right_is m z less u.1)) ∙ carries))) t)
+        (which j z e);
+    idle = λ m less none. h.idle m less (none_before m less none);
     wakes = λ m j z less e busy. ⊎_elim
         (λ (t : (j ≡ 0) × (left_view v ≡ z)). rw t.0 (h.wakes m 0 v less at (sym (left_rests m z less t.1) ∙ busy)))
         (λ t. ⊎_elim (λ (u : (j ≢ 0) × (get_elem? s.views j ≡ some z)). h.wakes m j z less u.1 busy)
@@ -126,6 +163,16 @@ module _ (v : PoolView) (may : MaySplit v) (s : State ℕ PoolView) (h : HeldPoo
         (which j z e);
     fresh = λ j far less. h.fresh j (let l = length-set s.views 0 (left_view v) in let k = length-append views (right_view v ∷ []) in omega (arith, l, k, far)) less;
   } where
+    -- a seat that did not carry the mutex does not carry it now
+    none_before : (m : ℕ) → m < h.mutexes → NobodyCarries m (views ++ right_view v ∷ []) → NobodyCarries m s.views
+    none_before m less none j z e = elim (cases_eq j 0) [
+      | inl first ↦
+          let one : v ≡ z = some-injective v z (sym at ∙ ap (λ (i : ℕ). get_elem? s.views i) (sym first) ∙ e) in
+          ap (λ (y : PoolView). carries_value (part y m).state) (sym one) ∙ ap (λ (y : View ⊤). carries_value y.state) (sym (left_part v m (within m less)))
+          ∙ none 0 (left_view v) (end_before views (right_view v) (left_view v) 0 (set_here s.views 0 (left_view v) (length_at s.views 0 v at)))
+      | inr other ↦ none j z (end_before views (right_view v) z j (set_else s.views 0 j (left_view v) other ∙ e))
+    ]
+
     -- there is room for one more seat, as the first table of a mutex tells
     room : (j : ℕ) → j ≡ length views → j < h.seats
     room j e =

@@ -53,7 +53,7 @@ queued_has_link place depth s stamp (EnterOwnerStore Entrant.Receiver how) e = a
 queued_has_link place depth s stamp _ e = absurd (cc)
 
 module _ (c : Core) (g : Ghost) (fits : Fits c g) where
-  queued_linked : (t stamp : ℕ) → g.standing t ≡ queued stamp → has_link_at (seat c.seats t).point ≡ true
+  pub queued_linked : (t stamp : ℕ) → g.standing t ≡ queued stamp → has_link_at (seat c.seats t).point ≡ true
   queued_linked t stamp e =
       let x = seat c.seats t in
       queued_has_link g.place x.depth t stamp x.point (subst (λ (z : Standing). StandsAt g.place x.depth t z x.point) e (fits.each t).stands)

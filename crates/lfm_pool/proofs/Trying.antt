@@ -1,6 +1,6 @@
 -- The steps of a try_lock of a seat that does not hold the mutex.
 use Rattle.std.proofs.Common.{◌≡◌, ◌≢◌, ℕ, ◌+◌, ◌-◌, ◌<◌, ◌≤◌, List, [], ◌∷◌, length, nat_eq, refl, sym, ap, ◌∙◌, subst, inl, inr, arith, Option}
-use Rattle.std.specs.Prelude.{Bool, true, false, Result, Ok, Err}
+use Rattle.std.specs.Prelude.{Bool, IfOk, true, false, Result, Ok, Err}
 use Rattle.std.proofs.lemmas.Bool.{eq-eqb, ne_eqb, not-false, not-true}
 use prog.Atomic.{either}
 use Rattle.lfm_model.specs.declared.answers.How.{How}
@@ -21,16 +21,18 @@ use Rattle.lfm_laws.proofs.table.Packing.{same_handoff_word}
 use Rattle.lfm_table.specs.declared.operations.Access.{Access}
 use Rattle.lfm_table.specs.declared.seat_view.Seen.{Seen}
 use Rattle.lfm_table.specs.Actions.{seen}
-use Rattle.lfm_table.proofs.tables.StepFacts.{made_of}
+use Rattle.lfm_table.proofs.tables.StepFacts.{carrying, made_of}
 use Rattle.lfm_pool.specs.declared.pool.Pool.{Pool}
 use Rattle.lfm_pool.specs.declared.pool.PoolSeat.{PoolSeat}
 use Rattle.lfm_pool.specs.Belongs.{IsMutex, OfPool, SameSeat}
 use Rattle.lfm_pool.specs.Finds.{Finds}
 use Rattle.lfm_pool.specs.Moves.{MakesAtMostIn, MakesIn, MayStepIn}
-use Rattle.lfm_pool.specs.Seats.{EntersIn, FindsTakenIn, MayTryIn, MovesIn, RestsInOthers, state_of}
-use Rattle.lfm_pool.specs.Steps.{IsOwnAccessOf}
+use Rattle.lfm_pool.specs.Chain.{needs_chain}
+use Rattle.lfm_pool.specs.Seats.{EntersIn, FindsTakenIn, HoldsOnceIn, MayTryIn, MovesIn, RestsInOthers, note_of, state_of}
+use Rattle.lfm_pool.specs.Steps.{IsPlainAccessOf}
 use Rattle.lfm_pool.specs.TryLock.{AcceptsIn, AcceptSteps, EndsTryIn, StepsIfPosted, TakenSteps, TriesIn, TrySteps, ended, tried}
-use Rattle.lfm_pool.proofs.SeveralSteps.{at_most, at_point, enters_by, join, may_then, move_made, next_access, packs_handoff, state_after, then_move}
+use Rattle.lfm_pool.proofs.Keeping.{idle_at, since_carrying, since_idle}
+use Rattle.lfm_pool.proofs.SeveralSteps.{at_most, at_point, enters_by, holds_after, join, may_then, move_made, next_access, packs_handoff, state_after, then_carry, then_move}
 
 -- Where each step leads
 
@@ -72,16 +74,19 @@ module _ (s : PoolSeat) (p : Pool) (m post : ℕ) (may : MayStepIn s p m) (at : 
   abbrev x : SeatState
   x = state_of s m
 
-  pub exchanges_post : IsOwnAccessOf p.limits.seats s.number (state_of s m) (Access.CompareExchange 2 post 0)
+  pub exchanges_post : IsPlainAccessOf p.limits.seats s.number (state_of s m) (Access.CompareExchange 2 post 0)
   exchanges_post = (
     (
-      Kind.HandoffExchange,
-      ap kind at,
-      refl,
-      (λ j. ap (λ (e : ℕ). either (nat_eq j e) 0 j) (sym (packs_handoff post) ∙ ap (λ (q : Point). handoff_word (expected_handoff_at (state_of s m) s.number q)) (sym at))),
-      refl,
+      (
+        Kind.HandoffExchange,
+        ap kind at,
+        refl,
+        (λ j. ap (λ (e : ℕ). either (nat_eq j e) 0 j) (sym (packs_handoff post) ∙ ap (λ (q : Point). handoff_word (expected_handoff_at (state_of s m) s.number q)) (sym at))),
+        refl,
+      ),
+      omega arith,
     ),
-    omega arith,
+    ap needs_chain at,
   )
 
   module _ (t : PoolSeat) (found : ℕ) (did : MovesIn s t p m found) where
@@ -89,25 +94,27 @@ module _ (s : PoolSeat) (p : Pool) (m post : ℕ) (may : MayStepIn s p m) (at : 
     loses other = (
       seen (TryHandoffExchange (handoff_of post)) found ∷ [],
       (found, other, refl),
-      move_made s t p m found (made_of x.depth x.takes x.posts (TryHandoffExchange (handoff_of post))) (made_of x.depth (x.takes - 1) x.posts Rest) (λ o. post_gone x.depth x.takes x.posts s.number post found o other) may
-          (at_point x (TryHandoffExchange (handoff_of post)) at) did,
+      move_made s t p m found (made_of x.depth x.takes x.posts (TryHandoffExchange (handoff_of post))) (made_of x.depth (x.takes - 1) x.posts Rest) (λ o. post_gone x.depth x.takes x.posts s.number post found o other)
+          (λ deep. idle_at (made_of x.depth x.takes x.posts (TryHandoffExchange (handoff_of post))) deep refl) may (at_point x (TryHandoffExchange (handoff_of post)) at) did,
     )
 
     module _ (same : found ≡ post) (may1 : MayStepIn t p m) where
       exchanged : MakesIn s t m (seen (TryHandoffExchange (handoff_of post)) post ∷ []) (made_of x.depth x.takes x.posts TryCountAdd)
       exchanged =
           subst (λ (n : ℕ). MakesIn s t m (seen (TryHandoffExchange (handoff_of post)) n ∷ []) (made_of x.depth x.takes x.posts TryCountAdd)) same
-          (move_made s t p m found (made_of x.depth x.takes x.posts (TryHandoffExchange (handoff_of post))) (made_of x.depth x.takes x.posts TryCountAdd) (λ o. post_accepted x.depth x.takes x.posts s.number post found o same) may
-          (at_point x (TryHandoffExchange (handoff_of post)) at) did)
+          (move_made s t p m found (made_of x.depth x.takes x.posts (TryHandoffExchange (handoff_of post))) (made_of x.depth x.takes x.posts TryCountAdd) (λ o. post_accepted x.depth x.takes x.posts s.number post found o same)
+          (λ deep. idle_at (made_of x.depth x.takes x.posts (TryHandoffExchange (handoff_of post))) deep refl) may (at_point x (TryHandoffExchange (handoff_of post)) at) did)
 
-      pub adds : IsOwnAccessOf p.limits.seats t.number (state_of t m) (Access.FetchAdd 0 1)
-      adds = next_access s t p m _ _ p.limits.seats (Access.FetchAdd 0 1) may exchanged ((Kind.CountAdd, refl, refl, (λ n. refl), refl), omega arith)
+      pub adds : IsPlainAccessOf p.limits.seats t.number (state_of t m) (Access.FetchAdd 0 1)
+      adds = next_access s t p m _ _ p.limits.seats (Access.FetchAdd 0 1) may exchanged (((Kind.CountAdd, refl, refl, (λ n. refl), refl), omega arith), refl)
 
       module _ (u : PoolSeat) (count : ℕ) (added : MovesIn t u p m count) (may2 : MayStepIn u p m) where
         counted : MakesIn s u m (seen (TryHandoffExchange (handoff_of post)) post ∷ seen TryCountAdd count ∷ []) (made_of x.depth x.takes x.posts (EnterOwnerStore Entrant.Trier How.Free))
-        counted = then_move s t u p m may _ _ exchanged count (made_of x.depth x.takes x.posts (EnterOwnerStore Entrant.Trier How.Free)) (λ o. refl) may1 added
+        counted =
+            then_carry s t u p m may _ _ exchanged count (made_of x.depth x.takes x.posts (EnterOwnerStore Entrant.Trier How.Free)) (λ o. refl) refl refl
+            (carrying (made_of x.depth x.takes x.posts (EnterOwnerStore Entrant.Trier How.Free)) refl) (λ l. refl) may1 added
 
-        pub enters : IsOwnAccessOf p.limits.seats u.number (state_of u m) (Access.Store 1 u.number)
+        pub enters : IsPlainAccessOf p.limits.seats u.number (state_of u m) (Access.Store 1 u.number)
         enters = next_access s u p m _ _ p.limits.seats (Access.Store 1 u.number) may counted (enters_by p.limits.seats u.number x.depth x.takes x.posts Entrant.Trier How.Free)
 
         pub accepts : (v : PoolSeat) (stored : ℕ) → MovesIn u v p m stored → stored ≡ s.number → AcceptsIn s v m post (Ok (Locked.Held How.Free))
@@ -115,7 +122,7 @@ module _ (s : PoolSeat) (p : Pool) (m post : ℕ) (may : MayStepIn s p m) (at : 
           seen (TryHandoffExchange (handoff_of post)) post ∷ seen TryCountAdd count ∷ seen (EnterOwnerStore Entrant.Trier How.Free) s.number ∷ [],
           (count, refl),
           subst (λ (n : ℕ). MakesIn s v m (seen (TryHandoffExchange (handoff_of post)) post ∷ seen TryCountAdd count ∷ seen (EnterOwnerStore Entrant.Trier How.Free) n ∷ []) (made_of 1 x.takes x.posts Rest)) told
-              (then_move s u v p m may _ _ counted stored (made_of 1 x.takes x.posts Rest) (λ o. refl) may2 entered),
+              (then_carry s u v p m may _ _ counted stored (made_of 1 x.takes x.posts Rest) (λ o. refl) refl refl refl (λ l. refl) may2 entered),
         )
 
 -- The loads of the owner and of the handoff word
@@ -129,30 +136,31 @@ module _ (s : PoolSeat) (p : Pool) (m : ℕ) (may : MayStepIn s p m) (at : (stat
   abbrev y : SeatState
   y = state_of s m
 
-  pub loads_owner : IsOwnAccessOf p.limits.seats s.number (state_of s m) (Access.Load 1)
-  loads_owner = ((Kind.OwnerLoad, ap kind at, refl, (λ n. refl), refl), omega arith)
+  pub loads_owner : IsPlainAccessOf p.limits.seats s.number (state_of s m) (Access.Load 1)
+  loads_owner = (((Kind.OwnerLoad, ap kind at, refl, (λ n. refl), refl), omega arith), ap needs_chain at)
 
   module _ (t : PoolSeat) (owner : ℕ) (did : MovesIn s t p m owner) (finds : Finds s.number (state_of s m) owner) (may1 : MayStepIn t p m) where
     other_owner : owner ≢ s.number
     other_owner same = let held = finds.owner (ap kind at) same in omega (arith, held, flat)
 
     loaded : MakesIn s t m (seen TryOwnerLoad owner ∷ []) (made_of y.depth y.takes y.posts TryHandoffLoad)
-    loaded = move_made s t p m owner (made_of y.depth y.takes y.posts TryOwnerLoad) (made_of y.depth y.takes y.posts TryHandoffLoad) (λ o. owner_loaded y.depth y.takes y.posts s.number owner o other_owner) may (at_point y TryOwnerLoad at) did
+    loaded = move_made s t p m owner (made_of y.depth y.takes y.posts TryOwnerLoad) (made_of y.depth y.takes y.posts TryHandoffLoad) (λ o. owner_loaded y.depth y.takes y.posts s.number owner o other_owner)
+        (λ deep. idle_at (made_of y.depth y.takes y.posts TryOwnerLoad) flat refl) may (at_point y TryOwnerLoad at) did
 
-    pub loads_post : IsOwnAccessOf p.limits.seats t.number (state_of t m) (Access.Load 2)
-    loads_post = next_access s t p m _ _ p.limits.seats (Access.Load 2) may loaded ((Kind.HandoffLoad, refl, refl, (λ n. refl), refl), omega arith)
+    pub loads_post : IsPlainAccessOf p.limits.seats t.number (state_of t m) (Access.Load 2)
+    loads_post = next_access s t p m _ _ p.limits.seats (Access.Load 2) may loaded (((Kind.HandoffLoad, refl, refl, (λ n. refl), refl), omega arith), refl)
 
     module _ (u : PoolSeat) (word : ℕ) (read : MovesIn t u p m word) where
       pub ends_without : is_posted_word word ≡ false → EndsTryIn s u m (Err Refusal.Busy)
       ends_without none = (
         seen TryOwnerLoad owner ∷ seen TryHandoffLoad word ∷ [],
         (owner, word, [], other_owner, subst (λ (b : Bool). StepsIfPosted b s.number word (Err Refusal.Busy) []) (sym none) (refl, refl), refl),
-        then_move s t u p m may _ _ loaded word (made_of y.depth (y.takes - 1) y.posts Rest) (λ o. nothing_posted y.depth y.takes y.posts t.number word o none) may1 read,
+        then_move s t u p m may _ _ loaded word (made_of y.depth (y.takes - 1) y.posts Rest) (λ o. nothing_posted y.depth y.takes y.posts t.number word o none) flat refl may1 read,
       )
 
       module _ (some : is_posted_word word ≡ true) where
         found : MakesIn s u m (seen TryOwnerLoad owner ∷ seen TryHandoffLoad word ∷ []) (made_of y.depth y.takes y.posts (TryHandoffExchange (handoff_of word)))
-        found = then_move s t u p m may _ _ loaded word (made_of y.depth y.takes y.posts (TryHandoffExchange (handoff_of word))) (λ o. post_found y.depth y.takes y.posts t.number word o some) may1 read
+        found = then_move s t u p m may _ _ loaded word (made_of y.depth y.takes y.posts (TryHandoffExchange (handoff_of word))) (λ o. post_found y.depth y.takes y.posts t.number word o some) flat refl may1 read
 
         pub at_post : (state_of u m).point ≡ TryHandoffExchange (handoff_of word)
         at_post = ap (λ (z : SeatState). z.point) (state_after s u p m _ _ may found)
@@ -168,7 +176,7 @@ module _ (s : PoolSeat) (p : Pool) (m : ℕ) (may : MayStepIn s p m) (at : (stat
             subst (λ (b : Bool). StepsIfPosted b s.number word result accepts.0) (sym some) (subst (λ (n : ℕ). AcceptSteps n word result accepts.0) named accepts.1),
             refl,
           ),
-          join s u v p m may _ _ found accepts.0 (ended result y) (subst (λ (z : SeatState). MakesIn u v m accepts.0 z) (ap (ended result) (state_after s u p m _ _ may found) ∙ ended_anywhere result y.depth y.takes y.posts (TryHandoffExchange (handoff_of word)) y.point) accepts.2),
+          join s u v p m may _ _ found (idle_at (made_of y.depth y.takes y.posts (TryHandoffExchange (handoff_of word))) flat refl) accepts.0 (ended result y) (subst (λ (z : SeatState). MakesIn u v m accepts.0 z) (ap (ended result) (state_after s u p m _ _ may found) ∙ ended_anywhere result y.depth y.takes y.posts (TryHandoffExchange (handoff_of word)) y.point) accepts.2),
         )
 
 -- The whole call
@@ -188,31 +196,56 @@ module _ (s t : PoolSeat) (p : Pool) (m : ℕ) where
   entered_free did = (
     seen TryCountExchange 0 ∷ seen (EnterOwnerStore Entrant.Trier How.Free) s.number ∷ [],
     inl (refl, refl),
-    (did.0, did.1, record { trail = did.2.0.trail; state = did.2.0.state; run = did.2.0.run }),
+    (
+      did.0,
+      did.1,
+      did.2,
+      (
+        record { trail = did.3.0.trail; state = did.3.0.state; run = did.3.0.run },
+        did.3.1.noted ∙ sym (since_carrying did.0 (note_of s m) (record (state_of s m) { depth = 1; takes = (state_of s m).takes + 1 }) did.3.0.state refl),
+      ),
+    ),
   )
 
   pub may_free : MayStepIn s p m → SameSeat s t → EntersIn s t p m → MayStepIn t p m
-  may_free may same did = may_then s t p m may same (did.0, did.1, did.2.1.sits)
+  may_free may same did = may_then s t p m may same (did.0, did.1, did.2, did.3.1.sits)
 
-  module _ (count : ℕ) (may : MayStepIn s p m) (did : FindsTakenIn s t p m count) where
-    taken : MakesIn s t m (seen TryCountExchange count ∷ []) (record (state_of s m) { takes = (state_of s m).takes + 1; point = TryOwnerLoad })
-    taken = (did.0, did.1, record { trail = did.2.0.trail; state = did.2.0.state; run = did.2.0.run })
+  module _ (count : ℕ) (may : MayStepIn s p m) (did : FindsTakenIn s t p m count) (flat : (state_of s m).depth ≡ 0) where
+    -- the seat does not carry the mutex
+    abbrev taken_state : SeatState
+    taken_state = record (state_of s m) { takes = (state_of s m).takes + 1; point = TryOwnerLoad }
+
+    taken : MakesIn s t m (seen TryCountExchange count ∷ []) taken_state
+    taken = (
+      did.0,
+      did.1,
+      did.2,
+      (
+        record { trail = did.3.0.trail; state = did.3.0.state; run = did.3.0.run },
+        did.3.2 ∙ sym (since_idle did.0 (note_of s m) taken_state did.3.0.state (idle_at taken_state flat refl)),
+      ),
+    )
 
     pub may_taken : SameSeat s t → MayStepIn t p m
-    may_taken same = may_then s t p m may same (did.0, did.1, did.2.1)
+    may_taken same = may_then s t p m may same (did.0, did.1, did.2, did.3.1)
 
     pub at_owner : (state_of t m).point ≡ TryOwnerLoad
     at_owner = ap (λ (z : SeatState). z.point) (state_after s t p m _ _ may taken)
 
-    pub still_flat : (state_of s m).depth ≡ 0 → (state_of t m).depth ≡ 0
-    still_flat flat = ap (λ (z : SeatState). z.depth) (state_after s t p m _ _ may taken) ∙ flat
+    pub still_flat : (state_of t m).depth ≡ 0
+    still_flat = ap (λ (z : SeatState). z.depth) (state_after s t p m _ _ may taken) ∙ flat
 
     pub tries_by : (u : PoolSeat) (result : Result Locked Refusal) → count ≢ 0 → (state_of s m).point ≡ Rest → t.number ≡ s.number → EndsTryIn t u m result → TriesIn s u m result
     tries_by u result some rests named ends = (
       seen TryCountExchange count ∷ ends.0,
       inr (count, ends.0, some, subst (λ (n : ℕ). TakenSteps n result ends.0) named ends.1, refl),
-      join s t u p m may _ _ taken ends.0 (tried result (state_of s m)) (subst (λ (z : SeatState). MakesIn t u m ends.0 z) (ap (ended result) (state_after s t p m _ _ may taken) ∙ ended_tried result (state_of s m) rests) ends.2),
+      join s t u p m may _ _ taken (idle_at taken_state flat refl) ends.0 (tried result (state_of s m)) (subst (λ (z : SeatState). MakesIn t u m ends.0 z) (ap (ended result) (state_after s t p m _ _ may taken) ∙ ended_tried result (state_of s m) rests) ends.2),
     )
+
+-- a seat that has acquired the mutex may release it
+pub try_holds : (s t : PoolSeat) (p : Pool) (m : ℕ) (result : Result Locked Refusal) → MayStepIn s p m → (state_of s m).point ≡ Rest → MayStepIn t p m → TriesIn s t m result → IfOk result (λ _. HoldsOnceIn t p m)
+try_holds s t p m (Ok locked) may rests later tries = holds_after s t p m tries.0 (tried (Ok locked) (state_of s m)) may tries.2 later rests refl
+try_holds s t p m (Err refusal) may rests later tries = tt
 
 -- The number of steps
 

@@ -1,6 +1,6 @@
 -- Which words of a pool have which index: no two words of mutexes and seats have the same.
-use Rattle.std.proofs.Common.{◌≡◌, ◌⊎◌, ℕ, ◌+◌, ◌*◌, ◌<◌, arith, inl, inr}
-use Rattle.lfm_pool.specs.Rule.{own_at, link_at, wake_at}
+use Rattle.std.proofs.Common.{◌≡◌, ◌≢◌, ◌⊎◌, ℕ, ◌+◌, ◌*◌, ◌<◌, ◌≤◌, arith, inl, inr}
+use Rattle.lfm_pool.specs.Layout.{own_at, link_at, wake_at}
 use Rattle.lfm_pool.specs.Steps.{IsWordAt}
 
 -- the word at the index is the link word or the wake word of the seat at this place
@@ -56,4 +56,21 @@ module _ (mutexes seats m index word : ℕ) (here : m < mutexes) (is : IsWordAt 
   wake_there j e = elim is [
     | inl own ↦ absurd (omega (arith, own.0, e))
     | inr seat ↦ elim seat.2 [ inl link ↦ absurd (omega (arith, link.0, seat.1, e)) | inr wake ↦ omega (arith, wake.0, wake.1, e) ]
+  ]
+
+  -- it is not that of a carried word
+  pub not_carried : (i : ℕ) → i < mutexes → own_at i 4 ≢ index
+  not_carried i less e = elim is [
+    | inl own ↦ omega (arith, own.0, own.1, e)
+    | inr seat ↦ elim seat.2 [ inl link ↦ omega (arith, link.1, e, less) | inr wake ↦ omega (arith, wake.1, e, less) ]
+  ]
+
+  -- it is that of a link word only if the word at the table is one
+  pub not_link : (j : ℕ) → (word < 4) ⊎ (4 + seats ≤ word) → link_at mutexes j ≢ index
+  not_link j other e = elim is [
+    | inl own ↦ omega (arith, own.0, own.1, e, here)
+    | inr seat ↦ elim seat.2 [
+      | inl link ↦ elim other [ inl low ↦ omega (arith, low, link.0) | inr high ↦ omega (arith, high, link.0, seat.1) ]
+      | inr wake ↦ omega (arith, wake.1, e)
+    ]
   ]

@@ -15,9 +15,12 @@ use Rattle.lfm_protocol.specs.declared.seats.SeatState.{SeatState}
 use Rattle.lfm_table.specs.declared.seat_view.Seen.{Seen}
 use Rattle.lfm_table.specs.Actions.{seen}
 use Rattle.lfm_pool.specs.declared.ask.Asking.{Asking}
+use Rattle.lfm_pool.specs.declared.pool.Pool.{Pool}
 use Rattle.lfm_pool.specs.declared.pool.PoolSeat.{PoolSeat}
+use Rattle.lfm_pool.specs.Chain.{rested}
 use Rattle.lfm_pool.specs.Moves.{MakesIn}
-use Rattle.lfm_pool.specs.Seats.{state_of}
+use Rattle.lfm_pool.specs.Seats.{HoldsOnceIn, note_of, popped_of, state_of}
+use Rattle.lfm_pool.specs.SeatWords.{Sleeps}
 use Rattle.lfm_pool.specs.Tables.{part}
 
 -- The push
@@ -105,6 +108,14 @@ asked asking number popped x = record x { takes = x.takes + 1; point = asked_poi
 -- from s to t the seat, which did not hold mutex m, has begun a lock of it and has come this far
 abbrev pub AsksIn : PoolSeat → PoolSeat → ℕ → Asking → Type 0
 AsksIn s t m asking = (new : List Seen) × AskSteps asking s.number new × MakesIn s t m new (asked asking s.number (part t.place.me.0 m).popped (state_of s m))
+
+-- What the seat is ready for after this answer: to release the mutex, to receive a grant, or to serve the oldest record, and
+-- to collect the push list first if no record is popped.
+abbrev pub IsReadyAfter : Asking → PoolSeat → Pool → ℕ → Type 0
+IsReadyAfter Asking.Held t p m = HoldsOnceIn t p m
+IsReadyAfter Asking.Asleep t p m = Sleeps (state_of t m)
+IsReadyAfter Asking.Carries t p m =
+    ((state_of t m).point ≡ take Carrier.Locker t.number (oldest (popped_of t m))) × (note_of t m ≡ rested (popped_of t m))
 
 -- Bounds
 

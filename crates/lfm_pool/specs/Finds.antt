@@ -11,7 +11,8 @@ use Rattle.lfm_laws.specs.steady.Steady.{IsSeen}
 
 -- The step of the seat with this number, whose data are p, has found n.
 -- - owner: a load of the owner finds the number of the seat only if it holds the mutex
--- - sees: an exchange of the push word finds the word that was loaded, or a later one
+-- - sees: an exchange of the push word finds the word that was loaded, or one with a later stamp, or one whose list was
+--   cleared
 pub record Finds (number : ℕ) (p : SeatState) (n : ℕ) : Type 0 where
   pub owner : kind p.point ≡ Some Kind.OwnerLoad → n ≡ number → 0 < p.depth
   pub sees : (pusher : Pusher) (loaded : Link) → p.point ≡ PushExchange pusher loaded → IsSeen (link_of n) loaded

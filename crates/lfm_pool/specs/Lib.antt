@@ -1,14 +1,22 @@
 -- What contracts say of a pool.
 pub mod Ask
 pub mod Belongs
+pub mod Carrying
+pub mod Chain
+pub mod Collecting
 pub mod FastPaths
 pub mod Finds
+pub mod Laws
+pub mod Layout
 pub mod Moves
 pub mod Push
 pub mod Receive
+pub mod Releasing
 pub mod Rule
 pub mod SeatWords
 pub mod Seats
+pub mod Serving
 pub mod Steps
 pub mod Tables
 pub mod TryLock
+pub mod Unlock

@@ -8,8 +8,9 @@ use Rattle.lfm_table.specs.Actions.{RunGoesOn}
 use Rattle.lfm_pool.specs.declared.pool.Pool.{Pool}
 use Rattle.lfm_pool.specs.declared.pool.PoolSeat.{PoolSeat}
 use Rattle.lfm_pool.specs.Belongs.{IsMutex, OfPool}
+use Rattle.lfm_pool.specs.Chain.{note_since}
 use Rattle.lfm_pool.specs.FastPaths.{KnowsMoreOf}
-use Rattle.lfm_pool.specs.Seats.{RestsInOthers, SitsIn}
+use Rattle.lfm_pool.specs.Seats.{RestsInOthers, SitsIn, note_of}
 use Rattle.lfm_pool.specs.Steps.{StepsIn, begun_in}
 use Rattle.lfm_pool.specs.Tables.{part}
 
@@ -26,9 +27,11 @@ pub record Made (new : List Seen) (x : SeatState) (v w : View ⊤) : Type 0 wher
   pub state : w.state ≡ x
   pub run : RunGoesOn v w
 
--- from s to t the seat has made exactly these steps in mutex m
+-- From s to t the seat has made exactly these steps in mutex m. If it carries the mutex now, or holds it, all popped records
+-- are in the chain and the carried word names the oldest; else its note is as it was.
 abbrev pub MakesIn : PoolSeat → PoolSeat → ℕ → List Seen → SeatState → Type 0
-MakesIn s t m new x = KnowsMoreOf m (Made new x (part s.place.me.0 m)) s.place.me t.place.me
+MakesIn s t m new x =
+    KnowsMoreOf m (λ w k. Made new x (part s.place.me.0 m) w × (k ≡ note_since w (note_of s m))) s.place.me t.place.me
 
 -- from s to t the seat has begun this call in mutex m and made its first step, which found or stored n
 abbrev pub StartsIn : PoolSeat → PoolSeat → Pool → ℕ → Call → ℕ → Type 0

@@ -1,5 +1,5 @@
 -- What the steps leave by which a lock puts its record into the queue.
-use Rattle.std.specs.Prelude.{◌≡◌, ⊤, ℕ, ◌++◌, ◌+◌, [], ◌∷◌, nat_eq, if◌then◌else◌}
+use Rattle.std.specs.Prelude.{◌≡◌, ⊤, ℕ, ◌++◌, ◌+◌, [], ◌∷◌, true, nat_eq, if◌then◌else◌}
 use Rattle.lfm_words.specs.declared.links.Link.{Link}
 use Rattle.lfm_words.specs.Words.{handoff_of, link_of, link_word}
 use Rattle.lfm_words.specs.declared.handoffs.Handoff.{Handoff}
@@ -15,22 +15,28 @@ use Rattle.lfm_table.specs.declared.seat_view.View.{View}
 use Rattle.lfm_table.specs.Actions.{RunGoesOn, seen}
 use Rattle.lfm_pool.specs.declared.pool.Pool.{Pool}
 use Rattle.lfm_pool.specs.declared.pool.PoolSeat.{PoolSeat}
+use Rattle.lfm_pool.specs.Chain.{note_since, rested}
 use Rattle.lfm_pool.specs.FastPaths.{KnowsMoreOf}
 use Rattle.lfm_pool.specs.Steps.{Sits}
-use Rattle.lfm_pool.specs.Tables.{part}
+use Rattle.lfm_pool.specs.Tables.{note, part}
 
--- The seat, which had loaded the push word `loaded`, has stored its link, and its exchange has found n. Its record was
--- pushed if that is the word that it had loaded; else it has loaded n.
+-- The seat, which does not hold the mutex and had loaded the push word `loaded`, has stored its link, and its exchange has
+-- found n. Its record was pushed if that is the word that it had loaded; else it has loaded n.
 pub record Pushes (loaded : Link) (n : ℕ) (v w : View ⊤) : Type 0 where
   pub trail : w.trail
       ≡ v.trail ++ (seen (LinkStore Pusher.Locker loaded) (link_word (record { stamp = loaded.stamp + 1; next = loaded.next })) ∷ seen (PushExchange Pusher.Locker loaded) n ∷ [])
+  pub flat : v.state.depth ≡ 0
   pub state : w.state ≡ record v.state { point = if same_link (link_of n) loaded then PushedHandoffLoad Pusher.Locker else LinkStore Pusher.Locker (link_of n) }
   pub run : RunGoesOn v w
 
 -- from s to t the seat has made such an attempt in mutex m, which found n
 abbrev pub PushesIn : PoolSeat → PoolSeat → Pool → ℕ → Link → ℕ → Type 0
 PushesIn s t p m loaded n =
-    KnowsMoreOf m (λ w. Pushes loaded n (part s.place.me.0 m) w × Sits s.number s.place.id p.limits w.state w) s.place.me t.place.me
+    KnowsMoreOf m
+    (λ w k.
+    Pushes loaded n (part s.place.me.0 m) w × Sits s.number s.place.id p.limits w.state w
+    × (k ≡ note_since w (note s.place.me.0 m)))
+    s.place.me t.place.me
 
 -- a lock loads the push word next
 abbrev pub LoadsPush : SeatState → Type 0
@@ -40,15 +46,22 @@ LoadsPush p = p.point ≡ PushLoad Pusher.Locker
 abbrev pub LoadsHandoff : SeatState → Type 0
 LoadsHandoff p = p.point ≡ PushedHandoffLoad Pusher.Locker
 
--- the seat has made one step, at the point p, which found n; it is at the point q now, and has nothing else changed
+-- the seat, which does not hold the mutex, has made one step, at the point p, which found n; it is at the point q now, and
+-- has nothing else changed
 pub record Steps (p : Point) (n : ℕ) (q : Point) (v w : View ⊤) : Type 0 where
   pub trail : w.trail ≡ v.trail ++ seen p n ∷ []
+  pub flat : v.state.depth ≡ 0
   pub state : w.state ≡ record v.state { point = q }
   pub run : RunGoesOn v w
 
 -- from s to t the seat has made such a step in mutex m
 abbrev pub StepsFrom : PoolSeat → PoolSeat → Pool → ℕ → Point → ℕ → Point → Type 0
-StepsFrom s t p m q n r = KnowsMoreOf m (λ w. Steps q n r (part s.place.me.0 m) w × Sits s.number s.place.id p.limits w.state w) s.place.me t.place.me
+StepsFrom s t p m q n r =
+    KnowsMoreOf m
+    (λ w k.
+    Steps q n r (part s.place.me.0 m) w × Sits s.number s.place.id p.limits w.state w
+    × (k ≡ note_since w (note s.place.me.0 m)))
+    s.place.me t.place.me
 
 -- from s to t the seat has loaded the push word n of mutex m, and stores its link next
 abbrev pub LoadsPushIn : PoolSeat → PoolSeat → Pool → ℕ → ℕ → Type 0
@@ -64,11 +77,12 @@ LoadsHandoffIn s t p m n =
 abbrev pub TakesPost : Handoff → SeatState → Type 0
 TakesPost posted p = p.point ≡ PushedHandoffExchange Pusher.Locker posted
 
--- The exchange of the handoff word found n. If that is the post that was loaded, the seat with this number has the
--- responsibility: it serves the oldest record of the pop list, or collects the push list first if there is none. Else it
--- sleeps.
+-- The seat with this number, which does not hold the mutex, has found n by its exchange of the handoff word. If that is the
+-- post that was loaded, the seat has the responsibility: it serves the oldest record of the pop list, or collects the push
+-- list first if there is none. Else it sleeps.
 pub record TakesOver (number : ℕ) (posted : Handoff) (n : ℕ) (v w : View ⊤) : Type 0 where
   pub trail : w.trail ≡ v.trail ++ seen (PushedHandoffExchange Pusher.Locker posted) n ∷ []
+  pub flat : v.state.depth ≡ 0
   pub state : w.state
       ≡ record v.state { point = if same_handoff (handoff_of n) posted then take Carrier.Locker number (oldest w.popped) else Asleep Sleeper.Locker }
   pub run : RunGoesOn v w
@@ -76,4 +90,8 @@ pub record TakesOver (number : ℕ) (posted : Handoff) (n : ℕ) (v w : View ⊤
 -- from s to t the seat has made that exchange in mutex m
 abbrev pub TakesOverIn : PoolSeat → PoolSeat → Pool → ℕ → Handoff → ℕ → Type 0
 TakesOverIn s t p m posted n =
-    KnowsMoreOf m (λ w. TakesOver s.number posted n (part s.place.me.0 m) w × Sits s.number s.place.id p.limits w.state w) s.place.me t.place.me
+    KnowsMoreOf m
+    (λ w k.
+    TakesOver s.number posted n (part s.place.me.0 m) w × Sits s.number s.place.id p.limits w.state w
+    × (same_handoff (handoff_of n) posted ≡ true → k ≡ rested w.popped) × (k ≡ note_since w (note s.place.me.0 m)))
+    s.place.me t.place.me

@@ -10,8 +10,10 @@ use Rattle.lfm_protocol.specs.declared.points.Point.{Point}
 use Rattle.lfm_protocol.specs.declared.points.Point.TheVariants.{LinkStore, TakeLinkLoad, GrantWakeStore, ReceiveWakeLoad, ReceiveWakeStore}
 use Rattle.lfm_protocol.specs.declared.points.Pusher.{Pusher}
 use Rattle.lfm_protocol.specs.Points.{kind, target}
+use Rattle.lfm_protocol.specs.Room.{PopFits}
 use Rattle.lfm_words.specs.Popped.{oldest}
 use Rattle.lfm_words.specs.declared.pop_lists.Record.{Record}
+use Rattle.lfm_laws.specs.steady.Steady.{DepthAt}
 use Rattle.lfm_laws.specs.table.Carried.{carries_value}
 use Rattle.lfm_laws.specs.table.Words.{index_by, written_by, stepped_by, popped_by_step}
 use Rattle.lfm_table.specs.declared.operations.Access.{Access}
@@ -24,7 +26,8 @@ use Rattle.lfm_table.specs.Rule.{value_in, in_hand}
 use Rattle.lfm_pool.specs.declared.accesses.PoolAccess.{PoolAccess}
 use Rattle.lfm_pool.specs.declared.view.PoolView.{PoolView}
 use Rattle.lfm_pool.specs.Rule.{own_at, link_at, wake_at}
-use Rattle.lfm_pool.specs.Tables.{Slot, part, with_part, rests}
+use Rattle.lfm_pool.specs.Chain.{KeepsChain, needs_chain, note_after}
+use Rattle.lfm_pool.specs.Tables.{Slot, note, part, with_part, rests}
 
 -- Steps
 
@@ -32,11 +35,11 @@ use Rattle.lfm_pool.specs.Tables.{Slot, part, with_part, rests}
 abbrev pub RestsElsewhere : PoolView → ℕ → Type 0
 RestsElsewhere v m = (n : ℕ) → n < length v.parts → n ≢ m → rests (part v n) ≡ true
 
--- what the step tells of mutex m, as a step at its table: the seat, which had these slots, has the view w and these slots
--- now
-abbrev pub TellsOf : ℕ → (ℕ → Me Slot (View ⊤) → Type 0) → Me ℕ PoolView → ℕ → Me ℕ PoolView → Type 0
-TellsOf m tells me n me' =
-    (w : View ⊤) × (slots : List (ℕ × Slot)) × tells n (w, slots) × (me' ≡ (with_part me.0 m w, me.1))
+-- what the step tells of mutex m, as a step at its table: the seat, whose data were p, has the view w and these slots now
+abbrev pub TellsOf : ℕ → SeatState → (ℕ → Me Slot (View ⊤) → Type 0) → Me ℕ PoolView → ℕ → Me ℕ PoolView → Type 0
+TellsOf m p tells me n me' =
+    (w : View ⊤) × (slots : List (ℕ × Slot)) × tells n (w, slots)
+    × (me' ≡ (with_part me.0 m w (note_after p w (note me.0 m)), me.1))
 
 -- the access is the next step of the seat with this number, whose data are p, at the table of a mutex with this many seats
 abbrev pub IsAccessOf : ℕ → ℕ → SeatState → Access → Type 0
@@ -47,6 +50,10 @@ IsAccessOf seats number p a =
 -- the same, and it is an access to one of the four words of the mutex
 abbrev pub IsOwnAccessOf : ℕ → ℕ → SeatState → Access → Type 0
 IsOwnAccessOf seats number p a = IsAccessOf seats number p a × (word_at a < 4)
+
+-- the same, and the step needs nothing of the chain
+abbrev pub IsPlainAccessOf : ℕ → ℕ → SeatState → Access → Type 0
+IsPlainAccessOf seats number p a = IsOwnAccessOf seats number p a × (needs_chain p.point ≡ false)
 
 -- In a pool of this many mutexes and seats, the word at the index is the one that has the index `word` at the table of mutex
 -- m: one of the four words of the mutex, or the link word or the wake word of a seat.
@@ -98,10 +105,13 @@ abbrev pub Sits : ℕ → ℕ → Limits → SeatState → View ⊤ → Type 0
 Sits number id l p v = Fit number (4 + 2 * l.seats) id l p (v, in_hand (carries_value p)) (hand_of l.seats p v)
 
 -- The seat's data p in a mutex before a step, and what it knows of the mutex before it and after it. It found or stored n.
--- The pop list was `popped` before the step; a seat that carries the value knew that.
+-- The pop list was `popped` before the step; a seat that carries the value knew that. It had room for a record, if the step
+-- has added one.
 pub record Stepped (number : ℕ) (p : SeatState) (v : View ⊤) (n : ℕ) (w : View ⊤) : Type 0 where
   pub popped : List Record
   pub had : carries_value p ≡ true → popped ≡ v.popped
+  pub deep : DepthAt p.depth p.point
+  pub room : PopFits (length popped) v.limits.seats (kind p.point)
   pub state : w.state ≡ (stepped_by p number n (oldest popped)).seat
   pub listed : w.popped ≡ popped_by_step p number n popped
   pub trail : w.trail ≡ v.trail ++ seen p.point n ∷ []
@@ -110,7 +120,12 @@ pub record Stepped (number : ℕ) (p : SeatState) (v : View ⊤) (n : ℕ) (w : 
 -- the step of a seat in mutex m: it knows the same of all other mutexes
 abbrev pub StepsIn : ℕ → ℕ → ℕ → Limits → SeatState → Me ℕ PoolView → ℕ → Me ℕ PoolView → Type 0
 StepsIn number id m l p me n me' =
-    (w : View ⊤) × (me' ≡ (with_part me.0 m w, me.1)) × Sits number id l w.state w × Stepped number p (part me.0 m) n w
+    (w : View ⊤) × (me' ≡ (with_part me.0 m w (note_after p w (note me.0 m)), me.1))
+    × Sits number id l w.state w × Stepped number p (part me.0 m) n w
+
+-- the seat, whose data in mutex m are p, may make its step there, as far as the chain goes
+abbrev pub KeepsChainIn : ℕ → ℕ → SeatState → PoolView → Type 0
+KeepsChainIn number m p v = KeepsChain p number (part v m) (note v m)
 
 -- the seat's data in mutex m, and after it has started this call there
 abbrev pub state_in : PoolView → ℕ → SeatState

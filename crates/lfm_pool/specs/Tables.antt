@@ -1,8 +1,10 @@
 -- For the proof alone, each mutex of a pool has the table that it would have by itself. What a seat of the pool knows of a
 -- mutex is its view at that table.
-use Rattle.std.specs.Prelude.{⊤, ℕ, Bool, true, false, Option, slice_index_or, slice_set}
+use Rattle.std.specs.Prelude.{◌≡◌, ⊤, ℕ, ◌+◌, Bool, true, false, List, [], Option, slice_index, slice_index_or, slice_set}
 use Rattle.atomic_table.specs.Table.{State}
 use Rattle.lfm_model.specs.declared.answers.How.{How}
+use Rattle.lfm_words.specs.declared.pop_lists.Record.{Record}
+use Rattle.lfm_words.specs.Words.{is_grant_word}
 use Rattle.lfm_protocol.specs.declared.points.Carrier.{Carrier}
 use Rattle.lfm_protocol.specs.declared.points.Entrant.{Entrant}
 use Rattle.lfm_protocol.specs.declared.points.Point.{Point}
@@ -11,7 +13,10 @@ use Rattle.lfm_protocol.specs.declared.points.Point.TheVariants.{Rest, Asleep, P
 use Rattle.lfm_table.specs.declared.rule.Moving.{Moving}
 use Rattle.lfm_table.specs.declared.seat_view.View.{View}
 use Rattle.lfm_table.specs.Rule.{Held, no_view}
+use Rattle.lfm_pool.specs.declared.view.Known.{Known}
+use Rattle.lfm_pool.specs.declared.view.Note.{Note}
 use Rattle.lfm_pool.specs.declared.view.PoolView.{PoolView}
+use Rattle.lfm_pool.specs.Chain.{HasRecord}
 
 -- The mutexes of a pool guard no value
 
@@ -34,12 +39,33 @@ IsKept = Held any_follows any_fits
 
 -- Views
 
--- what the seat knows of mutex m
-abbrev pub part : PoolView → ℕ → View ⊤
-part v m = slice_index_or v.parts m no_view
+-- the note of a seat that has carried no mutex
+abbrev pub no_note : Note
+no_note = record { due = 0; carried = 0 }
 
-abbrev pub with_part : PoolView → ℕ → View ⊤ → PoolView
-with_part v m w = record v { parts = slice_set v.parts m w }
+-- what a seat knows of a mutex, if its view there is v and it has carried none
+abbrev pub unnoted : View ⊤ → Known
+unnoted v = record { view = v; note = no_note }
+
+-- what a seat of a pool without mutexes knows
+abbrev pub no_pool_view : PoolView
+no_pool_view = record { parts = [] }
+
+-- what the seat knows of mutex m
+abbrev pub known : PoolView → ℕ → Known
+known v m = slice_index_or v.parts m (unnoted no_view)
+
+-- its view at the table of mutex m
+abbrev pub part : PoolView → ℕ → View ⊤
+part v m = (known v m).view
+
+-- its note of mutex m
+abbrev pub note : PoolView → ℕ → Note
+note v m = (known v m).note
+
+-- the view of a seat that knows this of mutex m now
+abbrev pub with_part : PoolView → ℕ → View ⊤ → Note → PoolView
+with_part v m w n = record v { parts = slice_set v.parts m (record { view = w; note = n }) }
 
 abbrev pub rests_at : Point → Bool
 rests_at Rest = true
@@ -63,3 +89,11 @@ has_link_at _ = false
 
 abbrev pub has_link : View ⊤ → Bool
 has_link v = has_link_at v.state.point
+
+-- The record of the seat at place j, whose view is v, may be in the push list of this table, among this many seats, or has
+-- just been written to be pushed: it is not among the popped records, and the seat has no grant. A call that carries the
+-- mutex may load its link.
+pub record IsUncollected (table : MutexTable) (seats : ℕ) (popped : List Record) (j : ℕ) (v : View ⊤) : Type 0 where
+  pub linked : has_link v ≡ true
+  pub ungranted : is_grant_word (slice_index table.words (4 + seats + j)) ≡ false
+  pub unpopped : HasRecord (j + 1) popped → ⊥

@@ -1,10 +1,10 @@
 //! The start of `ask`, a `lock` that queues, of a seat that does not hold the mutex: up to the point at which the seat holds
-//! the mutex, sleeps, or has taken a post over and so has the responsibility. What a call with the responsibility does next,
-//! it collects the queued records and serves the oldest, is not in this crate yet.
+//! the mutex, sleeps, or has taken a post over and so has the responsibility. With the responsibility, a `lock` goes on to
+//! collect the queued records and to serve the oldest, as an `unlock` does: no call of this crate goes on so yet.
 ghost use Rattle.std.specs.Prelude.{◌≡◌};
 ghost use Rattle.lfm_protocol.specs.declared.points.Point.TheVariants.{PushLoad};
 ghost use Rattle.lfm_protocol.specs.declared.points.Pusher.{Pusher};
-ghost use Rattle.lfm_pool.specs.Ask.{AsksIn, MakesBesideFailuresIn, QueuesIn, WaitsIn};
+ghost use Rattle.lfm_pool.specs.Ask.{AsksIn, IsReadyAfter, MakesBesideFailuresIn, QueuesIn, WaitsIn};
 ghost use Rattle.lfm_pool.specs.Belongs.{IsMutex, OfPool, SameSeat};
 ghost use Rattle.lfm_pool.specs.Moves.{MayStepIn};
 ghost use Rattle.lfm_pool.specs.Push.{LoadsPush};
@@ -51,6 +51,7 @@ pub fn begin_ask(pool: &Pool, seat: &mut PoolSeat, mutex: usize) -> Asking
     ensures belongs { SameSeat seat.old seat.new }
     ensures may { MayStepIn seat.new pool.now mutex }
     ensures asks { AsksIn seat.old seat.new mutex result }
+    ensures ready { IsReadyAfter result seat.new pool.now mutex }
     ensures bounded { MakesBesideFailuresIn 7 seat.old seat.new mutex }
 {
     let count = start(pool, seat, mutex, Access::FetchAdd(COUNT, 1));
@@ -84,8 +85,7 @@ fn wait(pool: &Pool, seat: &mut PoolSeat, mutex: usize) -> Asking
 }
 
 /// Pushes the record of the seat: it loads the push word, and tries until an exchange has found the word that was loaded.
-/// Each exchange that fails has found a word that another seat has changed since, so there are at most as many attempts as
-/// changes.
+/// Each exchange that fails has found a word that another seat has changed since then.
 fn queue(pool: &Pool, seat: &mut PoolSeat, mutex: usize)
     requires may { MayStepIn seat.old pool.now mutex }
     requires at { LoadsPush (state_of seat.old mutex) }

@@ -1,6 +1,7 @@
-//! The indexes of the words of a pool: eight for each mutex, and then two for each seat. A mutex uses the first four: its
-//! count, owner, handoff and push word. It has eight, the size of a cache line, so that mutexes share no line if the table
-//! begins at one. The words of a seat are its link word and its wake word.
+//! The indexes of the words of a pool: eight for each mutex, and then two for each seat. A mutex uses the first five: its
+//! count, owner, handoff and push word, and the carried word, which only the seat that carries or holds the mutex touches.
+//! It has eight, the size of a cache line, so that mutexes share no line if the table begins at one. The words of a seat are
+//! its link word and its wake word.
 ghost use Rattle.std.specs.Prelude.{◌≡◌, ◌+◌, ◌*◌, ◌<◌, ◌^◌};
 
 /// The number of words of a mutex.
@@ -20,6 +21,9 @@ pub const HANDOFF: usize = 2;
 
 /// Its push word.
 pub const PUSH: usize = 3;
+
+/// Its carried word.
+pub const CARRIED: usize = 4;
 
 /// The index of this word of a mutex.
 #[inline(always)]

@@ -1,11 +1,12 @@
 //! One step of a seat on a word of a mutex, with all that the seat needs for its next step. The calls are made of these two
-//! functions, and of the steps of a push and on the words of seats. In both functions nothing changes in other mutexes, nor
-//! in what the seat knows of them. Neither allocates or waits.
+//! functions, and of the steps of a push and on the words of seats. Neither is for a step that gives the mutex away or loads
+//! a link, which need something of the chain. In both nothing changes in other mutexes, nor in what the seat knows of them.
+//! Neither allocates or waits.
 ghost use Rattle.lfm_pool.specs.Belongs.{SameSeat};
 ghost use Rattle.lfm_pool.specs.Finds.{Finds};
 ghost use Rattle.lfm_pool.specs.Moves.{MayStepIn, StartsIn};
 ghost use Rattle.lfm_pool.specs.Seats.{state_of, MovesIn};
-ghost use Rattle.lfm_pool.specs.Steps.{begun_in, call_of, IsOwnAccessOf, IsTold};
+ghost use Rattle.lfm_pool.specs.Steps.{begun_in, call_of, IsPlainAccessOf, IsTold};
 
 use crate::pool::{Pool, PoolSeat};
 use crate::step::{first_step, next_step};
@@ -15,7 +16,7 @@ use lfm_table::operations::Access;
 #[inline(always)]
 pub fn start(pool: &Pool, seat: &mut PoolSeat, mutex: usize, access: Access) -> u64
     requires may { MayStepIn seat.old pool.now mutex }
-    requires is_next { IsOwnAccessOf pool.now.limits.seats seat.old.number (begun_in seat.old.place.me.0 mutex pool.now.limits (call_of access)) access }
+    requires is_next { IsPlainAccessOf pool.now.limits.seats seat.old.number (begun_in seat.old.place.me.0 mutex pool.now.limits (call_of access)) access }
     ensures belongs { SameSeat seat.old seat.new }
     ensures may { MayStepIn seat.new pool.now mutex }
     ensures step { StartsIn seat.old seat.new pool.now mutex (call_of access) result }
@@ -28,7 +29,7 @@ pub fn start(pool: &Pool, seat: &mut PoolSeat, mutex: usize, access: Access) -> 
 #[inline(always)]
 pub fn go_on(pool: &Pool, seat: &mut PoolSeat, mutex: usize, access: Access) -> u64
     requires may { MayStepIn seat.old pool.now mutex }
-    requires is_next { IsOwnAccessOf pool.now.limits.seats seat.old.number (state_of seat.old mutex) access }
+    requires is_next { IsPlainAccessOf pool.now.limits.seats seat.old.number (state_of seat.old mutex) access }
     ensures belongs { SameSeat seat.old seat.new }
     ensures may { MayStepIn seat.new pool.now mutex }
     ensures step { MovesIn seat.old seat.new pool.now mutex result }

@@ -1,9 +1,10 @@
 //! `try_receive`, by which a seat that sleeps in a mutex finds out whether it was granted the mutex.
+ghost use Rattle.std.specs.Prelude.{IfSome};
 ghost use Rattle.lfm_pool.specs.Belongs.{SameSeat};
 ghost use Rattle.lfm_pool.specs.Moves.{MakesAtMostIn, MayStepIn};
 ghost use Rattle.lfm_pool.specs.Receive.{ReceivedIn};
 ghost use Rattle.lfm_pool.specs.SeatWords.{Sleeps};
-ghost use Rattle.lfm_pool.specs.Seats.{state_of};
+ghost use Rattle.lfm_pool.specs.Seats.{state_of, HoldsOnceIn};
 
 use crate::layout::OWNER;
 use crate::moves::go_on;
@@ -27,6 +28,7 @@ pub fn try_receive(pool: &Pool, seat: &mut PoolSeat, mutex: usize) -> Option<How
     ensures belongs { SameSeat seat.old seat.new }
     ensures may { MayStepIn seat.new pool.now mutex }
     ensures receives { ReceivedIn seat.old seat.new mutex result }
+    ensures holds { IfSome result (λ _. HoldsOnceIn seat.new pool.now mutex) }
     ensures bounded { MakesAtMostIn 3 seat.old seat.new mutex }
 {
     let word = wake_load(pool, seat, mutex);

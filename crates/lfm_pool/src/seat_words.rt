@@ -5,13 +5,14 @@
 //!
 //! In each of these functions the seat has to rest in all other mutexes, and nothing changes in them, nor in what the seat
 //! knows of them. None allocates or waits.
-ghost use Rattle.std.specs.Prelude.{◌≡◌, ◌+◌};
+ghost use Rattle.std.specs.Prelude.{◌≡◌, ◌+◌, drop};
 ghost use Rattle.lfm_words.specs.Words.{link_word, wake_word};
 ghost use Rattle.lfm_words.specs.declared.links.Link.{Link as LinkNow};
 ghost use Rattle.lfm_words.specs.declared.wakes.Wake.TheVariants.{Quiet, Grant};
 ghost use Rattle.lfm_pool.specs.Belongs.{IsMutex, OfPool, SameSeat};
 ghost use Rattle.lfm_pool.specs.SeatWords.{StoresLink, LoadsLink, Grants, Sleeps, TakesGrant};
-ghost use Rattle.lfm_pool.specs.Seats.{state_of, MovesIn, ReceivesIn, RestsInOthers, SitsIn};
+ghost use Rattle.lfm_pool.specs.Chain.{rested};
+ghost use Rattle.lfm_pool.specs.Seats.{note_of, popped_of, state_of, MovesIn, ReceivesIn, RestsInOthers, SitsIn};
 
 use crate::accesses::PoolAccess;
 use crate::layout::{link_at, wake_at};
@@ -40,7 +41,8 @@ pub fn link_store(pool: &Pool, seat: &mut PoolSeat, mutex: usize, seen: Link)
     next_at(pool, seat, mutex, PoolAccess { index, access });
 }
 
-/// Loads the link word of this seat, whose record is collected. Returns the word.
+/// Loads the link word of this seat, whose record is collected. Returns the word. All records that were collected before
+/// have to be in the chain; this one is not yet.
 #[inline(always)]
 pub fn link_load(pool: &Pool, seat: &mut PoolSeat, mutex: usize, target: u64) -> u64
     requires belongs { OfPool seat.old pool.now }
@@ -48,6 +50,7 @@ pub fn link_load(pool: &Pool, seat: &mut PoolSeat, mutex: usize, target: u64) ->
     requires sits { SitsIn seat.old pool.now mutex }
     requires elsewhere { RestsInOthers seat.old mutex }
     requires at { LoadsLink target (state_of seat.old mutex) }
+    requires whole { (note_of seat.old mutex).due ≡ 0 }
     ensures belongs { SameSeat seat.old seat.new }
     ensures step { MovesIn seat.old seat.new pool.now mutex result }
 {
@@ -58,7 +61,8 @@ pub fn link_load(pool: &Pool, seat: &mut PoolSeat, mutex: usize, target: u64) ->
 }
 
 /// Stores a grant in the wake word of the seat of this record, which is the oldest of the queue. It wakes no thread: the
-/// caller has to wake the one of that seat.
+/// caller has to wake the one of that seat. The other popped records have to be in the chain, and the carried word has to
+/// name the oldest of them: the seat that is served finds them there.
 #[inline(always)]
 pub fn grant(pool: &Pool, seat: &mut PoolSeat, mutex: usize, oldest: Record)
     requires belongs { OfPool seat.old pool.now }
@@ -66,6 +70,7 @@ pub fn grant(pool: &Pool, seat: &mut PoolSeat, mutex: usize, oldest: Record)
     requires sits { SitsIn seat.old pool.now mutex }
     requires elsewhere { RestsInOthers seat.old mutex }
     requires at { Grants oldest (state_of seat.old mutex) }
+    requires whole { note_of seat.old mutex ≡ rested (drop 1 (popped_of seat.old mutex)) }
     ensures belongs { SameSeat seat.old seat.new }
     ensures step { MovesIn seat.old seat.new pool.now mutex (wake_word (Grant oldest.stamp)) }
 {

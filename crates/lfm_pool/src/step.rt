@@ -6,7 +6,7 @@ ghost use Rattle.lfm_table.specs.Rule.{Advanced};
 ghost use Rattle.lfm_table.specs.Steps.{CanMake};
 ghost use Rattle.lfm_pool.specs.Finds.{Finds};
 ghost use Rattle.lfm_pool.specs.Tables.{Slot, any_follows, any_fits, part};
-ghost use Rattle.lfm_pool.specs.Steps.{state_in, begun_in, call_of, IsOwnAccessOf, IsStepAt, IsTold, RestsElsewhere, Sits, StepsIn, TellsOf};
+ghost use Rattle.lfm_pool.specs.Steps.{state_in, begun_in, call_of, IsOwnAccessOf, IsStepAt, IsTold, KeepsChainIn, RestsElsewhere, Sits, StepsIn, TellsOf};
 
 use crate::accesses::{PoolAccess, word_of};
 use crate::layout::own_at;
@@ -44,11 +44,12 @@ pub struct MutexStep<B> {
 }
 
 impl<B: OneMutex> Play<u64, PoolView> for MutexStep<B> {
-    ghost then = { λ _ me n me'. TellsOf B.mutex (λ k. Advanced any_follows any_fits B.state B.hand (part me.0 B.mutex, B.slots) k) me n me' };
+    ghost then = { λ _ me n me'. TellsOf B.mutex B.state (λ k. Advanced any_follows any_fits B.state B.hand (part me.0 B.mutex, B.slots) k) me n me' };
 }
 
 /// Makes the step at the seat's point in this mutex, which is this access. Returns the number that it found or stored. The
-/// seat has to rest in all other mutexes.
+/// seat has to rest in all other mutexes. If the step gives the mutex away, all popped records have to be in the chain, and
+/// the carried word has to name the oldest that is left; if it loads a link, all have to be in the chain.
 #[inline(always)]
 fn step_at<B: OneMutex>(pool: &Pool, seat: &mut PoolSeat, mutex: usize, access: PoolAccess) -> u64
     requires one { B.mutex ≡ mutex }
@@ -57,8 +58,9 @@ fn step_at<B: OneMutex>(pool: &Pool, seat: &mut PoolSeat, mutex: usize, access: 
     requires can { CanMake any_follows any_fits B.state B.hand seat.old.number pool.now.limits.seats (4 + 2 * pool.now.limits.seats) (part seat.old.place.me.0 mutex, B.slots) }
     requires is_next { IsStepAt pool.now.mutexes pool.now.limits.seats mutex seat.old.number B.state access }
     requires elsewhere { RestsElsewhere seat.old.place.me.0 mutex }
+    requires chained { KeepsChainIn seat.old.number mutex B.state seat.old.place.me.0 }
     ensures table { (seat.new.place.table_id ≡ seat.old.place.table_id) × (seat.new.place.id ≡ seat.old.place.id) × (seat.new.number ≡ seat.old.number) }
-    ensures step { TellsOf mutex (λ k. Advanced any_follows any_fits B.state B.hand (part seat.old.place.me.0 mutex, B.slots) k) seat.old.place.me result seat.new.place.me }
+    ensures step { TellsOf mutex B.state (λ k. Advanced any_follows any_fits B.state B.hand (part seat.old.place.me.0 mutex, B.slots) k) seat.old.place.me result seat.new.place.me }
     ensures told { IsTold access.access result }
 {
     let index = access.index;
@@ -88,6 +90,7 @@ pub fn first_at(pool: &Pool, seat: &mut PoolSeat, mutex: usize, access: PoolAcce
     requires sits { Sits seat.old.number seat.old.place.id pool.now.limits (begun_in seat.old.place.me.0 mutex pool.now.limits (call_of access.access)) (part seat.old.place.me.0 mutex) }
     requires is_next { IsStepAt pool.now.mutexes pool.now.limits.seats mutex seat.old.number (begun_in seat.old.place.me.0 mutex pool.now.limits (call_of access.access)) access }
     requires elsewhere { RestsElsewhere seat.old.place.me.0 mutex }
+    requires chained { KeepsChainIn seat.old.number mutex (begun_in seat.old.place.me.0 mutex pool.now.limits (call_of access.access)) seat.old.place.me.0 }
     ensures table { (seat.new.place.table_id ≡ seat.old.place.table_id) × (seat.new.place.id ≡ seat.old.place.id) × (seat.new.number ≡ seat.old.number) }
     ensures step { StepsIn seat.old.number seat.old.place.id mutex pool.now.limits (begun_in seat.old.place.me.0 mutex pool.now.limits (call_of access.access)) seat.old.place.me result seat.new.place.me }
     ensures told { IsTold access.access result }
@@ -103,6 +106,7 @@ pub fn next_at(pool: &Pool, seat: &mut PoolSeat, mutex: usize, access: PoolAcces
     requires sits { Sits seat.old.number seat.old.place.id pool.now.limits (state_in seat.old.place.me.0 mutex) (part seat.old.place.me.0 mutex) }
     requires is_next { IsStepAt pool.now.mutexes pool.now.limits.seats mutex seat.old.number (state_in seat.old.place.me.0 mutex) access }
     requires elsewhere { RestsElsewhere seat.old.place.me.0 mutex }
+    requires chained { KeepsChainIn seat.old.number mutex (state_in seat.old.place.me.0 mutex) seat.old.place.me.0 }
     ensures table { (seat.new.place.table_id ≡ seat.old.place.table_id) × (seat.new.place.id ≡ seat.old.place.id) × (seat.new.number ≡ seat.old.number) }
     ensures step { StepsIn seat.old.number seat.old.place.id mutex pool.now.limits (state_in seat.old.place.me.0 mutex) seat.old.place.me result seat.new.place.me }
     ensures finds { Finds seat.old.number (state_in seat.old.place.me.0 mutex) result }
@@ -119,6 +123,7 @@ pub fn first_step(pool: &Pool, seat: &mut PoolSeat, mutex: usize, access: Access
     requires sits { Sits seat.old.number seat.old.place.id pool.now.limits (begun_in seat.old.place.me.0 mutex pool.now.limits (call_of access)) (part seat.old.place.me.0 mutex) }
     requires is_next { IsOwnAccessOf pool.now.limits.seats seat.old.number (begun_in seat.old.place.me.0 mutex pool.now.limits (call_of access)) access }
     requires elsewhere { RestsElsewhere seat.old.place.me.0 mutex }
+    requires chained { KeepsChainIn seat.old.number mutex (begun_in seat.old.place.me.0 mutex pool.now.limits (call_of access)) seat.old.place.me.0 }
     ensures table { (seat.new.place.table_id ≡ seat.old.place.table_id) × (seat.new.place.id ≡ seat.old.place.id) × (seat.new.number ≡ seat.old.number) }
     ensures step { StepsIn seat.old.number seat.old.place.id mutex pool.now.limits (begun_in seat.old.place.me.0 mutex pool.now.limits (call_of access)) seat.old.place.me result seat.new.place.me }
     ensures told { IsTold access result }
@@ -135,6 +140,7 @@ pub fn next_step(pool: &Pool, seat: &mut PoolSeat, mutex: usize, access: Access)
     requires sits { Sits seat.old.number seat.old.place.id pool.now.limits (state_in seat.old.place.me.0 mutex) (part seat.old.place.me.0 mutex) }
     requires is_next { IsOwnAccessOf pool.now.limits.seats seat.old.number (state_in seat.old.place.me.0 mutex) access }
     requires elsewhere { RestsElsewhere seat.old.place.me.0 mutex }
+    requires chained { KeepsChainIn seat.old.number mutex (state_in seat.old.place.me.0 mutex) seat.old.place.me.0 }
     ensures table { (seat.new.place.table_id ≡ seat.old.place.table_id) × (seat.new.place.id ≡ seat.old.place.id) × (seat.new.number ≡ seat.old.number) }
     ensures step { StepsIn seat.old.number seat.old.place.id mutex pool.now.limits (state_in seat.old.place.me.0 mutex) seat.old.place.me result seat.new.place.me }
     ensures finds { Finds seat.old.number (state_in seat.old.place.me.0 mutex) result }

@@ -1,11 +1,11 @@
 //! `try_lock` of a seat that does not hold the mutex. If the mutex is free, the call has two steps (`enter_if_free`). Else
 //! it loads the owner and the handoff word, and accepts a post that it finds there.
-ghost use Rattle.std.specs.Prelude.{◌≡◌};
+ghost use Rattle.std.specs.Prelude.{◌≡◌, IfOk};
 ghost use Rattle.lfm_words.specs.Words.{handoff_of};
 ghost use Rattle.lfm_protocol.specs.declared.points.Point.TheVariants.{TryOwnerLoad, TryHandoffExchange};
 ghost use Rattle.lfm_pool.specs.Belongs.{IsMutex, OfPool, SameSeat};
 ghost use Rattle.lfm_pool.specs.Moves.{MakesAtMostIn, MayStepIn};
-ghost use Rattle.lfm_pool.specs.Seats.{state_of, MayTryIn, RestsInOthers};
+ghost use Rattle.lfm_pool.specs.Seats.{state_of, HoldsOnceIn, MayTryIn, RestsInOthers};
 ghost use Rattle.lfm_pool.specs.TryLock.{AcceptsIn, EndsTryIn, TriesIn};
 
 use crate::fast_paths::enter_if_free;
@@ -36,6 +36,7 @@ pub fn try_lock(pool: &Pool, seat: &mut PoolSeat, mutex: usize) -> Result<Locked
     ensures belongs { SameSeat seat.old seat.new }
     ensures may { MayStepIn seat.new pool.now mutex }
     ensures tries { TriesIn seat.old seat.new mutex result }
+    ensures holds { IfOk result (λ _. HoldsOnceIn seat.new pool.now mutex) }
     ensures bounded { MakesAtMostIn 6 seat.old seat.new mutex }
 {
     if enter_if_free(pool, seat, mutex) == 0 {

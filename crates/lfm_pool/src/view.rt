@@ -2,8 +2,25 @@
 use lfm_table::seat_view::View;
 use std::collections::LinkedList;
 
-/// What a seat of a pool knows of each mutex: its view at the table that the mutex would have by itself. No value of this
-/// type is ever made: it is for proofs alone.
+/// What a seat that carries a mutex, or holds it, knows of the words that no other seat touches then. No value of this type
+/// is ever made: it is for proofs alone.
+pub struct Note {
+    /// How many records at the front of the pop list are not in the chain: 1 from the load of a record's link until the
+    /// store of its link in the chain, else 0.
+    pub due: u64,
+
+    /// The number in the carried word of the mutex.
+    pub carried: u64,
+}
+
+/// What a seat of a pool knows of one mutex: its view at the table that the mutex would have by itself, and its note. No
+/// value of this type is ever made: it is for proofs alone.
+pub struct Known {
+    pub view: View<()>,
+    pub note: Note,
+}
+
+/// What a seat of a pool knows of each mutex. No value of this type is ever made: it is for proofs alone.
 pub struct PoolView {
-    pub parts: LinkedList<View<()>>,
+    pub parts: LinkedList<Known>,
 }

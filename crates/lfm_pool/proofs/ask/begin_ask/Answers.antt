@@ -1,5 +1,7 @@
 use Rattle.std.proofs.Common.{◌∙◌}
-use Rattle.lfm_pool.proofs.Asking.{ask_bounded, asks, at_push, counts, enters, holds, loads_owner}
+use Rattle.lfm_pool.specs.declared.ask.Asking.{Asking}
+use Rattle.lfm_pool.proofs.Asking.{ask_bounded, asks, at_push, counts, enters, holds, loads_owner, ready}
+use Rattle.lfm_pool.proofs.SeveralSteps.{same_then}
 use Rattle.lfm_pool.proofs.Trying.{may_try}
 use Rattle.lfm_pool.proofs.ask.begin_ask.Goals as goal
 
@@ -41,3 +43,15 @@ returns-clause-bounded c =
     ask_bounded s k.new.seat p m k.result may
     (asks s p m may c.requires.may f.new.seat f.result f.ensures.step f.ensures.may c.if-count-eq0.false h.new.seat h.result h.ensures.step h.ensures.finds h.ensures.may
     k.new.seat k.result k.ensures.waits f.ensures.belongs.number (h.ensures.belongs.number ∙ f.ensures.belongs.number))
+
+pub returns-then-count-eq0-clause-ready : goal.returns-then-count-eq0-clause-ready
+returns-then-count-eq0-clause-ready c =
+    let s = c.args.seat.now in let f = c.start-count in let h = c.go_on in
+    ready s h.new.seat c.args.pool.now c.args.mutex Asking.Held (may_try s c.args.pool.now c.args.mutex c.requires.belongs c.requires.mutex c.requires.may c.requires.elsewhere) c.requires.may.rests
+    (same_then s f.new.seat h.new.seat f.ensures.belongs h.ensures.belongs) h.ensures.may (returns-then-count-eq0-clause-asks c)
+
+pub returns-clause-ready : goal.returns-clause-ready
+returns-clause-ready c =
+    let s = c.args.seat.now in let f = c.start-count in let h = c.go_on-2 in let k = c.wait in
+    ready s k.new.seat c.args.pool.now c.args.mutex k.result (may_try s c.args.pool.now c.args.mutex c.requires.belongs c.requires.mutex c.requires.may c.requires.elsewhere) c.requires.may.rests
+    (same_then s f.new.seat k.new.seat f.ensures.belongs (same_then f.new.seat h.new.seat k.new.seat h.ensures.belongs k.ensures.belongs)) k.ensures.may (returns-clause-asks c)

@@ -1,5 +1,3 @@
-use Rattle.std.proofs.Common.{◌≡◌, ℕ, ap, subst, ◌<◌, ◌^◌, sym}
-use Rattle.lfm_words.specs.declared.links.Link.{Link}
 use Rattle.lfm_pool.proofs.Asking.{begins_push, changes_fall_by, goes_on_pushing, has_pushed, may_more, stores_next}
 use Rattle.lfm_pool.proofs.SeveralSteps.{same_then}
 use Rattle.lfm_pool.proofs.ask.queue.Goals as goal

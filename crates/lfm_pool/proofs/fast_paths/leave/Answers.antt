@@ -6,6 +6,14 @@ use Rattle.lfm_table.specs.declared.seat_view.View.{View}
 use Rattle.lfm_pool.specs.Tables.{part}
 use Rattle.lfm_pool.specs.Steps.{IsOwnAccessOf, Sits, StepsIn}
 use Rattle.lfm_pool.proofs.FastPaths.{sits_begun, releasing, subtracting, left_free, left_to_serve, part_now, length_now, elsewhere_now}
+use Rattle.std.proofs.Common.{ap, refl}
+use Rattle.lfm_protocol.specs.declared.points.Releaser.TheVariants.{Unlocker}
+use Rattle.lfm_protocol.specs.declared.points.Point.TheVariants.{ReleaseOwnerStore}
+use Rattle.lfm_pool.proofs.FastPaths.{noted_released, released, unlock_begun}
+use Rattle.lfm_pool.proofs.Keeping.{keeps_at, keeps_by_subtract}
+use Rattle.lfm_pool.specs.Chain.{rested}
+use Rattle.lfm_pool.specs.Seats.{note_of, state_of}
+use Rattle.lfm_pool.specs.Steps.{begun_in}
 use Rattle.lfm_pool.proofs.fast_paths.leave.Goals as goal
 
 pub first_step-requires-clause-sits : goal.first_step-requires-clause-sits
@@ -21,17 +29,17 @@ next_step-requires-clause-table c = let f = c.first_step in f.ensures.table.0 �
 
 pub next_step-requires-clause-inside : goal.next_step-requires-clause-inside
 next_step-requires-clause-inside c =
-    let s = c.args.seat.now in let l = c.args.pool.now.limits in let f = c.first_step in let t = f.new.seat in let d = f.ensures.step in (c.requires.mutex, length_now s.number s.place.id c.args.mutex l s.place.me t.place.me t.place.me (omega (arith, c.requires.mutex, c.requires.belongs.parts)) d.0 d.1 ∙ c.requires.belongs.parts)
+    let s = c.args.seat.now in let l = c.args.pool.now.limits in let f = c.first_step in let t = f.new.seat in let d = f.ensures.step in (c.requires.mutex, length_now s.number s.place.id c.args.mutex l s.place.me t.place.me t.place.me (omega (arith, c.requires.mutex, c.requires.belongs.parts)) d.0 _ d.1 ∙ c.requires.belongs.parts)
 
 pub next_step-requires-clause-sits : goal.next_step-requires-clause-sits
 next_step-requires-clause-sits c =
     let s = c.args.seat.now in let l = c.args.pool.now.limits in let f = c.first_step in let t = f.new.seat in let d = f.ensures.step in
     subst (λ (z : ℕ × ℕ). Sits z.0 z.1 l (part t.place.me.0 c.args.mutex).state (part t.place.me.0 c.args.mutex)) (λ i. (sym f.ensures.table.2 i, sym f.ensures.table.1 i))
-    (subst (λ (y : View ⊤). Sits s.number s.place.id l y.state y) (sym (part_now s.number s.place.id c.args.mutex l s.place.me t.place.me t.place.me (omega (arith, c.requires.mutex, c.requires.belongs.parts)) d.0 d.1)) d.2)
+    (subst (λ (y : View ⊤). Sits s.number s.place.id l y.state y) (sym (part_now s.number s.place.id c.args.mutex l s.place.me t.place.me t.place.me (omega (arith, c.requires.mutex, c.requires.belongs.parts)) d.0 _ d.1)) d.2)
 
 pub next_step-requires-clause-elsewhere : goal.next_step-requires-clause-elsewhere
 next_step-requires-clause-elsewhere c =
-    let s = c.args.seat.now in let l = c.args.pool.now.limits in let f = c.first_step in let t = f.new.seat in let d = f.ensures.step in elsewhere_now s.number s.place.id c.args.mutex l s.place.me t.place.me t.place.me (omega (arith, c.requires.mutex, c.requires.belongs.parts)) d.0 d.1 c.requires.elsewhere
+    let s = c.args.seat.now in let l = c.args.pool.now.limits in let f = c.first_step in let t = f.new.seat in let d = f.ensures.step in elsewhere_now s.number s.place.id c.args.mutex l s.place.me t.place.me t.place.me (omega (arith, c.requires.mutex, c.requires.belongs.parts)) d.0 _ d.1 c.requires.elsewhere
 
 pub next_step-requires-clause-is_next : goal.next_step-requires-clause-is_next
 next_step-requires-clause-is_next c =
@@ -58,10 +66,24 @@ pub returns-clause-belongs : goal.returns-clause-belongs
 returns-clause-belongs c =
     let s = c.args.seat.now in let l = c.args.pool.now.limits in let f = c.first_step in let d = f.ensures.step in let h = c.next_step in let e = h.ensures.step in
     let here : c.args.mutex < length s.place.me.0.parts = omega (arith, c.requires.mutex, c.requires.belongs.parts) in
-    let first = length_now s.number s.place.id c.args.mutex l s.place.me f.new.seat.place.me f.new.seat.place.me here d.0 d.1 in
+    let first = length_now s.number s.place.id c.args.mutex l s.place.me f.new.seat.place.me f.new.seat.place.me here d.0 _ d.1 in
     record {
       table = h.ensures.table.0 ∙ f.ensures.table.0;
       id = h.ensures.table.1 ∙ f.ensures.table.1;
       number = h.ensures.table.2 ∙ f.ensures.table.2;
-      parts = length_now f.new.seat.number f.new.seat.place.id c.args.mutex l f.new.seat.place.me h.new.seat.place.me h.new.seat.place.me (omega (arith, here, first)) e.0 e.1 ∙ first;
+      parts = length_now f.new.seat.number f.new.seat.place.id c.args.mutex l f.new.seat.place.me h.new.seat.place.me h.new.seat.place.me (omega (arith, here, first)) e.0 _ e.1 ∙ first;
     }
+
+pub first_step-requires-clause-chained : goal.first_step-requires-clause-chained
+first_step-requires-clause-chained c =
+    let s = c.args.seat.now in let l = c.args.pool.now.limits in let holds = c.requires.holds in
+    keeps_at (begun_in s.place.me.0 c.args.mutex l Call.Unlock) s.number (part s.place.me.0 c.args.mutex) (note_of s c.args.mutex) (ReleaseOwnerStore Unlocker)
+    (ap (λ x. x.point) (unlock_begun (state_of s c.args.mutex) l holds.rests holds.once)) refl refl
+
+pub next_step-requires-clause-chained : goal.next_step-requires-clause-chained
+next_step-requires-clause-chained c =
+    let s = c.args.seat.now in let l = c.args.pool.now.limits in let f = c.first_step in let t = f.new.seat in let d = f.ensures.step in
+    let here : c.args.mutex < length s.place.me.0.parts = omega (arith, c.requires.mutex, c.requires.belongs.parts) in
+    let whole = noted_released s.number s.place.id c.args.mutex l s.place.me t.place.me t.place.me here f.result c.requires.holds d in
+    keeps_by_subtract (state_of t c.args.mutex) t.number (part t.place.me.0 c.args.mutex) (note_of t c.args.mutex) Unlocker
+    (ap (λ x. x.point) (released s.number s.place.id c.args.mutex l s.place.me t.place.me t.place.me here f.result c.requires.holds d)) (whole.0 ∙ ap rested (sym whole.1))

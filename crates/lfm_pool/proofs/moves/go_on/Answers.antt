@@ -1,4 +1,6 @@
-use Rattle.lfm_pool.specs.Seats.{state_of}
+use Rattle.lfm_pool.specs.Seats.{note_of, state_of}
+use Rattle.lfm_pool.specs.Tables.{part}
+use Rattle.lfm_pool.proofs.Keeping.{keeps_plain}
 use Rattle.lfm_pool.proofs.SeveralSteps.{may_after}
 use Rattle.lfm_pool.proofs.SeatWords.{same_after}
 use Rattle.lfm_pool.proofs.moves.go_on.Goals as goal
@@ -24,3 +26,10 @@ pub returns-clause-may : goal.returns-clause-may
 returns-clause-may c =
     let s = c.args.seat.now in let f = c.next_step in let x = state_of s c.args.mutex in
     may_after s f.new.seat c.args.pool.now c.args.mutex x f.result c.requires.may (same_after s f.new.seat c.args.pool.now.limits c.args.mutex f.result x f.ensures.table f.ensures.step) f.ensures.step
+
+pub next_step-requires-clause-is_next : goal.next_step-requires-clause-is_next
+next_step-requires-clause-is_next c = c.requires.is_next.0
+
+pub next_step-requires-clause-chained : goal.next_step-requires-clause-chained
+next_step-requires-clause-chained c =
+    let s = c.args.seat.now in keeps_plain (state_of s c.args.mutex) s.number (part s.place.me.0 c.args.mutex) (note_of s c.args.mutex) c.requires.is_next.1

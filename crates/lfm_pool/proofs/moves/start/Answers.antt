@@ -2,6 +2,8 @@ use Rattle.lfm_pool.specs.Steps.{begun_in, call_of}
 use Rattle.lfm_pool.specs.Tables.{part}
 use Rattle.lfm_pool.proofs.FastPaths.{sits_begun}
 use Rattle.lfm_pool.proofs.SeveralSteps.{may_after}
+use Rattle.lfm_pool.specs.Seats.{note_of}
+use Rattle.lfm_pool.proofs.Keeping.{keeps_plain}
 use Rattle.lfm_pool.proofs.SeatWords.{same_after}
 use Rattle.lfm_pool.proofs.moves.start.Goals as goal
 
@@ -27,3 +29,11 @@ pub returns-clause-may : goal.returns-clause-may
 returns-clause-may c =
     let s = c.args.seat.now in let l = c.args.pool.now.limits in let f = c.first_step in let x = begun_in s.place.me.0 c.args.mutex l (call_of c.args.access) in
     may_after s f.new.seat c.args.pool.now c.args.mutex x f.result c.requires.may (same_after s f.new.seat l c.args.mutex f.result x f.ensures.table f.ensures.step) f.ensures.step
+
+pub first_step-requires-clause-is_next : goal.first_step-requires-clause-is_next
+first_step-requires-clause-is_next c = c.requires.is_next.0
+
+pub first_step-requires-clause-chained : goal.first_step-requires-clause-chained
+first_step-requires-clause-chained c =
+    let s = c.args.seat.now in
+    keeps_plain (begun_in s.place.me.0 c.args.mutex c.args.pool.now.limits (call_of c.args.access)) s.number (part s.place.me.0 c.args.mutex) (note_of s c.args.mutex) c.requires.is_next.1

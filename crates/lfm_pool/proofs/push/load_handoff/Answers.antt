@@ -6,6 +6,10 @@ use Rattle.lfm_pool.proofs.Pushing.{after_handoff, loads_handoff, one_step}
 use Rattle.lfm_protocol.specs.declared.points.Pusher.{Pusher}
 use Rattle.lfm_pool.specs.Seats.{state_of}
 use Rattle.lfm_pool.proofs.SeatWords.{same_after}
+use Rattle.std.proofs.Common.{refl}
+use Rattle.lfm_pool.proofs.Keeping.{keeps_at}
+use Rattle.lfm_pool.specs.Seats.{note_of}
+use Rattle.lfm_pool.specs.Tables.{part}
 use Rattle.lfm_pool.proofs.push.load_handoff.Goals as goal
 
 pub next_step-requires-clause-table : goal.next_step-requires-clause-table
@@ -24,4 +28,8 @@ pub returns-clause-loads : goal.returns-clause-loads
 returns-clause-loads c =
     let s = c.args.seat.now in
     one_step s.number s.place.id c.args.mutex c.args.pool.now.limits s.place.me c.next_step.new.seat.place.me c.next_step.result (PushedHandoffLoad Pusher.Locker)
-    (if nat_eq (handoff_of c.next_step.result).seat 0 then Asleep Sleeper.Locker else PushedHandoffExchange Pusher.Locker (handoff_of c.next_step.result)) c.requires.at (after_handoff c.args.seat.now.number c.next_step.result) c.requires.sits c.next_step.ensures.step
+    (if nat_eq (handoff_of c.next_step.result).seat 0 then Asleep Sleeper.Locker else PushedHandoffExchange Pusher.Locker (handoff_of c.next_step.result)) c.requires.at (after_handoff c.args.seat.now.number c.next_step.result) (λ d deep. deep) refl c.requires.sits c.next_step.ensures.step
+
+pub next_step-requires-clause-chained : goal.next_step-requires-clause-chained
+next_step-requires-clause-chained c =
+    let s = c.args.seat.now in keeps_at (state_of s c.args.mutex) s.number (part s.place.me.0 c.args.mutex) (note_of s c.args.mutex) (PushedHandoffLoad Pusher.Locker) c.requires.at refl refl

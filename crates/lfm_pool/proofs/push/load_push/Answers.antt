@@ -5,6 +5,9 @@ use Rattle.lfm_pool.proofs.Pushing.{loads_push, one_step}
 use Rattle.lfm_protocol.specs.declared.points.Pusher.{Pusher}
 use Rattle.lfm_pool.specs.Seats.{state_of}
 use Rattle.lfm_pool.proofs.SeatWords.{same_after}
+use Rattle.lfm_pool.proofs.Keeping.{keeps_at}
+use Rattle.lfm_pool.specs.Seats.{note_of}
+use Rattle.lfm_pool.specs.Tables.{part}
 use Rattle.lfm_pool.proofs.push.load_push.Goals as goal
 
 pub next_step-requires-clause-table : goal.next_step-requires-clause-table
@@ -23,4 +26,8 @@ pub returns-clause-loads : goal.returns-clause-loads
 returns-clause-loads c =
     let s = c.args.seat.now in
     one_step s.number s.place.id c.args.mutex c.args.pool.now.limits s.place.me c.next_step.new.seat.place.me c.next_step.result (PushLoad Pusher.Locker)
-    (LinkStore Pusher.Locker (link_of c.next_step.result)) c.requires.at (λ d t ps o. refl) c.requires.sits c.next_step.ensures.step
+    (LinkStore Pusher.Locker (link_of c.next_step.result)) c.requires.at (λ d t ps o. refl) (λ d deep. deep) refl c.requires.sits c.next_step.ensures.step
+
+pub next_step-requires-clause-chained : goal.next_step-requires-clause-chained
+next_step-requires-clause-chained c =
+    let s = c.args.seat.now in keeps_at (state_of s c.args.mutex) s.number (part s.place.me.0 c.args.mutex) (note_of s c.args.mutex) (PushLoad Pusher.Locker) c.requires.at refl refl

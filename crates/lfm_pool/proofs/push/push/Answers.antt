@@ -1,4 +1,4 @@
-use Rattle.std.proofs.Common.{ℕ, ◌<◌, refl, sym, ap, ◌∙◌, subst, arith}
+use Rattle.std.proofs.Common.{ℕ, ◌<◌, refl, sym, ◌∙◌, subst, arith}
 use Rattle.std.specs.Prelude.{length}
 use Rattle.lfm_pool.specs.Seats.{state_of}
 use Rattle.lfm_pool.specs.Steps.{Sits, StepsIn}
@@ -6,12 +6,11 @@ use Rattle.lfm_pool.specs.Tables.{part}
 use Rattle.lfm_pool.proofs.FastPaths.{elsewhere_now}
 use Rattle.lfm_pool.proofs.Pushing.{exchanges_push, pushed, sits_now}
 use Rattle.lfm_pool.proofs.SeatWords.{packs_link}
-use Rattle.lfm_protocol.specs.declared.points.Point.TheVariants.{LinkStore, PushExchange}
+use Rattle.lfm_pool.proofs.Keeping.{keeps_at}
+use Rattle.lfm_protocol.specs.declared.points.Point.TheVariants.{PushExchange}
 use Rattle.lfm_protocol.specs.declared.points.Pusher.{Pusher}
-use Rattle.lfm_protocol.specs.declared.seats.SeatState.{SeatState}
-use Rattle.lfm_table.proofs.tables.StepFacts.{made_of}
-use Rattle.lfm_pool.specs.Moves.{MayStepIn}
-use Rattle.lfm_pool.proofs.SeveralSteps.{at_point, move_made, state_after}
+use Rattle.lfm_pool.specs.Seats.{note_of}
+use Rattle.lfm_pool.proofs.Pushing.{exchanges_at}
 use Rattle.lfm_pool.proofs.push.push.Goals as goal
 
 pub next_step-requires-clause-table : goal.next_step-requires-clause-table
@@ -31,7 +30,7 @@ pub next_step-requires-clause-elsewhere : goal.next_step-requires-clause-elsewhe
 next_step-requires-clause-elsewhere c =
     let s = c.args.seat.now in let l = c.args.pool.now.limits in let f = c.link_store in let t = f.new.seat in let d = f.ensures.step in
     let here : c.args.mutex < length s.place.me.0.parts = (let less = c.requires.mutex in let many = c.requires.belongs.parts in omega (arith, less, many)) in
-    elsewhere_now s.number s.place.id c.args.mutex l s.place.me t.place.me t.place.me here d.0 d.1 c.requires.elsewhere
+    elsewhere_now s.number s.place.id c.args.mutex l s.place.me t.place.me t.place.me here d.0 _ d.1 c.requires.elsewhere
 
 pub next_step-requires-clause-is_next : goal.next_step-requires-clause-is_next
 next_step-requires-clause-is_next c =
@@ -49,10 +48,9 @@ returns-clause-pushes c =
 
 pub returns-clause-sees : goal.returns-clause-sees
 returns-clause-sees c =
-    let s = c.args.seat.now in let p = c.args.pool.now in let m = c.args.mutex in let f = c.link_store in let t = f.new.seat in let x = state_of s m in let seen = c.args.loaded in
-    let may : MayStepIn s p m = record { belongs = c.requires.belongs; mutex = c.requires.mutex; sits = c.requires.sits; elsewhere = c.requires.elsewhere } in
-    let made = move_made s t p m _ (made_of x.depth x.takes x.posts (LinkStore Pusher.Locker seen)) (made_of x.depth x.takes x.posts (PushExchange Pusher.Locker seen)) (λ o. refl) may (at_point x (LinkStore Pusher.Locker seen) c.requires.at) f.ensures.step in
-    c.next_step.ensures.finds.sees Pusher.Locker seen (ap (λ (y : SeatState). y.point) (state_after s t p m _ _ may made))
+    let s = c.args.seat.now in let l = c.args.pool.now.limits in let f = c.link_store in let t = f.new.seat in
+    let here : c.args.mutex < length s.place.me.0.parts = (let less = c.requires.mutex in let many = c.requires.belongs.parts in omega (arith, less, many)) in
+    c.next_step.ensures.finds.sees Pusher.Locker c.args.loaded (exchanges_at s.number s.place.id c.args.mutex l s.place.me t.place.me t.place.me here c.args.loaded _ 0 c.requires.at f.ensures.step)
 
 pub pack_link-expected-requires-clause-stamp : goal.pack_link-expected-requires-clause-stamp
 pack_link-expected-requires-clause-stamp c = let k = packs_link c.args.pool.now.mutexes c.args.pool.now.limits.seats c.args.mutex c.args.seat.now.number 0 0 (state_of c.args.seat.now c.args.mutex) c.requires.sits.ready c.args.loaded c.requires.at in let small = k.stamp in omega (arith, small)
@@ -66,3 +64,10 @@ pack_link-new-requires-clause-stamp c = (packs_link c.args.pool.now.mutexes c.ar
 pub pack_link-new-requires-clause-next : goal.pack_link-new-requires-clause-next
 pack_link-new-requires-clause-next c =
     let high = c.requires.sits.rooted.high in let few = c.args.pool.now.few.0 in let same = c.link_store.ensures.belongs.number in omega (arith, high, few, same)
+
+pub next_step-requires-clause-chained : goal.next_step-requires-clause-chained
+next_step-requires-clause-chained c =
+    let s = c.args.seat.now in let l = c.args.pool.now.limits in let f = c.link_store in let t = f.new.seat in
+    let here : c.args.mutex < length s.place.me.0.parts = (let less = c.requires.mutex in let many = c.requires.belongs.parts in omega (arith, less, many)) in
+    keeps_at (state_of t c.args.mutex) t.number (part t.place.me.0 c.args.mutex) (note_of t c.args.mutex) (PushExchange Pusher.Locker c.args.loaded)
+    (exchanges_at s.number s.place.id c.args.mutex l s.place.me t.place.me t.place.me here c.args.loaded _ 0 c.requires.at f.ensures.step) refl refl

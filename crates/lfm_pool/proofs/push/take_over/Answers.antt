@@ -1,6 +1,12 @@
 use Rattle.lfm_pool.specs.Seats.{state_of}
 use Rattle.lfm_pool.proofs.Pushing.{exchanges_handoff, packs_post, took_over}
 use Rattle.lfm_pool.proofs.SeatWords.{same_after}
+use Rattle.std.proofs.Common.{refl}
+use Rattle.lfm_pool.proofs.Keeping.{keeps_at}
+use Rattle.lfm_protocol.specs.declared.points.Point.TheVariants.{PushedHandoffExchange}
+use Rattle.lfm_protocol.specs.declared.points.Pusher.{Pusher}
+use Rattle.lfm_pool.specs.Seats.{note_of}
+use Rattle.lfm_pool.specs.Tables.{part}
 use Rattle.lfm_pool.proofs.push.take_over.Goals as goal
 
 pub pack_handoff-expected-requires-clause-seat : goal.pack_handoff-expected-requires-clause-seat
@@ -26,3 +32,8 @@ pub returns-clause-takes : goal.returns-clause-takes
 returns-clause-takes c =
     let s = c.args.seat.now in
     took_over s.number s.place.id c.args.mutex c.args.pool.now.limits s.place.me c.next_step.new.seat.place.me c.next_step.result c.args.posted c.requires.at c.requires.sits c.next_step.ensures.step
+
+pub next_step-requires-clause-chained : goal.next_step-requires-clause-chained
+next_step-requires-clause-chained c =
+    let s = c.args.seat.now in
+    keeps_at (state_of s c.args.mutex) s.number (part s.place.me.0 c.args.mutex) (note_of s c.args.mutex) (PushedHandoffExchange Pusher.Locker c.args.posted) c.requires.at refl refl

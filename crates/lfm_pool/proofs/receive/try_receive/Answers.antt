@@ -1,7 +1,6 @@
 use Rattle.std.proofs.Common.{sym, ap, ◌∙◌, Some, None}
 use Rattle.lfm_protocol.specs.After.{how_granted}
-use Rattle.lfm_pool.proofs.Receiving.{at_grant, enters, may_loaded, may_quiet, receive_bounded, receives, sleeps_on}
-use Rattle.lfm_pool.proofs.SeveralSteps.{same_then}
+use Rattle.lfm_pool.proofs.Receiving.{at_grant, enters, may_loaded, may_quiet, receive_bounded, receive_holds, receives, sleeps_on}
 use Rattle.lfm_pool.proofs.receive.try_receive.Goals as goal
 
 pub returns-then-not-is_grant_word-clause-may : goal.returns-then-not-is_grant_word-clause-may
@@ -63,3 +62,7 @@ returns-clause-bounded c =
     (receives s f.new.seat p m f.result c.requires.may c.requires.sleeps f.ensures.step some may1 h.new.seat h.ensures.step k.new.seat k.result c.how_granted.result
     (may_quiet s f.new.seat p m f.result c.requires.may c.requires.sleeps f.ensures.step some may1 h.new.seat h.ensures.step h.ensures.belongs) k.ensures.step
     (k.ensures.told ∙ (h.ensures.belongs.number ∙ f.ensures.belongs.number)) (c.how_granted.ensures ∙ ap how_granted c.grant_stamp.ensures))
+
+pub returns-clause-holds : goal.returns-clause-holds
+returns-clause-holds c =
+    receive_holds c.args.seat.now c.go_on.new.seat c.args.pool.now c.args.mutex (Some c.how_granted.result) c.requires.may c.go_on.ensures.may (returns-clause-receives c)

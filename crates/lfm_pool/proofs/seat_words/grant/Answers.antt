@@ -1,6 +1,9 @@
 use Rattle.std.proofs.Common.{arith}
 use Rattle.lfm_pool.specs.Seats.{state_of}
 use Rattle.lfm_pool.proofs.SeatWords.{grants, small_grant, target_of_grant, same_after}
+use Rattle.lfm_pool.proofs.Keeping.{keeps_by_grant}
+use Rattle.lfm_pool.specs.Seats.{note_of}
+use Rattle.lfm_pool.specs.Tables.{part}
 use Rattle.lfm_pool.proofs.seat_words.grant.Goals as goal
 
 pub wake_at-index-requires-clause-many : goal.wake_at-index-requires-clause-many
@@ -30,3 +33,8 @@ next_at-requires-clause-is_next c =
 
 pub returns-clause-belongs : goal.returns-clause-belongs
 returns-clause-belongs c = same_after c.args.seat.now c.next_at.new.seat c.args.pool.now.limits c.args.mutex c.next_at.result (state_of c.args.seat.now c.args.mutex) c.next_at.ensures.table c.next_at.ensures.step
+
+pub next_at-requires-clause-chained : goal.next_at-requires-clause-chained
+next_at-requires-clause-chained c =
+    let s = c.args.seat.now in
+    keeps_by_grant (state_of s c.args.mutex) s.number (part s.place.me.0 c.args.mutex) (note_of s c.args.mutex) c.requires.at.0 c.args.oldest c.requires.at.1 c.requires.whole

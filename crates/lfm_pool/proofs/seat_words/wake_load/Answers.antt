@@ -5,6 +5,10 @@ use Rattle.lfm_pool.specs.Steps.{begun_in}
 use Rattle.lfm_pool.specs.Tables.{part}
 use Rattle.lfm_pool.proofs.FastPaths.{sits_begun}
 use Rattle.lfm_pool.proofs.SeatWords.{loads_wake, receives, same_after}
+use Rattle.std.proofs.Common.{refl}
+use Rattle.lfm_pool.proofs.Keeping.{keeps_at}
+use Rattle.lfm_protocol.specs.declared.points.Point.TheVariants.{ReceiveWakeLoad}
+use Rattle.lfm_pool.specs.Seats.{note_of}
 use Rattle.lfm_pool.proofs.seat_words.wake_load.Goals as goal
 
 pub wake_at-index-requires-clause-many : goal.wake_at-index-requires-clause-many
@@ -37,3 +41,9 @@ first_at-requires-clause-is_next c =
 
 pub returns-clause-belongs : goal.returns-clause-belongs
 returns-clause-belongs c = same_after c.args.seat.now c.first_at.new.seat c.args.pool.now.limits c.args.mutex c.first_at.result (begun_in c.args.seat.now.place.me.0 c.args.mutex c.args.pool.now.limits Receive) c.first_at.ensures.table c.first_at.ensures.step
+
+pub first_at-requires-clause-chained : goal.first_at-requires-clause-chained
+first_at-requires-clause-chained c =
+    let s = c.args.seat.now in
+    keeps_at (begun_in s.place.me.0 c.args.mutex c.args.pool.now.limits Receive) s.number (part s.place.me.0 c.args.mutex) (note_of s c.args.mutex) (ReceiveWakeLoad c.requires.at.0)
+    (receives (state_of s c.args.mutex) c.args.pool.now.limits c.requires.at) refl refl

@@ -6,6 +6,7 @@ use Rattle.lfm_table.proofs.tables.Starts.{limit_facts}
 use Rattle.lfm_pool.specs.declared.view.PoolView.{PoolView}
 use Rattle.lfm_pool.specs.Belongs.{IsNew, OfPool}
 use Rattle.lfm_pool.specs.Rule.{MaySplit, left_view, right_view}
+use Rattle.lfm_pool.specs.Tables.{unnoted}
 use Rattle.lfm_table.proofs.tables.RuleKept.{length_at}
 use Rattle.lfm_pool.proofs.NewSeats.{first_after, first_is_new, left_same, right_same, same_may_split, same_of_each, split_after, split_is_new}
 use Rattle.lfm_pool.proofs.pool.Pool.open.Goals as goal
@@ -16,7 +17,7 @@ split_seat-seat-requires-clause-table c = let k = c.loop-i.invariant in (k.table
 pub split_seat-seat-requires-clause-inside : goal.split_seat-seat-requires-clause-inside
 split_seat-seat-requires-clause-inside c =
     let k = c.loop-i.invariant in
-    ap (λ (z : Me ℕ PoolView). length z.0.parts) k.me ∙ length-replicate c.args.mutexes (first_after c.args.limits (length c.loop-i.all.items)) ∙ sym k.pool.0
+    ap (λ (z : Me ℕ PoolView). length z.0.parts) k.me ∙ length-replicate c.args.mutexes (unnoted (first_after c.args.limits (length c.loop-i.all.items))) ∙ sym k.pool.0
 
 pub split_seat-seat-requires-clause-may : goal.split_seat-seat-requires-clause-may
 split_seat-seat-requires-clause-may c =

@@ -1,0 +1,65 @@
+-- What the contracts say of an unlock that serves the oldest queued seat.
+use Rattle.std.specs.Prelude.{◌≡◌, ⊤, ℕ, List, [], ◌∷◌, ◌++◌}
+use Rattle.lfm_words.specs.declared.pop_lists.Record.{Record}
+use Rattle.lfm_words.specs.declared.wakes.Wake.TheVariants.{Grant}
+use Rattle.lfm_words.specs.Popped.{oldest}
+use Rattle.lfm_words.specs.Words.{link_of, wake_word}
+use Rattle.lfm_protocol.specs.After.{take}
+use Rattle.lfm_protocol.specs.declared.points.Carrier.{Carrier}
+use Rattle.lfm_protocol.specs.declared.points.Point.TheVariants.{Rest, ReleaseHandoffStore, TakeClearHead, GrantWakeStore}
+use Rattle.lfm_protocol.specs.declared.points.Releaser.TheVariants.{Unlocker}
+use Rattle.lfm_table.specs.declared.seat_view.Seen.{Seen}
+use Rattle.lfm_table.specs.declared.seat_view.View.{View}
+use Rattle.lfm_table.specs.Actions.{RunGoesOn, seen}
+use Rattle.lfm_pool.specs.declared.pool.Pool.{Pool}
+use Rattle.lfm_pool.specs.declared.pool.PoolSeat.{PoolSeat}
+use Rattle.lfm_pool.specs.Chain.{rested}
+use Rattle.lfm_pool.specs.Collecting.{loads_of, walk_head}
+use Rattle.lfm_pool.specs.FastPaths.{KnowsMoreOf}
+use Rattle.lfm_pool.specs.Seats.{popped_of, state_of}
+use Rattle.lfm_pool.specs.Steps.{Sits}
+use Rattle.lfm_pool.specs.Tables.{part}
+
+-- an unlock of the seat with this number has found others in the count, and serves the oldest of them next
+abbrev pub IsServing : PoolSeat → ℕ → Type 0
+IsServing s m = (state_of s m).point ≡ take (Carrier.Releaser Unlocker) s.number (oldest (popped_of s m))
+
+-- the steps by which it collects the push list, if no record is popped: it finds this push word, and these records
+abbrev pub collecting : List Record → ℕ → List Record → List Seen
+collecting [] found records =
+    seen (TakeClearHead (Carrier.Releaser Unlocker)) found ∷ loads_of (Carrier.Releaser Unlocker) records 0
+collecting (x ∷ rest) found records = []
+
+-- which records these are: those that were popped, or if there were none, those from the head of the push word on
+abbrev pub AreQueued : List Record → ℕ → List Record → Type 0
+AreQueued [] found records = walk_head records 0 ≡ (link_of found).next
+AreQueued (x ∷ rest) found records = records ≡ x ∷ rest
+
+-- The unlock has granted the record r, the oldest, and has ended. If no record was popped, it has found this push word, and
+-- has collected the push list first.
+pub record GrantsNext (r : Record) (v w : View ⊤) : Type 0 where
+  pub found : ℕ
+  pub queued : AreQueued v.popped found (r ∷ w.popped)
+  pub trail : w.trail
+      ≡ v.trail ++ (collecting v.popped found (r ∷ w.popped) ++ seen (GrantWakeStore (Carrier.Releaser Unlocker) r) (wake_word (Grant r.stamp)) ∷ [])
+  pub state : w.state ≡ record v.state { point = Rest }
+  pub run : RunGoesOn v w
+
+abbrev pub GrantsNextIn : PoolSeat → PoolSeat → Pool → ℕ → Record → Type 0
+GrantsNextIn s t p m r =
+    KnowsMoreOf m (λ w k. GrantsNext r (part s.place.me.0 m) w × Sits s.number s.place.id p.limits w.state w) s.place.me t.place.me
+
+-- No record was popped, and the push list was empty, as this push word tells: the seats that are counted have not pushed
+-- their records yet. The unlock posts next.
+pub record FindsNone (v w : View ⊤) : Type 0 where
+  pub found : ℕ
+  pub none : (link_of found).next ≡ 0
+  pub trail : w.trail ≡ v.trail ++ seen (TakeClearHead (Carrier.Releaser Unlocker)) found ∷ []
+  pub state : w.state ≡ record v.state { point = ReleaseHandoffStore Unlocker }
+  pub run : RunGoesOn v w
+
+abbrev pub FindsNoneIn : PoolSeat → PoolSeat → Pool → ℕ → Type 0
+FindsNoneIn s t p m =
+    KnowsMoreOf m
+    (λ w k. FindsNone (part s.place.me.0 m) w × Sits s.number s.place.id p.limits w.state w × (k ≡ rested w.popped))
+    s.place.me t.place.me

@@ -8,8 +8,8 @@
 ghost use Rattle.std.specs.Prelude.{◌≡◌, ◌+◌, ◌<◌, ◌≤◌, ℕ, [], ◌∷◌, ◌++◌, IfOk, IfSome};
 ghost use Rattle.lfm_plain_condvar.specs.Parkers.{HasEachOnce, IsWakerOf, Notifies, ParkersHold, Retires, StartsWithNone, TakesIfNotified, no_notices, times, with_those};
 
-use lfm_mutex::deadlines::{Deadline, time_left};
 use atomic_table::{Join, Play, Seat, Table, TableRule};
+use lfm_mutex::deadlines::{Deadline, time_left};
 use std::alloc::{AllocError, Global};
 use std::collections::LinkedList;
 use std::hint::spin_loop;

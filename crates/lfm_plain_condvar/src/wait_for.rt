@@ -9,12 +9,12 @@ ghost use Rattle.lfm_plain_condvar.specs.Belongs.{NotifiesNobody, OfPlain, Waits
 ghost use Rattle.lfm_plain_condvar.specs.Waits.{LeftList, NoLonger, SleepEnds, WaitForEnds};
 
 use crate::condvar::PlainCondvar;
-use lfm_mutex::deadlines::{Deadline, deadline_after};
 use crate::plain_seat::PlainSeat;
 use crate::user::{bars_wait, come_back, give_up};
 use crate::wait::polls_behind;
 use crate::waiters::Waiter;
 use lfm_model::Refusal;
+use lfm_mutex::deadlines::{Deadline, deadline_after};
 use lfm_mutex::{Kept, Mutex, Seat};
 use std::sync::Wait;
 use std::time::{Clock, Duration, Instant};

@@ -1,5 +1,5 @@
-//! Calls of a mutex around a number and of a plain condvar, with no more of their contracts than the tests need: a hand stays
-//! one of the mutex and the condvar. It has no test.
+//! Calls of a mutex around a number and of a plain condvar, with no more of their contracts than the tests need: a hand
+//! stays one of the mutex and the condvar. It has no test.
 ghost use Rattle.lfm_mutex.specs.Belongs.{Beside};
 ghost use Rattle.lfm_plain_condvar_tests.specs.Hands.{IsHandOf};
 

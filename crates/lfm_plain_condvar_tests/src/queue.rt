@@ -20,7 +20,8 @@ const EMPTY: u64 = 0;
 /// The number while the queue is full.
 const FULL: u64 = 1;
 
-/// Waits while the number is this one, then writes it, and wakes the other thread. Returns whether it found the other number.
+/// Waits while the number is this one, then writes it, and wakes the other thread. Returns whether it found the other
+/// number.
 fn pass<R: Wait>(
     rt: &R,
     mutex: &Mutex<u64>,

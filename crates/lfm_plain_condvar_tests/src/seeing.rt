@@ -1,5 +1,5 @@
-//! Comparisons of what a test finds with what it wants. Each is proved here once, so that a test is a list of plain calls. They
-//! end the test if they fail, as no function of a library may, so each crate of tests has its own.
+//! Comparisons of what a test finds with what it wants. Each is proved here once, so that a test is a list of plain calls.
+//! They end the test if they fail, as no function of a library may, so each crate of tests has its own.
 use std::fmt::Debug;
 use std::process::Abort;
 

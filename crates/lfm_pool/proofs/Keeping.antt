@@ -88,8 +88,12 @@ due_same : (q : Point) (due : ℕ) → is_link_load q ≡ false → due_after q 
 due_same (TakeLinkLoad carrier next) due plain = absurd (false≢true (sym plain))
 due_same _ due plain = refl
 
--- after the step of a seat that carries the mutex, and needs nothing of the chain
-pub carried_step : (x : SeatState) (w : View ⊤) (k : Note) → carries_value x ≡ true → needs_chain x.point ≡ false → note_after x w k ≡ k
-carried_step x w k on plain =
-    let due = due_same x.point k.due (plain_loads x.point plain) in
+-- after the step of a seat that carries the mutex, and loads no link
+pub carried_on : (x : SeatState) (w : View ⊤) (k : Note) → carries_value x ≡ true → is_link_load x.point ≡ false → note_after x w k ≡ k
+carried_on x w k on plain =
+    let due = due_same x.point k.due plain in
     (λ i. note_by (on i) (carries_value w.state) x.point k w.popped) ∙ (λ i. record k { due = due i })
+
+-- if the step needs nothing of the chain
+pub carried_step : (x : SeatState) (w : View ⊤) (k : Note) → carries_value x ≡ true → needs_chain x.point ≡ false → note_after x w k ≡ k
+carried_step x w k on plain = carried_on x w k on (plain_loads x.point plain)

@@ -6,6 +6,7 @@ pub mod ChainLaws
 pub mod Chains
 pub mod CollectedRecords
 pub mod FastPaths
+pub mod Finishing
 pub mod Keeping
 pub mod Lifting
 pub mod Links

@@ -82,7 +82,7 @@ module _ (s t : PoolSeat) (p : Pool) (m count : ℕ) (may : MayStepIn s p m) (sa
           others = others;
           found = last.3.0.found;
           queued = subst (λ (l : List Record). AreQueued l last.3.0.found (r ∷ last.0.popped)) list_now last.3.0.queued;
-          trail = longer last.0 (λ (l : List Record). collecting l last.3.0.found (r ∷ last.0.popped) ++ seen (GrantWakeStore (Carrier.Releaser Unlocker) r) (wake_word (Grant r.stamp)) ∷ []) last.3.0.trail;
+          trail = longer last.0 (λ (l : List Record). collecting (Carrier.Releaser Unlocker) l last.3.0.found (r ∷ last.0.popped) ++ seen (GrantWakeStore (Carrier.Releaser Unlocker) r) (wake_word (Grant r.stamp)) ∷ []) last.3.0.trail;
           state = last.3.0.state ∙ ap (λ (x : SeatState). record x { point = Rest }) state_now;
           run = run_on last.0 last.3.0.run;
         },
@@ -130,26 +130,26 @@ loads_length carrier (r ∷ rest) next =
     let long = length-append (loads_of carrier rest r.seat) (seen (TakeLinkLoad carrier r.seat) (link_word (record { stamp = r.stamp; next = next })) ∷ []) in
     omega (arith, shorter, long)
 
-collecting_length : (popped : List Record) (found : ℕ) (records : List Record) → length (collecting popped found records) ≤ 1 + length records
-collecting_length [] found records = let long = loads_length (Carrier.Releaser Unlocker) records 0 in omega (arith, long)
-collecting_length (x ∷ rest) found records = omega arith
+pub collecting_length : (carrier : Carrier) (popped : List Record) (found : ℕ) (records : List Record) → length (collecting carrier popped found records) ≤ 1 + length records
+collecting_length carrier [] found records = let long = loads_length carrier records 0 in omega (arith, long)
+collecting_length carrier (x ∷ rest) found records = omega arith
 
 module _ (s t : PoolSeat) (p : Pool) (m : ℕ) (may : MayStepIn s p m) where
   -- by what the trail has got
-  bounded_by : (w : View ⊤) (k : Note) (new : List Seen) → t.place.me ≡ (with_part s.place.me.0 m w k, s.place.me.1) → w.trail ≡ (part s.place.me.0 m).trail ++ new → length new ≤ 5 + length w.popped
-      → MakesAtMostIn (5 + length (popped_of t m)) s t m
-  bounded_by w k new is trail less =
+  pub bounded_by : (most : ℕ) (w : View ⊤) (k : Note) (new : List Seen) → t.place.me ≡ (with_part s.place.me.0 m w k, s.place.me.1) → w.trail ≡ (part s.place.me.0 m).trail ++ new → length new ≤ most + length w.popped
+      → MakesAtMostIn (most + length (popped_of t m)) s t m
+  bounded_by most w k new is trail less =
       let now = part_now s.number s.place.id m p.limits s.place.me t.place.me t.place.me (inside s t p m may) w k is in
       let long = ap length (ap (λ (y : View ⊤). y.trail) now ∙ trail) ∙ length-append (part s.place.me.0 m).trail new in
       let list = ap (λ (y : View ⊤). length y.popped) now in
       omega (arith, long, less, list)
 
   pub unlock_bounded : (unlocking : Unlocking) → UnlocksIn unlocking s t p m → MakesAtMostIn (5 + length (popped_of t m)) s t m
-  unlock_bounded Unlocking.Free did = bounded_by did.0 did.1 (release 1) did.2 did.3.0.trail (omega arith)
+  unlock_bounded Unlocking.Free did = bounded_by 5 did.0 did.1 (release 1) did.2 did.3.0.trail (omega arith)
   unlock_bounded (Unlocking.Granted r) did =
       let d = did.3.0 in
-      let less = collecting_length (popped_of s m) d.found (r ∷ did.0.popped) in
-      let long = length-append (collecting (popped_of s m) d.found (r ∷ did.0.popped)) (seen (GrantWakeStore (Carrier.Releaser Unlocker) r) (wake_word (Grant r.stamp)) ∷ []) in
-      bounded_by did.0 did.1 (release d.count ++ (collecting (popped_of s m) d.found (r ∷ did.0.popped) ++ seen (GrantWakeStore (Carrier.Releaser Unlocker) r) (wake_word (Grant r.stamp)) ∷ [])) did.2 d.trail
+      let less = collecting_length (Carrier.Releaser Unlocker) (popped_of s m) d.found (r ∷ did.0.popped) in
+      let long = length-append (collecting (Carrier.Releaser Unlocker) (popped_of s m) d.found (r ∷ did.0.popped)) (seen (GrantWakeStore (Carrier.Releaser Unlocker) r) (wake_word (Grant r.stamp)) ∷ []) in
+      bounded_by 5 did.0 did.1 (release d.count ++ (collecting (Carrier.Releaser Unlocker) (popped_of s m) d.found (r ∷ did.0.popped) ++ seen (GrantWakeStore (Carrier.Releaser Unlocker) r) (wake_word (Grant r.stamp)) ∷ [])) did.2 d.trail
       (omega (arith, less, long))
-  unlock_bounded Unlocking.Posts did = bounded_by did.0 did.1 (release did.3.0.count ++ seen (TakeClearHead (Carrier.Releaser Unlocker)) did.3.0.found ∷ []) did.2 did.3.0.trail (omega arith)
+  unlock_bounded Unlocking.Posts did = bounded_by 5 did.0 did.1 (release did.3.0.count ++ seen (TakeClearHead (Carrier.Releaser Unlocker)) did.3.0.found ∷ []) did.2 did.3.0.trail (omega arith)

@@ -107,7 +107,7 @@ module _ (p : Pool) (s : PoolSeat) (m : ℕ) (sits : SitsIn s p m) (at : IsServi
           record {
             found = 0;
             queued = subst (λ (l : List Record). AreQueued l 0 (r ∷ did.0.popped)) (sym first.1) (ap (λ (l : List Record). r ∷ l) left);
-            trail = subst (λ (l : List Record). did.0.trail ≡ v.trail ++ (collecting l 0 (r ∷ did.0.popped) ++ seen (GrantWakeStore (Carrier.Releaser Unlocker) r) n ∷ [])) (sym first.1)
+            trail = subst (λ (l : List Record). did.0.trail ≡ v.trail ++ (collecting (Carrier.Releaser Unlocker) l 0 (r ∷ did.0.popped) ++ seen (GrantWakeStore (Carrier.Releaser Unlocker) r) n ∷ [])) (sym first.1)
                 (st.trail ∙ ap (λ (q : Point). v.trail ++ seen q n ∷ []) here);
             state = st.state ∙ ap (λ (q : Point). (stepped_by (made_of x.depth x.takes x.posts q) s.number n (oldest st.popped)).seat) here;
             run = goes_on s.number s.place.id p.limits x did.0.state v did.0 n sits did.3.1 st;
@@ -250,7 +250,7 @@ module _ (p : Pool) (s : PoolSeat) (m : ℕ) (sits : SitsIn s p m) (at : IsServi
               record {
                 found = n;
                 queued = subst (λ (l : List Record). AreQueued l n (r ∷ did.0.popped)) (sym none) (ap (λ (l : List Record). walk_head l 0) (sym all) ∙ did2.begins ∙ head_is);
-                trail = subst (λ (l : List Record). did.0.trail ≡ v.trail ++ (collecting l n (r ∷ did.0.popped) ++ seen (GrantWakeStore (Carrier.Releaser Unlocker) r) n3 ∷ [])) (sym none)
+                trail = subst (λ (l : List Record). did.0.trail ≡ v.trail ++ (collecting (Carrier.Releaser Unlocker) l n (r ∷ did.0.popped) ++ seen (GrantWakeStore (Carrier.Releaser Unlocker) r) n3 ∷ [])) (sym none)
                     (trail3 ∙ append_assoc (v.trail ++ seen (TakeClearHead (Carrier.Releaser Unlocker)) n ∷ []) (loads_of (Carrier.Releaser Unlocker) (r ∷ did.0.popped) 0) (seen (GrantWakeStore (Carrier.Releaser Unlocker) r) n3 ∷ [])
                     ∙ append_assoc v.trail (seen (TakeClearHead (Carrier.Releaser Unlocker)) n ∷ []) (loads_of (Carrier.Releaser Unlocker) (r ∷ did.0.popped) 0 ++ seen (GrantWakeStore (Carrier.Releaser Unlocker) r) n3 ∷ []));
                 state = st.state ∙ ap (λ (q : Point). (stepped_by (made_of x.depth x.takes x.posts q) u.number n3 (oldest st.popped)).seat) grants_at

@@ -6,6 +6,7 @@ pub mod Chain
 pub mod Collecting
 pub mod FastPaths
 pub mod Finds
+pub mod FinishAsk
 pub mod Laws
 pub mod Layout
 pub mod Moves

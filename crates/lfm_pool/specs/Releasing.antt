@@ -24,11 +24,10 @@ use Rattle.lfm_pool.specs.Tables.{part}
 abbrev pub IsServing : PoolSeat → ℕ → Type 0
 IsServing s m = (state_of s m).point ≡ take (Carrier.Releaser Unlocker) s.number (oldest (popped_of s m))
 
--- the steps by which it collects the push list, if no record is popped: it finds this push word, and these records
-abbrev pub collecting : List Record → ℕ → List Record → List Seen
-collecting [] found records =
-    seen (TakeClearHead (Carrier.Releaser Unlocker)) found ∷ loads_of (Carrier.Releaser Unlocker) records 0
-collecting (x ∷ rest) found records = []
+-- the steps by which a call collects the push list, if no record is popped: it finds this push word, and these records
+abbrev pub collecting : Carrier → List Record → ℕ → List Record → List Seen
+collecting carrier [] found records = seen (TakeClearHead carrier) found ∷ loads_of carrier records 0
+collecting carrier (x ∷ rest) found records = []
 
 -- which records these are: those that were popped, or if there were none, those from the head of the push word on
 abbrev pub AreQueued : List Record → ℕ → List Record → Type 0
@@ -41,7 +40,7 @@ pub record GrantsNext (r : Record) (v w : View ⊤) : Type 0 where
   pub found : ℕ
   pub queued : AreQueued v.popped found (r ∷ w.popped)
   pub trail : w.trail
-      ≡ v.trail ++ (collecting v.popped found (r ∷ w.popped) ++ seen (GrantWakeStore (Carrier.Releaser Unlocker) r) (wake_word (Grant r.stamp)) ∷ [])
+      ≡ v.trail ++ (collecting (Carrier.Releaser Unlocker) v.popped found (r ∷ w.popped) ++ seen (GrantWakeStore (Carrier.Releaser Unlocker) r) (wake_word (Grant r.stamp)) ∷ [])
   pub state : w.state ≡ record v.state { point = Rest }
   pub run : RunGoesOn v w
 

@@ -32,7 +32,7 @@ pub record Hands (r : Record) (v w : View ⊤) : Type 0 where
   pub found : ℕ
   pub queued : AreQueued v.popped found (r ∷ w.popped)
   pub trail : w.trail
-      ≡ v.trail ++ (release count ++ (collecting v.popped found (r ∷ w.popped) ++ seen (GrantWakeStore (Carrier.Releaser Unlocker) r) (wake_word (Grant r.stamp)) ∷ []))
+      ≡ v.trail ++ (release count ++ (collecting (Carrier.Releaser Unlocker) v.popped found (r ∷ w.popped) ++ seen (GrantWakeStore (Carrier.Releaser Unlocker) r) (wake_word (Grant r.stamp)) ∷ []))
   pub state : w.state ≡ record v.state { depth = 0; point = Rest }
   pub run : RunGoesOn v w
 

@@ -1,6 +1,6 @@
 //! The start of `ask`, a `lock` that queues, of a seat that does not hold the mutex: up to the point at which the seat holds
-//! the mutex, sleeps, or has taken a post over and so has the responsibility. With the responsibility, a `lock` goes on to
-//! collect the queued records and to serve the oldest, as an `unlock` does: no call of this crate goes on so yet.
+//! the mutex, sleeps, or has taken a post over and so has the responsibility. With the responsibility, the
+//! `lock` goes on in `finish_ask`.
 ghost use Rattle.std.specs.Prelude.{◌≡◌};
 ghost use Rattle.lfm_protocol.specs.declared.points.Point.TheVariants.{PushLoad};
 ghost use Rattle.lfm_protocol.specs.declared.points.Pusher.{Pusher};

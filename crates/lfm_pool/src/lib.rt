@@ -3,15 +3,15 @@
 //! no value.
 //!
 //! The crate has the rule that the words of a pool keep, the opening of a pool with its seats, and each step on the words of
-//! a mutex and on the link and wake words of seats. Of the calls it has a `try_lock`, a `lock` up to the point at which its
-//! seat holds the mutex, sleeps or has taken a post over, the receive of a seat that sleeps, and an `unlock` up to the point
-//! at which the mutex is free, granted or has to be posted. The calls need a seat that does not hold the mutex, or, to
-//! unlock, holds it once.
+//! a mutex and on the link and wake words of seats. Of the calls it has a `try_lock`; a `lock` without its sleep, in two
+//! parts (`begin_ask`, and `finish_ask` if that has taken a post over); the receive of a seat that sleeps; and an `unlock`
+//! up to the point at which the mutex is free, granted or has to be posted. The calls need a seat that does not hold the
+//! mutex, or, to unlock, holds it once.
 //!
 //! The popped records of a mutex are a chain in the link words of their seats, and its carried word names the oldest. A call
 //! that carries a mutex collects the queued records into that chain, and serves the oldest: an `unlock` does so if other
-//! seats want the mutex. Not here yet are the rest of a `lock` that has taken a post over, which does so too, the posts of
-//! an `unlock`, and holds of a mutex that its seat holds already.
+//! seats want the mutex, and a `lock` that has taken a post over. Not here yet are the posts of an `unlock`, and holds of a
+//! mutex that its seat holds already.
 #![tactic(auto)]
 
 mod accesses;
@@ -19,6 +19,7 @@ pub mod ask;
 mod chain;
 mod collect;
 pub mod fast_paths;
+pub mod finish_ask;
 pub mod laws;
 pub mod layout;
 mod moves;

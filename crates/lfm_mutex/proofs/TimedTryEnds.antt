@@ -1,12 +1,12 @@
 -- How one try_lock, and the tries after it, make one try_lock_for.
-use Rattle.std.proofs.Common.{◌≡◌, ◌<◌, ℕ, zero, ◌+◌, [], Some, None, Result, Ok, Err, refl, subst, arith}
+use Rattle.std.proofs.Common.{◌≡◌, ℕ, zero, ◌+◌, [], Some, None, Result, Ok, Err, refl, subst, arith}
 use Rattle.lfm_model.specs.declared.answers.How.{How}
 use Rattle.lfm_model.specs.declared.answers.Locked.{Locked}
 use Rattle.lfm_model.specs.declared.refusals.Refusal.{Refusal}
 use Rattle.lfm_protocol.specs.declared.answers.Answer.{Answer}
 use Rattle.lfm_protocol.specs.declared.answers.Call.{Call}
 use Rattle.lfm_protocol.specs.declared.limits.Limits.{Limits}
-use Rattle.lfm_mutex.specs.calls.Barging.{FailedTry, GainsIf, MayTry, TriesBy}
+use Rattle.lfm_mutex.specs.calls.Barging.{GainsIf, MayTry, TriesBy}
 use Rattle.lfm_mutex.specs.calls.Sight.{Sight, Locks}
 use Rattle.lfm_mutex.specs.calls.TimedTries.{LocksInTime}
 use Rattle.lfm_mutex.specs.calls.Trails.{MakesCall}

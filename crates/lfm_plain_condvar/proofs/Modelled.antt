@@ -1,8 +1,8 @@
 -- The list of a running plain condvar changes as that of the model.
-use Rattle.std.proofs.Common.{◌≡◌, ℕ, zero, suc, ◌+◌, List, [], ◌∷◌, ◌++◌, refl, sym, ◌∙◌, ap, subst, arith, drop, length, map, take}
+use Rattle.std.proofs.Common.{◌≡◌, ℕ, zero, suc, ◌+◌, List, [], ◌∷◌, ◌++◌, refl, sym, ◌∙◌, ap, arith, drop, length, map, take}
 use mathlib.Core.Option.{some, some-injective, some-ne-none}
 use lib.ListN.{get_elem?}
-use Rattle.lfm_plain_condvar_laws.specs.Events.{Event, Happens, Run, enlists, finds_none, leaves, wakes}
+use Rattle.lfm_plain_condvar_laws.specs.Events.{Event, Run, enlists, finds_none, leaves, wakes}
 use Rattle.lfm_plain_condvar_laws.specs.Laws.{wakes_in}
 use Rattle.lfm_plain_condvar_laws.specs.Waits.{Waits, waiter, Waiter as InModel}
 use Rattle.lfm_plain_condvar.specs.declared.parkers.Waker.{Waker}

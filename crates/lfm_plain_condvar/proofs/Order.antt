@@ -1,16 +1,13 @@
 -- What becomes of tickets. The tickets of a list and of those added since rise. So one waiter has a ticket, and of a list
 -- that divides into those that stay and those that leave, no two have the same.
-use Rattle.std.proofs.Common.{◌≡◌, ◌≢◌, ℕ, zero, suc, ◌+◌, ◌<◌, ◌≤◌, List, [], ◌∷◌, ◌++◌, Some, refl, sym, ◌∙◌, ap, subst, arith, ◌⊎◌, ⊎_elim, inl, inr, length}
+use Rattle.std.proofs.Common.{◌≡◌, ◌≢◌, ℕ, zero, suc, ◌+◌, ◌<◌, ◌≤◌, List, [], ◌∷◌, ◌++◌, refl, sym, ◌∙◌, ap, subst, arith, ◌⊎◌, ⊎_elim, inl, inr, length}
 use mathlib.Core.Option.{some, some-injective, some-ne-none}
 use lib.ListN.{get_elem?}
-use Rattle.lfm_protocol.specs.declared.limits.Limits.{Limits}
-use Rattle.lfm_mutex.specs.calls.Sight.{Sight}
 use Rattle.lfm_plain_condvar.specs.declared.waiters.Waiter.{Waiter}
 use Rattle.lfm_plain_condvar.specs.declared.waiters.Waiters.{Waiters}
-use Rattle.lfm_plain_condvar.specs.Keeping.{GoesOn, Is, Since, WaitersFollow}
+use Rattle.lfm_plain_condvar.specs.Keeping.{GoesOn, Since}
 use Rattle.lfm_plain_condvar.specs.Lists.{AllBy, Divides, GoOnFrom, InOrder, IsIn}
-use Rattle.lfm_plain_condvar.specs.Order.{Changed, ChangedBy, EndOnce, Ends, HasEnded, NoLongerIsWoken, Rise, TicketsKeepTheirPlaces, TimedOutIsNotWoken, Waits}
-use Rattle.lfm_plain_condvar.specs.Waits.{LeftList, Listed, NoLonger}
+use Rattle.lfm_plain_condvar.specs.Order.{Changed, ChangedBy, Ends, HasEnded, NoLongerIsWoken, Rise, TicketsKeepTheirPlaces, TimedOutIsNotWoken, Waits}
 use Rattle.lfm_plain_condvar.proofs.Followed.{goes_on_more, goes_on_none, goes_on_widened}
 
 -- Who is in a list

@@ -1,14 +1,14 @@
 -- The steps on parkers keep their rule.
-use Rattle.std.proofs.Common.{◌≡◌, ◌≢◌, ℕ, zero, suc, ◌+◌, ◌<◌, ◌≤◌, List, [], ◌∷◌, ◌++◌, refl, sym, ◌∙◌, ap, subst, arith, get_or, set, length, map, get_or-set_other}
+use Rattle.std.proofs.Common.{◌≡◌, ℕ, zero, suc, ◌+◌, ◌<◌, ◌≤◌, List, [], ◌∷◌, ◌++◌, refl, sym, ◌∙◌, ap, subst, arith, get_or, set, length, map, get_or-set_other}
 use mathlib.Core.Option.{Option, some, none, some-injective, some-ne-none}
 use mathlib.Core.Logic.{dite}
 use native.Mathlib.Decide.{ℕ_discrete, dec_le}
 use lib.ListN.{get_elem?}
-use Rattle.atomic_table.specs.Table.{Me, Act, keeps, takes, gives, Valid, carried_after, homes_after, put_back, rest, Allows, Arrives, Enters, Joins, State, step}
+use Rattle.atomic_table.specs.Table.{Me, Act, keeps, takes, gives, Valid, carried_after, homes_after, put_back, Allows, Arrives, Enters, Joins, step}
 use Rattle.atomic_table.proofs.Lists.{set_here, set_else, some_there}
-use Rattle.lfm_model.proofs.Sums.{one_at, one_most, one_other, one_same}
+use Rattle.lfm_model.proofs.Sums.{one_most, one_other, one_same}
 use Rattle.lfm_plain_condvar.specs.declared.parkers.Notices.{Notices}
-use Rattle.lfm_plain_condvar.specs.Parkers.{AtHomeIfNotified, HasEachOnce, Notifies, OneOwner, ParkersHold, Retires, StartsWithNone, TakesIfNotified, no_notices, owners, times, with_those}
+use Rattle.lfm_plain_condvar.specs.Parkers.{HasEachOnce, Notifies, ParkersHold, Retires, StartsWithNone, TakesIfNotified, no_notices, owners, times, with_those}
 
 abbrev U : Type 0
 U = Unit {0}

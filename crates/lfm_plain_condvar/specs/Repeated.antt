@@ -3,7 +3,6 @@
 -- queues for the list, and at most `user_tries` times before it queues for the user mutex. `says v b`: the condition may
 -- return b for the value v.
 use Rattle.std.specs.Prelude.{◌≡◌, ℕ, zero, suc, ⊤, Bool, Result, Ok, Err}
-use Rattle.lfm_model.specs.declared.answers.How.{How}
 use Rattle.lfm_model.specs.declared.refusals.Refusal.{Refusal}
 use Rattle.lfm_protocol.specs.declared.limits.Limits.{Limits}
 use Rattle.lfm_mutex.specs.Conditions.{NeedNotWait, WouldWait}

@@ -1,5 +1,5 @@
 -- What ends waits: a waiter that was taken out stays on its way until it returns, and those that ended are counted.
-use Rattle.std.proofs.Common.{◌≡◌, ◌⊎◌, ⊎_elim, inl, inr, ℕ, ◌+◌, List, [], ◌∷◌, ◌++◌, length, length-append, refl, sym, ◌∙◌, ap, subst, arith}
+use Rattle.std.proofs.Common.{◌≡◌, ◌⊎◌, ⊎_elim, inl, inr, ℕ, ◌+◌, List, [], ◌∷◌, ◌++◌, length, length-append, sym, ap, subst, arith}
 use Rattle.lfm_plain_condvar_laws.specs.Events.{Event, Happens, Run, enlists, finds_none, leaves, returns, wakes}
 use Rattle.lfm_plain_condvar_laws.specs.Laws.{WaitsEndByWakesOrLimits, limits_in, wakes_in}
 use Rattle.lfm_plain_condvar_laws.specs.Waits.{IsIn, Waiter, Waits, none_yet}

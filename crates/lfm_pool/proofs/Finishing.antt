@@ -1,6 +1,6 @@
 -- The end of a lock that has taken a post over: the seat after each part of it.
-use Rattle.std.proofs.Common.{◌≡◌, ◌≢◌, ℕ, ◌+◌, ◌*◌, ◌<◌, ◌≤◌, List, [], ◌∷◌, ◌++◌, drop, length, nat_eq, if◌then◌else◌, Option, Some, None, refl, sym, ap, ◌∙◌, subst, inr, arith, append_assoc, length-append}
-use Rattle.std.specs.Prelude.{⊤, Bool, true, false}
+use Rattle.std.proofs.Common.{◌≡◌, ◌≢◌, ℕ, ◌+◌, ◌*◌, ◌<◌, ◌≤◌, List, [], ◌∷◌, ◌++◌, drop, length, Option, Some, None, refl, sym, ap, ◌∙◌, subst, inr, arith, append_assoc, length-append}
+use Rattle.std.specs.Prelude.{⊤, true, false}
 use Rattle.std.proofs.lemmas.Bool.{eq-eqb, ne_eqb}
 use Rattle.atomic_table.specs.Table.{Me}
 use Rattle.lfm_model.specs.declared.answers.How.{How}
@@ -11,7 +11,7 @@ use Rattle.lfm_words.specs.Popped.{oldest}
 use Rattle.lfm_words.specs.Words.{link_of, link_word, seat_field_size, wake_word}
 use Rattle.lfm_protocol.specs.Limits.{max_seats}
 use Rattle.lfm_protocol.specs.After.{serves, take}
-use Rattle.lfm_protocol.specs.Points.{kind, target}
+use Rattle.lfm_protocol.specs.Points.{target}
 use Rattle.lfm_protocol.specs.declared.kinds.Kind.{Kind}
 use Rattle.lfm_protocol.specs.declared.points.Carrier.{Carrier}
 use Rattle.lfm_protocol.specs.declared.points.Entrant.{Entrant}
@@ -20,28 +20,27 @@ use Rattle.lfm_protocol.specs.declared.points.Point.TheVariants.{Rest, Asleep, T
 use Rattle.lfm_protocol.specs.declared.points.Sleeper.TheVariants as Sleeper
 use Rattle.lfm_protocol.specs.declared.seats.SeatState.{SeatState}
 use Rattle.lfm_protocol.specs.Place.{carries}
-use Rattle.lfm_laws.specs.table.Carried.{carries_value}
 use Rattle.lfm_laws.specs.table.Words.{popped_by_step, stepped_by}
 use Rattle.lfm_table.specs.declared.operations.Access.{Access}
 use Rattle.lfm_table.specs.declared.seat_view.Seen.{Seen}
 use Rattle.lfm_table.specs.declared.seat_view.View.{View}
-use Rattle.lfm_table.specs.Actions.{RunGoesOn, seen}
+use Rattle.lfm_table.specs.Actions.{seen}
 use Rattle.lfm_table.proofs.tables.Actions.{run_next}
 use Rattle.lfm_table.proofs.tables.StepFacts.{carrying, made_of, taking}
 use Rattle.lfm_pool.specs.declared.pool.Pool.{Pool}
 use Rattle.lfm_pool.specs.declared.pool.PoolSeat.{PoolSeat}
 use Rattle.lfm_pool.specs.declared.view.Note.{Note}
 use Rattle.lfm_pool.specs.declared.view.PoolView.{PoolView}
-use Rattle.lfm_pool.specs.Belongs.{IsMutex, OfPool, SameSeat}
+use Rattle.lfm_pool.specs.Belongs.{SameSeat}
 use Rattle.lfm_pool.specs.Carrying.{CarriesIn, NotesIn}
 use Rattle.lfm_pool.specs.Chain.{AreWithin, KeepsChain, HasRecord, first_link, first_seat, note_after, rested}
-use Rattle.lfm_pool.specs.Collecting.{ClearsHead, CollectsIn, loads_of, walk_head}
+use Rattle.lfm_pool.specs.Collecting.{CollectsIn, loads_of, walk_head}
 use Rattle.lfm_pool.specs.FastPaths.{KnowsMoreOf}
 use Rattle.lfm_pool.specs.FinishAsk.{ClearsForLock, EntersByOwn, FinishesIn, FinishSteps, IsReadyFinished, NotesFinished, TakesOldest, finished}
 use Rattle.lfm_pool.specs.Moves.{Made, MakesAtMostIn, MayStepIn}
 use Rattle.lfm_pool.specs.Releasing.{AreQueued, collecting}
-use Rattle.lfm_pool.specs.Seats.{HoldsOnceIn, MovesIn, RestsInOthers, SitsIn, note_of, popped_of, state_of}
-use Rattle.lfm_pool.specs.SeatWords.{Grants, LoadsLink, Sleeps}
+use Rattle.lfm_pool.specs.Seats.{MovesIn, note_of, popped_of, state_of}
+use Rattle.lfm_pool.specs.SeatWords.{Grants, LoadsLink}
 use Rattle.lfm_pool.specs.Serving.{GrantsIn, IsOldest, ServesOldest}
 use Rattle.lfm_pool.specs.Steps.{IsOwnAccessOf, RestsElsewhere, Sits, StepsIn}
 use Rattle.lfm_pool.specs.Tables.{note, part, with_part}

@@ -13,7 +13,6 @@ use Rattle.lfm_protocol.specs.declared.points.Point.TheVariants.{Rest, Asleep, T
 use Rattle.lfm_protocol.specs.declared.points.Sleeper.TheVariants as Sleeper
 use Rattle.lfm_protocol.specs.declared.seats.SeatState.{SeatState}
 use Rattle.lfm_table.specs.declared.seat_view.Seen.{Seen}
-use Rattle.lfm_table.specs.declared.seat_view.View.{View}
 use Rattle.lfm_table.specs.Actions.{seen}
 use Rattle.lfm_pool.specs.declared.pool.Pool.{Pool}
 use Rattle.lfm_pool.specs.declared.pool.PoolSeat.{PoolSeat}

@@ -1,4 +1,4 @@
-use Rattle.std.proofs.Common.{◌≡◌, ◌+◌, ℕ, length, ap, sym, ◌∙◌, arith}
+use Rattle.std.proofs.Common.{arith}
 use Rattle.lfm_plain_condvar.proofs.close.last_counts.Goals as goal
 
 pub unreachable-requires : goal.unreachable-requires

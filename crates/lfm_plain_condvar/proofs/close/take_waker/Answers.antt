@@ -1,4 +1,4 @@
-use Rattle.std.proofs.Common.{◌≡◌, ℕ, ◌++◌, [], ◌∷◌, List, sym, ◌∙◌, ap, subst, arith}
+use Rattle.std.proofs.Common.{◌≡◌, ℕ, ◌++◌, [], ◌∷◌, sym, ◌∙◌, ap, arith}
 use Rattle.lfm_mutex.specs.calls.Sight.{sight}
 use Rattle.lfm_plain_condvar.specs.declared.parkers.Waker.{Waker}
 use Rattle.lfm_plain_condvar.proofs.close.take_waker.Goals as goal

@@ -3,7 +3,7 @@ use mathlib.Core.Option.{some}
 use lib.ListN.{get_elem?}
 use Rattle.lfm_mutex.specs.calls.Sight.{sight}
 use Rattle.lfm_plain_condvar.specs.declared.plain_seat.PlainSeat.{PlainSeat}
-use Rattle.lfm_plain_condvar.specs.Belongs.{HasWaker, inner_seats}
+use Rattle.lfm_plain_condvar.specs.Belongs.{inner_seats}
 use Rattle.lfm_plain_condvar.specs.Parkers.{times}
 use Rattle.lfm_plain_condvar.proofs.close.take_wakers.Given as goal
 

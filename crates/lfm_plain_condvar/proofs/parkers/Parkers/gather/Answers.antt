@@ -1,4 +1,4 @@
-use Rattle.std.proofs.Common.{◌∙◌, ap, arith}
+use Rattle.std.proofs.Common.{◌∙◌, arith}
 use Rattle.lfm_plain_condvar.proofs.Rule.{joins, retires}
 use Rattle.lfm_plain_condvar.proofs.parkers.Parkers.gather.Goals as goal
 

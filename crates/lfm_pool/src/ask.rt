@@ -61,18 +61,18 @@ pub fn begin_ask(pool: &Pool, seat: &mut PoolSeat, mutex: usize) -> Asking
         return Asking::Held;
     }
     go_on(pool, seat, mutex, Access::Load(OWNER));
-    wait(pool, seat, mutex)
+    queue(pool, seat, mutex)
 }
 
 /// Queues the seat, and takes over a post that it finds after its push. Returns Asleep or Carries.
-fn wait(pool: &Pool, seat: &mut PoolSeat, mutex: usize) -> Asking
+fn queue(pool: &Pool, seat: &mut PoolSeat, mutex: usize) -> Asking
     requires may { MayStepIn seat.old pool.now mutex }
     requires at { LoadsPush (state_of seat.old mutex) }
     ensures belongs { SameSeat seat.old seat.new }
     ensures may { MayStepIn seat.new pool.now mutex }
     ensures waits { WaitsIn seat.old seat.new mutex result }
 {
-    queue(pool, seat, mutex);
+    push_record(pool, seat, mutex);
     let post = load_handoff(pool, seat, mutex);
     if !Handoff::is_posted_in(post) {
         return Asking::Asleep;
@@ -86,7 +86,7 @@ fn wait(pool: &Pool, seat: &mut PoolSeat, mutex: usize) -> Asking
 
 /// Pushes the record of the seat: it loads the push word, and tries until an exchange has found the word that was loaded.
 /// Each exchange that fails has found a word that another seat has changed since then.
-fn queue(pool: &Pool, seat: &mut PoolSeat, mutex: usize)
+fn push_record(pool: &Pool, seat: &mut PoolSeat, mutex: usize)
     requires may { MayStepIn seat.old pool.now mutex }
     requires at { LoadsPush (state_of seat.old mutex) }
     ensures belongs { SameSeat seat.old seat.new }

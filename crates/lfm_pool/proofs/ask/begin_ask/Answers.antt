@@ -25,20 +25,20 @@ go_on-requires-2-clause-is_next c =
     let s = c.args.seat.now in let p = c.args.pool.now in let m = c.args.mutex in let f = c.start-count in
     loads_owner s p m (may_try s p m c.requires.belongs c.requires.mutex c.requires.may c.requires.elsewhere) c.requires.may f.new.seat f.result f.ensures.step f.ensures.may c.if-count-eq0.false
 
-pub wait-requires-clause-at : goal.wait-requires-clause-at
-wait-requires-clause-at c =
+pub queue-requires-clause-at : goal.queue-requires-clause-at
+queue-requires-clause-at c =
     let s = c.args.seat.now in let p = c.args.pool.now in let m = c.args.mutex in let f = c.start-count in let h = c.go_on-2 in
     at_push s p m (may_try s p m c.requires.belongs c.requires.mutex c.requires.may c.requires.elsewhere) c.requires.may f.new.seat f.result f.ensures.step f.ensures.may c.if-count-eq0.false h.new.seat h.result h.ensures.step h.ensures.finds h.ensures.may
 
 pub returns-clause-asks : goal.returns-clause-asks
 returns-clause-asks c =
-    let s = c.args.seat.now in let p = c.args.pool.now in let m = c.args.mutex in let f = c.start-count in let h = c.go_on-2 in let k = c.wait in
+    let s = c.args.seat.now in let p = c.args.pool.now in let m = c.args.mutex in let f = c.start-count in let h = c.go_on-2 in let k = c.queue in
     asks s p m (may_try s p m c.requires.belongs c.requires.mutex c.requires.may c.requires.elsewhere) c.requires.may f.new.seat f.result f.ensures.step f.ensures.may c.if-count-eq0.false h.new.seat h.result h.ensures.step h.ensures.finds h.ensures.may
     k.new.seat k.result k.ensures.waits f.ensures.belongs.number (h.ensures.belongs.number ∙ f.ensures.belongs.number)
 
 pub returns-clause-bounded : goal.returns-clause-bounded
 returns-clause-bounded c =
-    let s = c.args.seat.now in let p = c.args.pool.now in let m = c.args.mutex in let f = c.start-count in let h = c.go_on-2 in let k = c.wait in
+    let s = c.args.seat.now in let p = c.args.pool.now in let m = c.args.mutex in let f = c.start-count in let h = c.go_on-2 in let k = c.queue in
     let may = may_try s p m c.requires.belongs c.requires.mutex c.requires.may c.requires.elsewhere in
     ask_bounded s k.new.seat p m k.result may
     (asks s p m may c.requires.may f.new.seat f.result f.ensures.step f.ensures.may c.if-count-eq0.false h.new.seat h.result h.ensures.step h.ensures.finds h.ensures.may
@@ -52,6 +52,6 @@ returns-then-count-eq0-clause-ready c =
 
 pub returns-clause-ready : goal.returns-clause-ready
 returns-clause-ready c =
-    let s = c.args.seat.now in let f = c.start-count in let h = c.go_on-2 in let k = c.wait in
+    let s = c.args.seat.now in let f = c.start-count in let h = c.go_on-2 in let k = c.queue in
     ready s k.new.seat c.args.pool.now c.args.mutex k.result (may_try s c.args.pool.now c.args.mutex c.requires.belongs c.requires.mutex c.requires.may c.requires.elsewhere) c.requires.may.rests
     (same_then s f.new.seat k.new.seat f.ensures.belongs (same_then f.new.seat h.new.seat k.new.seat h.ensures.belongs k.ensures.belongs)) k.ensures.may (returns-clause-asks c)

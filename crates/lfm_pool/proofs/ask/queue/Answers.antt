@@ -1,46 +1,60 @@
-use Rattle.lfm_pool.proofs.Asking.{begins_push, changes_fall_by, goes_on_pushing, has_pushed, may_more, stores_next}
+use Rattle.std.proofs.Common.{sym, ◌∙◌}
+use Rattle.lfm_pool.proofs.Asking.{at_handoff, at_post, carries, may_handoff, may_post, sleeps_after, sleeps_at_once}
 use Rattle.lfm_pool.proofs.SeveralSteps.{same_then}
 use Rattle.lfm_pool.proofs.ask.queue.Goals as goal
 
-pub loop-word-init : goal.loop-word-init
-loop-word-init c = begins_push c.args.seat.now c.load_push-word.new.seat c.args.pool.now c.args.mutex c.load_push-word.result c.requires.may c.load_push-word.ensures.belongs c.load_push-word.ensures.loads
+pub load_handoff-post-requires-clause-at : goal.load_handoff-post-requires-clause-at
+load_handoff-post-requires-clause-at c = at_handoff c.args.seat.now c.push_record.new.seat c.args.pool.now c.args.mutex c.requires.may c.push_record.ensures.queues
 
-pub push-found-requires-clause-belongs : goal.push-found-requires-clause-belongs
-push-found-requires-clause-belongs c = c.loop-word.invariant.may.belongs
+pub returns-then-not-is_posted_in-clause-belongs : goal.returns-then-not-is_posted_in-clause-belongs
+returns-then-not-is_posted_in-clause-belongs c = same_then c.args.seat.now c.push_record.new.seat c.load_handoff-post.new.seat c.push_record.ensures.belongs c.load_handoff-post.ensures.belongs
 
-pub push-found-requires-clause-mutex : goal.push-found-requires-clause-mutex
-push-found-requires-clause-mutex c = c.loop-word.invariant.may.mutex
+pub returns-then-not-is_posted_in-clause-may : goal.returns-then-not-is_posted_in-clause-may
+returns-then-not-is_posted_in-clause-may c =
+    let f = c.push_record in let h = c.load_handoff-post in may_handoff c.args.seat.now f.new.seat c.args.pool.now c.args.mutex c.requires.may f.ensures.queues h.new.seat h.result h.ensures.loads f.ensures.may h.ensures.belongs
 
-pub push-found-requires-clause-sits : goal.push-found-requires-clause-sits
-push-found-requires-clause-sits c = c.loop-word.invariant.may.sits
+pub returns-then-not-is_posted_in-clause-waits : goal.returns-then-not-is_posted_in-clause-waits
+returns-then-not-is_posted_in-clause-waits c =
+    let f = c.push_record in let h = c.load_handoff-post in
+    sleeps_at_once c.args.seat.now f.new.seat c.args.pool.now c.args.mutex c.requires.may f.ensures.queues h.new.seat h.result h.ensures.loads (sym c.if-not-is_posted_in.ensures)
 
-pub push-found-requires-clause-elsewhere : goal.push-found-requires-clause-elsewhere
-push-found-requires-clause-elsewhere c = c.loop-word.invariant.may.elsewhere
+pub take_over-found-requires-clause-belongs : goal.take_over-found-requires-clause-belongs
+take_over-found-requires-clause-belongs c =
+    let f = c.push_record in let h = c.load_handoff-post in (may_handoff c.args.seat.now f.new.seat c.args.pool.now c.args.mutex c.requires.may f.ensures.queues h.new.seat h.result h.ensures.loads f.ensures.may h.ensures.belongs).belongs
 
-pub push-found-requires-clause-at : goal.push-found-requires-clause-at
-push-found-requires-clause-at c =
-    stores_next c.args.seat.now c.loop-word.seat c.args.pool.now c.args.mutex c.loop-word.word c.requires.may c.loop-word.invariant c.unpack_link.result c.unpack_link.ensures.holds
+pub take_over-found-requires-clause-sits : goal.take_over-found-requires-clause-sits
+take_over-found-requires-clause-sits c =
+    let f = c.push_record in let h = c.load_handoff-post in (may_handoff c.args.seat.now f.new.seat c.args.pool.now c.args.mutex c.requires.may f.ensures.queues h.new.seat h.result h.ensures.loads f.ensures.may h.ensures.belongs).sits
 
-pub returns-then-found-word-clause-belongs : goal.returns-then-found-word-clause-belongs
-returns-then-found-word-clause-belongs c = same_then c.args.seat.now c.loop-word.seat c.push-found.new.seat c.loop-word.invariant.belongs c.push-found.ensures.belongs
+pub take_over-found-requires-clause-elsewhere : goal.take_over-found-requires-clause-elsewhere
+take_over-found-requires-clause-elsewhere c =
+    let f = c.push_record in let h = c.load_handoff-post in (may_handoff c.args.seat.now f.new.seat c.args.pool.now c.args.mutex c.requires.may f.ensures.queues h.new.seat h.result h.ensures.loads f.ensures.may h.ensures.belongs).elsewhere
 
-pub returns-then-found-word-clause-may : goal.returns-then-found-word-clause-may
-returns-then-found-word-clause-may c =
-    let h = c.push-found in
-    may_more c.args.seat.now c.loop-word.seat c.args.pool.now c.args.mutex c.loop-word.word c.requires.may c.loop-word.invariant h.new.seat h.result c.unpack_link.result c.unpack_link.ensures.holds h.ensures.pushes h.ensures.belongs
+pub take_over-found-requires-clause-at : goal.take_over-found-requires-clause-at
+take_over-found-requires-clause-at c =
+    let f = c.push_record in let h = c.load_handoff-post in
+    at_post c.args.seat.now f.new.seat c.args.pool.now c.args.mutex c.requires.may f.ensures.queues h.new.seat h.result h.ensures.loads (sym c.if-not-is_posted_in.ensures) f.ensures.may c.unpack_handoff.result c.unpack_handoff.ensures.holds
 
-pub returns-then-found-word-clause-queues : goal.returns-then-found-word-clause-queues
-returns-then-found-word-clause-queues c =
-    let h = c.push-found in
-    has_pushed c.args.seat.now c.loop-word.seat c.args.pool.now c.args.mutex c.loop-word.word c.requires.may c.loop-word.invariant h.new.seat h.result c.unpack_link.result c.unpack_link.ensures.holds h.ensures.pushes c.if-found-word.true
+pub returns-then-found-post-clause-may : goal.returns-then-found-post-clause-may
+returns-then-found-post-clause-may c =
+    let s = c.args.seat.now in let p = c.args.pool.now in let m = c.args.mutex in let f = c.push_record in let h = c.load_handoff-post in let k = c.take_over-found in
+    may_post s f.new.seat p m c.requires.may f.ensures.queues h.new.seat h.result h.ensures.loads (sym c.if-not-is_posted_in.ensures) f.ensures.may k.new.seat k.result c.unpack_handoff.result c.unpack_handoff.ensures.holds
+    (may_handoff s f.new.seat p m c.requires.may f.ensures.queues h.new.seat h.result h.ensures.loads f.ensures.may h.ensures.belongs) k.ensures.takes k.ensures.belongs
 
-pub loop-word-smaller : goal.loop-word-smaller
-loop-word-smaller c =
-    let h = c.push-found in
-    changes_fall_by c.loop-word.word h.result c.unpack_link.result c.unpack_link.ensures.holds c.unpack_link.ensures.stamp h.ensures.sees c.if-found-word.false
+pub returns-then-found-post-clause-waits : goal.returns-then-found-post-clause-waits
+returns-then-found-post-clause-waits c =
+    let s = c.args.seat.now in let p = c.args.pool.now in let m = c.args.mutex in let f = c.push_record in let h = c.load_handoff-post in let k = c.take_over-found in
+    carries s f.new.seat p m c.requires.may f.ensures.queues h.new.seat h.result h.ensures.loads (sym c.if-not-is_posted_in.ensures) f.ensures.may k.new.seat k.result c.unpack_handoff.result c.unpack_handoff.ensures.holds
+    (may_handoff s f.new.seat p m c.requires.may f.ensures.queues h.new.seat h.result h.ensures.loads f.ensures.may h.ensures.belongs) k.ensures.takes c.if-found-post.true (h.ensures.belongs.number ∙ f.ensures.belongs.number)
 
-pub loop-word-preserved : goal.loop-word-preserved
-loop-word-preserved c =
-    let h = c.push-found in
-    goes_on_pushing c.args.seat.now c.loop-word.seat c.args.pool.now c.args.mutex c.loop-word.word c.requires.may c.loop-word.invariant h.new.seat h.result c.unpack_link.result c.unpack_link.ensures.holds h.ensures.pushes h.ensures.belongs
-    h.ensures.sees c.if-found-word.false
+pub returns-clause-may : goal.returns-clause-may
+returns-clause-may c =
+    let s = c.args.seat.now in let p = c.args.pool.now in let m = c.args.mutex in let f = c.push_record in let h = c.load_handoff-post in let k = c.take_over-found in
+    may_post s f.new.seat p m c.requires.may f.ensures.queues h.new.seat h.result h.ensures.loads (sym c.if-not-is_posted_in.ensures) f.ensures.may k.new.seat k.result c.unpack_handoff.result c.unpack_handoff.ensures.holds
+    (may_handoff s f.new.seat p m c.requires.may f.ensures.queues h.new.seat h.result h.ensures.loads f.ensures.may h.ensures.belongs) k.ensures.takes k.ensures.belongs
+
+pub returns-clause-waits : goal.returns-clause-waits
+returns-clause-waits c =
+    let s = c.args.seat.now in let p = c.args.pool.now in let m = c.args.mutex in let f = c.push_record in let h = c.load_handoff-post in let k = c.take_over-found in
+    sleeps_after s f.new.seat p m c.requires.may f.ensures.queues h.new.seat h.result h.ensures.loads (sym c.if-not-is_posted_in.ensures) f.ensures.may k.new.seat k.result c.unpack_handoff.result c.unpack_handoff.ensures.holds
+    (may_handoff s f.new.seat p m c.requires.may f.ensures.queues h.new.seat h.result h.ensures.loads f.ensures.may h.ensures.belongs) k.ensures.takes c.if-found-post.false

@@ -1,5 +1,5 @@
 use Rattle.lfm_pool.proofs.Asking.{Pushing, changes_left}
-use Rattle.lfm_pool.proofs.ask.queue.Given as goal
+use Rattle.lfm_pool.proofs.ask.push_record.Given as goal
 
 abbrev pub invariant-loop-word : goal.invariant-loop-word
 invariant-loop-word l = Pushing l.fn.seat l.seat l.pool l.mutex l.word

@@ -172,6 +172,14 @@ test('by Tab and Enter alone: a task from its start to its end, and the next one
   assert.match(await text('story'), /Task 2/);
 });
 
+test('the focus stays at the seat whose button was pressed', async () => {
+  await browser.open(address(pageFile));
+  await browser.run(`document.getElementById('examples').focus()`);
+  await tabTo('2 lock');
+  await browser.key('Enter', 'Enter');
+  assert.match(await focused(), /^2 /);
+});
+
 test('a task shows a way to its end, and can be begun again', async () => {
   await browser.run('startTask(5)');
   await browser.click('#hint');

@@ -22,6 +22,7 @@ pub mod Resting
 pub mod SeatWords
 pub mod ServingRecords
 pub mod SeveralSteps
+pub mod Sleeping
 pub mod Splitting
 pub mod Steps
 pub mod Targets

@@ -17,6 +17,7 @@ pub mod Rule
 pub mod SeatWords
 pub mod Seats
 pub mod Serving
+pub mod Sleep
 pub mod Steps
 pub mod Tables
 pub mod TryLock

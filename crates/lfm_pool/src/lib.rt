@@ -29,6 +29,7 @@ pub mod receive;
 pub mod rule;
 mod seat_words;
 mod serve;
+pub mod sleep;
 mod step;
 pub mod try_lock;
 pub mod unlock;

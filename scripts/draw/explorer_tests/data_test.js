@@ -167,6 +167,31 @@ for (const graph of right) {
   });
 }
 
+// the calls of a graph as starts.txt names them, for this seat: a send has a target, which is another seat
+function callsOf(graph, seat) {
+  const [, , , ...named] = startRows().find(([, , name]) => name === graph.name)[4].split(' ');
+  const calls = named[0] === 'all' ? ['lock', 'try_lock', 'unlock', 'receive', 'start_wait', 'send_lock'] : named;
+  const targets = graph.seatNumbers.filter(other => other !== seat).map(target => 'send_lock ' + target);
+  return calls.flatMap(call => call === 'send_lock' ? targets : [call]);
+}
+
+for (const graph of right) {
+  test(`${graph.name}: a seat without an open call begins each call, or is refused it`, () => {
+    const calls = graph.seatNumbers.map(seat => callsOf(graph, seat).sort());
+    const deepest = Number(startRows().find(([, , name]) => name === graph.name)[4].split(' ')[2]);
+    for (let node = 0; node < graph.states.length; node++) {
+      const { seats, choices } = page.stateAt(graph, node);
+      seats.forEach(({ depth, point }, i) => {
+        if (point.includes(':')) return;
+        // at the greatest depth of the graph a further lock is left out
+        const isKept = act => depth < deepest || !/lock$/.test(act) || act === 'unlock';
+        const found = [...choices[i].moves, ...choices[i].refusals].map(({ act }) => act).sort();
+        assert.deepStrictEqual(found, calls[i].filter(isKept), `seat ${i + 1} in state ${node}`);
+      });
+    }
+  });
+}
+
 // whether these events lead from the state, one after another, to one that is wanted
 function isWay(graph, from, events, isWanted) {
   let node = from;

@@ -105,7 +105,8 @@ function drawLanes(view, least) {
   const { x, y, width, height, values } = layout;
   const heads = view.graph.seatNumbers.map(seat => label(x(seat), 17, 'bold', 'seat ' + seat, 'middle'));
   const lanes = view.graph.seatNumbers.map(seat => `<path d="M${x(seat)} 0V${height}" class="lane"/>`);
-  const hits = width => rows.map(({ moment }, r) => `<g class="row${moment === view.at ? ' now' : ''}" data-moment="${moment}">
+  const styleOf = moment => moment === view.at ? 'row now' : 'row';
+  const hits = width => rows.map(({ moment }, r) => `<g class="${styleOf(moment)}" data-moment="${moment}">
 <rect class="hit" x="0" y="${y(r) - PITCH / 2}" width="${width}" height="${PITCH}"/></g>`);
   const drawn = draw => rows.map((row, r) => draw(view, row, rows[r - 1], layout, y(r)));
   return {
@@ -204,10 +205,10 @@ const drawnRow = (view, row, parts) =>
 // the words after a row, if it has changed one
 function drawValues(view, row, before, layout, y) {
   const now = stateAfter(view, row.moment).line.split(' '), then = stateAfter(view, row.moment - 1).line.split(' ');
-  const rule = ruleAbove(row, before, y, layout.values);
-  if (row.kind === 'answer' || now.join() === then.join()) return rule;
   const styleOf = part => now[part] === then[part] ? 'soft' : '';
-  return drawnRow(view, row, [rule, ...COLUMNS.map(([, part, right]) => label(right, y + 4, styleOf(part), now[part]))]);
+  const isChanged = row.kind !== 'answer' && now.join() !== then.join();
+  const values = isChanged ? COLUMNS.map(([, part, right]) => label(right, y + 4, styleOf(part), now[part])) : [];
+  return drawnRow(view, row, [ruleAbove(row, before, y, layout.values), ...values]);
 }
 
 if (typeof module !== 'undefined') {

@@ -55,7 +55,8 @@ function showLanes() {
   if (isAbove || isBelow) lanes.scrollTop = Math.max(0, now - 120);
   // the present row is in sight, and the text of its step
   const seen = lanes.clientWidth - values;
-  if (left < lanes.scrollLeft + 40 || left + 250 > lanes.scrollLeft + seen) lanes.scrollLeft = Math.max(0, left + 250 - seen);
+  const isHidden = left < lanes.scrollLeft + 40 || left + 250 > lanes.scrollLeft + seen;
+  if (isHidden) lanes.scrollLeft = Math.max(0, left + 250 - seen);
 }
 
 // what has just happened, in sentences

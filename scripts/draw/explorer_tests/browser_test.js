@@ -1,6 +1,6 @@
 'use strict';
-// Opens a page in a headless Chromium, and clicks and looks as a reader does: through the examples, the tasks, and the links that
-// lead to a moment. It needs node and Chromium, and no library.
+// Opens a page in a headless Chromium, and clicks and looks as a reader does: through the examples, the tasks, and the links
+// that lead to a moment. It needs node and Chromium, and no library.
 //
 //   node browser_test.js PAGE [PAGE_OF_3_SEATS [OPENED_PAGE]]     CHROMIUM names the browser
 const assert = require('assert');
@@ -173,27 +173,27 @@ test('a link opens the same moment, also of a wrong mutex', async () => {
   }
 });
 
+const linesOfHash = hash => decodeURIComponent(hash).split(';').join('\n');
+
 // the example that a link of examples/README.md belongs to: the last one whose heading stands before it
 const exampleOf = before => [...before.matchAll(/^\*\*\d\. `(?:\w+\/)?(\w+)`:/gm)].pop()[1];
 
 test('each of the six examples has a link, which opens at a moment of it', async () => {
   const links = linksTo('explorer').filter(({ file }) => file === 'examples/README.md');
-  assert.deepStrictEqual(links.map(({ before }) => exampleOf(before)), page.schedules.filter(({ kind }) => kind === 'example')
-    .map(({ name }) => name).filter(name => fs.existsSync(storedPlace(name) + '.steps')));
+  assert.deepStrictEqual(links.map(({ before }) => exampleOf(before)), withSteps.map(({ name }) => name));
   for (const { before, hash } of links) {
-    const name = exampleOf(before), whole = page.follow(page.whole, stored(name, '.lfm')).path;
+    const name = exampleOf(before), example = page.follow(page.whole, stored(name, '.lfm')).path;
     await browser.open(`${address(pageFile)}#${hash}`);
     assert.strictEqual(await text('fault'), '');
-    const shown = await browser.run('view.path.map(({ seat, act, to }) => [seat, act, to])');
-    assert.deepStrictEqual(shown, whole.slice(0, shown.length).map(({ seat, act, to }) => [seat, act, to]), name);
-    assert(shown.length > 0 && shown.length < whole.length + 1);
+    const wanted = page.follow(page.whole, linesOfHash(hash)).path, states = path => path.map(({ seat, to }) => [seat, to]);
+    const shown = await browser.run('view.path.map(({ seat, to }) => [seat, to])');
+    assert.deepStrictEqual(shown, states(wanted), name);
+    assert.deepStrictEqual(shown, states(example).slice(0, shown.length), name);
     assert.strictEqual(await text('moment'), `${shown.length} of ${shown.length}`);
-    assert.strictEqual(await text('trace'), page.traceOf(page.whole, page.follow(page.whole, linesOfHash(hash)).path));
+    assert.strictEqual(await text('trace'), page.traceOf(page.whole, wanted));
   }
   return `${links.length} links`;
 });
-
-const linesOfHash = hash => decodeURIComponent(hash).split(';').join('\n');
 
 test('an address that names nothing opens the free mutex', async () => {
   for (const hash of ['#%', '#seats 9', '#nothing;1 lock;1 lock']) {

@@ -49,7 +49,8 @@ function printed(name) {
   return execFileSync(path.join(TOP, 'scripts/draw/explorer'), ['--print', name], { encoding: 'utf8', maxBuffer: 1e9 });
 }
 
-// the links to moments of a page in the pages of the repository: where each stands, what stands before it, and what follows its #
+// the links to moments of a page in the pages of the repository: the file of each, what stands before it there, and what
+// follows its #
 function linksTo(name) {
   const inDocs = fs.readdirSync(path.join(TOP, 'docs')).filter(file => file.endsWith('.md')).map(file => 'docs/' + file);
   const link = new RegExp(`${name}\\.html#([^)\\s]+)`, 'g');

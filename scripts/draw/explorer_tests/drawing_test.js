@@ -83,8 +83,8 @@ function checkBoxes(view) {
   const wordOf = step => (/: ([a-z]+(?:\.\d+)?) /.exec(step) || [])[1];
   for (const box of tags(memory, 'rect').map(tag => tag['data-word']).filter(word => word)) {
     const next = seats.flatMap(({ point }, i) => wordOf(point) === box ? [i + 1] : []).join(', ');
-    const found = new RegExp(`data-word="${box.replace('.', '\\.')}"/>${label}${label}(?:<text [^>]*>next: ([^<]*)</text>)?`);
-    assert.strictEqual(found.exec(memory)[3] ?? '', next, box);
+    const third = '(?:<text [^>]*>next: ([^<]*)</text>)?', start = `data-word="${box.replace('.', '\\.')}"/>`;
+    assert.strictEqual(new RegExp(start + label + label + third).exec(memory)[3] ?? '', next, box);
   }
   const step = view.at === 0 ? '' : view.path[view.at - 1].step, word = (/: ([a-z]+(?:\.\d+)?) /.exec(step) || [])[1];
   const thick = tags(memory, 'rect').filter(tag => /touched/.test(tag.class)).map(tag => tag['data-word']);

@@ -1,6 +1,6 @@
 'use strict';
-// Opens a page in a headless Chromium, and uses it by keys alone; and reads the names and landmarks that a screen reader gets. It
-// needs node and Chromium, and no library.
+// Opens a page in a headless Chromium, and uses it by keys alone; and reads the names and landmarks that a screen reader
+// gets. It needs node and Chromium, and no library.
 //
 //   node keyboard_test.js PAGE     CHROMIUM names the browser
 const assert = require('assert');
@@ -23,7 +23,8 @@ const focusNow = () => browser.run(`(() => {
   const element = document.activeElement, { outlineStyle, outlineWidth } = getComputedStyle(element);
   const { left, right, top, bottom } = element.getBoundingClientRect();
   const isInView = right > 0 && left < innerWidth && bottom > 0 && top < innerHeight;
-  return { number: element.numberInTest, isSeen: isInView && outlineStyle === 'solid' && parseFloat(outlineWidth) >= 2 }; })()`);
+  const isSeen = isInView && outlineStyle === 'solid' && parseFloat(outlineWidth) >= 2;
+  return { number: element.numberInTest, isSeen }; })()`);
 
 for (const [name, hash] of [['the first screen', ''], ['a moment', POSTED]]) {
   test(`${name}: Tab reaches each control, and its focus is seen`, async () => {
@@ -145,8 +146,8 @@ test('landmarks, names and headings for a screen reader', async () => {
     named(role).forEach(name => assert(name.trim() !== '', `a ${role} without a name`));
   }
   // two buttons of one name would be told apart by their places alone
-  const enabled = nodes.filter(node => node.role?.value === 'button' && !node.properties.some(({ name }) => name === 'disabled'));
-  const names = enabled.map(node => node.name.value);
+  const isEnabled = ({ properties }) => !properties.some(({ name }) => name === 'disabled');
+  const names = nodes.filter(node => node.role?.value === 'button' && isEnabled(node)).map(node => node.name.value);
   assert.deepStrictEqual(names, [...new Set(names)]);
   assert(names.includes('seat 2: make this step') && names.includes('seat 2: finish the call'), names.join(', '));
   const [memory] = named('image');

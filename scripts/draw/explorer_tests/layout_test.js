@@ -1,6 +1,6 @@
 'use strict';
-// Opens a page in a headless Chromium, in windows of several sizes: no text is cut, no panel lies over another one, and what a
-// reader needs first is in sight. Also the picture of the page in README.md is one of the page as it is. It needs node and
+// Opens a page in a headless Chromium, in windows of several sizes: no text is cut, no panel lies over another one, and what
+// a reader needs first is in sight. Also the picture of the page in README.md is one of the page as it is. It needs node and
 // Chromium, and no library.
 //
 //   node layout_test.js PAGE [PAGE_OF_3_SEATS]     CHROMIUM names the browser
@@ -48,7 +48,7 @@ for (const [width, height] of [[1450, 900], [1280, 720], [1000, 700]]) {
   test(`${width} pixels: the first screen says what this is and what to do first, and has the first tasks`, async () => {
     await browser.open(address(pageFile), width, height);
     assert.match(await browser.run(`document.querySelector('header p').innerText`),
-      /^This page runs a mutex, .* you choose which seat makes the next step\. To begin, press try at task 1 below, [^.]*\.$/);
+      /^This page runs a mutex, [^.]* you choose which seat makes the next step\. To begin, press try at task 1 [^.]*\.$/);
     assert(await inSight('header p', '#seats', '#story', '[data-task="0"]', '[data-task="1"]'));
     await browser.click('[data-task="0"]');
     assert.match(await browser.run(`document.querySelector('header p').innerText`), /press start over\.$/);

@@ -1,6 +1,6 @@
 'use strict';
-// Takes pictures of a page. They differ with the fonts of a machine, so no test compares their bytes. Of the one in README.md
-// docs/pictures/explorer.txt says at which moment it was taken and what the page said there, and layout_test.js compares that.
+// Takes pictures of a page. They differ with the fonts of a machine, so no test compares their bytes. Of the one in README
+// docs/pictures/explorer.txt says at which moment it was taken, and what the page said there: layout_test.js compares that.
 //
 //   node picture.js                                            takes the one in README.md anew, and writes that file anew
 //   node picture.js PAGE MOMENT FILE WIDTH HEIGHT [dark]       another picture

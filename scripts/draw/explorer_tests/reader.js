@@ -45,7 +45,7 @@ const words = () => browser.run(`['count', 'owner', 'handoff'].map(word => {
 const focused = () => browser.run(`(() => { const { dataset, id, tagName } = document.activeElement;
   return dataset.seat ? dataset.seat + ' ' + dataset.act : dataset.task ? 'task ' + dataset.task : id || tagName; })()`);
 
-// no text is wider than what holds it, and no panel lies over another one
+// no text is wider than what holds it, no panel lies over another one, and the panels of the seats fill their row
 const layoutFaults = () => browser.run(`(() => {
   const faults = [], box = element => element.getBoundingClientRect();
   const names = 'header, .seat, .time, #lanes, .legend, #story, #memory, .text section, details';
@@ -68,6 +68,8 @@ const layoutFaults = () => browser.run(`(() => {
     const label = rect.nextElementSibling.nextElementSibling;
     if (box(label).width > box(rect).width) faults.push('too wide: ' + label.textContent);
   }
+  const end = Math.max(...[...document.querySelectorAll('.seat')].map(seat => box(seat).right));
+  if (Math.abs(end - box(document.querySelector('#lanes')).right) > 1) faults.push('the seats are not as wide as the lanes');
   if (document.documentElement.scrollWidth > innerWidth) faults.push('the page is wider than the window');
   return faults; })()`);
 
@@ -91,5 +93,5 @@ function runInBrowser(file) {
   }).finally(() => browser.close());
 }
 
-module.exports = { browser, address, text, test, choose, titles, chooseTitle, WALK_THE_WAY, tabTo, words, focused, layoutFaults,
+module.exports = { browser, address, text, test, titles, chooseTitle, WALK_THE_WAY, tabTo, words, focused, layoutFaults,
   crossedRows, runInBrowser };

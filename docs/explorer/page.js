@@ -222,6 +222,8 @@ function addressPart() {
 function openAddress() {
   const [first, ...lines] = addressPart().split(';');
   const graph = graphs[first] ?? graphs.whole, opened = examples.findIndex(({ graph }) => graph.name === 'opened');
+  view.task = null;
+  $('examples').value = '';
   if (first === '' && opened >= 0) return startExample(opened);
   load(graph, [first.startsWith('seats') ? first : 'seats ' + graph.seats, ...lines].join('\n'));
 }

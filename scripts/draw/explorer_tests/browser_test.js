@@ -195,6 +195,14 @@ test('each of the six examples has a link, which opens at a moment of it', async
   return `${links.length} links`;
 });
 
+test('an address that is typed in a task ends the task', async () => {
+  await browser.run('startTask(1)');
+  await browser.run(`location.hash = '#' + encodeURIComponent('seats 2 2;2 lock;2 *')`);
+  await browser.run('new Promise(end => setTimeout(end, 100))');
+  assert.strictEqual(await text('moment'), '3 of 3');
+  assert(!/Task/.test(await text('story')));
+});
+
 test('an address that names nothing opens the free mutex', async () => {
   for (const hash of ['#%', '#seats 9', '#nothing;1 lock;1 lock']) {
     await browser.open(address(pageFile) + hash);

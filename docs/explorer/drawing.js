@@ -90,6 +90,7 @@ function layoutOf(graph, rows, least) {
   for (const width of laneWidths(graph, rows, least - values)) starts.push(starts[starts.length - 1] + width);
   return {
     values, width: starts[graph.seats], height: Math.max(TOP + (rows.length + 1) * PITCH, 120),
+    // the line of a seat's lane; for the seat after the last one, where it would be
     x: seat => starts[seat - 1] + 26,
     y: row => TOP + row * PITCH,
   };
@@ -97,6 +98,12 @@ function layoutOf(graph, rows, least) {
 
 const drawing = (style, width, height, parts) =>
   `<svg class="${style}" width="${width}" height="${height}" aria-hidden="true">${parts.join('')}</svg>`;
+
+// where the lane of the seat that has made the last event begins and ends
+function laneNow(view, { x }) {
+  const seat = view.at > 0 ? view.path[view.at - 1].seat : 0;
+  return seat === 0 ? { left: 0, right: 0 } : { left: x(seat) - 26, right: x(seat + 1) - 26 };
+}
 
 // the heads of the lanes and of the values, the lanes and the values themselves, how wide the values are, and where the row
 // of the present moment stands, and the lane of its seat
@@ -117,7 +124,7 @@ function drawLanes(view, least) {
       + drawing('values', values, height, [...hits(values), ...drawn(drawValues)]),
     values,
     now: y(rows.findIndex(row => row.moment === view.at)),
-    left: view.at > 0 ? x(view.path[view.at - 1].seat) : 0,
+    ...laneNow(view, layout),
   };
 }
 

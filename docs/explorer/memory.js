@@ -63,6 +63,12 @@ function memoryText(state) {
     `the responsibility ${place}`].join('; ');
 }
 
+// a list whose boxes are not linked, in rows of three; its name stands at the first one
+function rowsOfThree([name, items, draw, isLinked]) {
+  if (isLinked || items.length <= 3) return [[name, items, draw, isLinked]];
+  return [[name, items.slice(0, 3), draw], ...rowsOfThree(['', items.slice(3), draw])];
+}
+
 function drawMemory(view) {
   const parts = drawnParts(view), { state, box, link } = parts, { pushed, cleared, popped } = listsOf(state);
   const seats = state.seats.map((seat, i) => i + 1);
@@ -75,7 +81,7 @@ function drawMemory(view) {
     ['pop list', popped, (seat, x, y) => box('', x, y, 'record of ' + seat, record(seat), 'plainmem')],
     ['wake', seats, (seat, x, y) => drawWake(parts, seat, x, y)],
     ['other links', seats.filter(seat => !pushed.includes(seat) && !cleared.includes(seat)), link],
-  ];
+  ].flatMap(rowsOfThree);
   const drawn = lists.map(([name, items, draw, isLinked], i) => drawList(name, items, 12 + i * LIST, draw, isLinked));
   const width = LEFT + Math.max(3, ...lists.map(([, items]) => items.length)) * STEP, height = 12 + lists.length * LIST;
   const head = `<svg width="100%" viewBox="0 0 ${width} ${height}" role="img" aria-label="${escape(memoryText(state))}">`;

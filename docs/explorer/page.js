@@ -49,14 +49,13 @@ function showLanes() {
     lanes.scrollTop = 0;
     return;
   }
-  const { heads, body, values, now, left } = drawLanes(view, lanes.clientWidth);
+  const { heads, body, values, now, left, right } = drawLanes(view, lanes.clientWidth);
   lanes.innerHTML = `<div class="heads">${heads}</div><div class="rows">${body}</div>`;
   const isAbove = now < lanes.scrollTop + 40, isBelow = now > lanes.scrollTop + lanes.clientHeight - 60;
   if (isAbove || isBelow) lanes.scrollTop = Math.max(0, now - 120);
-  // the present row is in sight, and the text of its step
+  // the lane of the last event is in sight, or its beginning, where all of it has no room
   const seen = lanes.clientWidth - values;
-  const isHidden = left < lanes.scrollLeft + 40 || left + 250 > lanes.scrollLeft + seen;
-  if (isHidden) lanes.scrollLeft = Math.max(0, left + 250 - seen);
+  if (left < lanes.scrollLeft || right > lanes.scrollLeft + seen) lanes.scrollLeft = Math.max(0, Math.min(left, right - seen));
 }
 
 // what has just happened, in sentences
@@ -146,6 +145,7 @@ function showTime() {
 function show() {
   const { seat, act } = document.activeElement.closest('button[data-seat]')?.dataset ?? {};
   showFirst();
+  $('seats').className = view.graph.seats > 3 ? 'seats many' : 'seats';
   $('seats').innerHTML = drawSeats(view, sentences);
   showLanes();
   $('memory').innerHTML = drawMemory(view);

@@ -158,6 +158,10 @@ test('schedules of more seats can be looked at', async () => {
     assert.strictEqual(await browser.run('view.path.length + 1'), await browser.run('view.graph.states.length'));
     assert.deepStrictEqual(await crossedRows(), []);
     assert.deepStrictEqual(await layoutFaults(), []);
+    // no text of the memory is smaller than ten pixels
+    const scale = await browser.run(`(() => { const svg = document.querySelector('#memory svg');
+      return svg.getBoundingClientRect().width / svg.viewBox.baseVal.width; })()`);
+    assert(12 * scale >= 10, `${title}: ${scale}`);
   }
   return `${many} of them`;
 });
@@ -203,9 +207,10 @@ test('an address that is typed in a task ends the task', async () => {
   assert(!/Task/.test(await text('story')));
 });
 
-test('an address that names nothing opens the free mutex', async () => {
-  for (const hash of ['#%', '#seats 9', '#nothing;1 lock;1 lock']) {
+test('an address that names nothing opens the free mutex, and the line that leads nowhere is named', async () => {
+  for (const [hash, fault] of [['#%', ''], ['#seats 9', 'line 1'], ['#nothing;1 lock;1 lock', 'line 3']]) {
     await browser.open(address(pageFile) + hash);
+    assert.strictEqual((await text('fault')).split(' leads')[0], fault);
     assert.match(await text('trace'), /^1 seats 2 \| 0 0 0 free -/);
   }
 });

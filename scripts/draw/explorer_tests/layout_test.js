@@ -81,14 +81,24 @@ if (threeFile) for (const [width, height] of [[1450, 900], [1000, 800]]) {
   });
 }
 
-test('the values of a row stay in sight where the lanes are scrolled', async () => {
+// the lanes, the values, and the texts of the present row in the lanes: where they are on the screen
+const placesOfNow = () => browser.run(`(() => {
+  const place = element => { const { left, right, top } = element.getBoundingClientRect(); return { left, right, top }; };
+  const { top, bottom } = document.querySelector('.now .hit').getBoundingClientRect();
+  const texts = [...document.querySelectorAll('.rows svg:first-child text.halo')].map(place);
+  return { lanes: place(document.getElementById('lanes')), values: place(document.querySelector('.rows .values')),
+    texts: texts.filter(text => text.top >= top - 1 && text.top < bottom) }; })()`);
+
+test('the present row and the values stay in sight where the lanes are scrolled', async () => {
   await browser.open(address(pageFile), 1000, 800);
   await chooseTitle('Pop list beside push list');
-  await browser.key('End', 'End');
-  const [lanes, values, now] = await browser.run(`['#lanes', '.rows .values', '.rows .values .now .hit'].map(selector => {
-    const { left, right, width } = document.querySelector(selector).getBoundingClientRect();
-    return { left, right, width }; })`);
-  assert(values.right <= lanes.right + 1 && values.left >= lanes.left && now.width > 0);
+  const last = await browser.run('view.path.length');
+  for (let at = last; at > 0; at -= 5) {
+    await browser.run(`goTo(${at})`);
+    const { lanes, values, texts } = await placesOfNow();
+    assert(values.right <= lanes.right + 1 && values.left >= lanes.left);
+    assert(texts.length > 0 && texts.every(({ left, right }) => left >= lanes.left && right <= values.left + 1), `moment ${at}`);
+  }
 });
 
 test('README has a picture of the page as it is', async () => {

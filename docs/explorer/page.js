@@ -29,25 +29,33 @@ const withStop = text => /[.?!]$/.test(text) ? text : text + '.';
 
 // the list of tasks, where there is nothing to draw yet
 function tasksText() {
-  const items = tasks.map(({ text }, i) => `<li>${escape(text)} <button data-task="${i}">try</button></li>`).join('');
+  const button = i => `<button data-task="${i}" aria-label="try task ${i + 1}">try</button>`;
+  const items = tasks.map(({ text }, i) => `<li>${escape(text)} ${button(i)}</li>`).join('');
   return `<div class="tasks"><h2>New here? Tasks of a minute each</h2><ol>${items}</ol></div>`;
+}
+
+const isAtTasks = () => view.path.length === 0 && view.task === null;
+
+// what to do first, or how to come back to the tasks
+function showFirst() {
+  $('first').innerHTML = isAtTasks() ? 'To begin, press <b>try</b> at task 1 below, and then the blue buttons of the seats.'
+    : 'To come back to the tasks, press <b>start over</b>.';
 }
 
 function showLanes() {
   const lanes = $('lanes');
-  if (view.path.length === 0 && view.task === null) {
+  if (isAtTasks()) {
     lanes.innerHTML = tasksText();
     lanes.scrollTop = 0;
     return;
   }
-  const { heads, body, now, left } = drawLanes(view, lanes.clientWidth);
-  lanes.innerHTML = `<div class="heads">${heads}</div>${body}`;
+  const { heads, body, values, now, left, right } = drawLanes(view, lanes.clientWidth);
+  lanes.innerHTML = `<div class="heads">${heads}</div><div class="rows">${body}</div>`;
   const isAbove = now < lanes.scrollTop + 40, isBelow = now > lanes.scrollTop + lanes.clientHeight - 60;
   if (isAbove || isBelow) lanes.scrollTop = Math.max(0, now - 120);
-  // the present row is in sight, and the text of its step
-  if (left < lanes.scrollLeft + 40 || left > lanes.scrollLeft + lanes.clientWidth - 250) {
-    lanes.scrollLeft = Math.max(0, left + 250 - lanes.clientWidth);
-  }
+  // the lane of the last event is in sight, or its beginning, where all of it has no room
+  const seen = lanes.clientWidth - values;
+  if (left < lanes.scrollLeft || right > lanes.scrollLeft + seen) lanes.scrollLeft = Math.max(0, Math.min(left, right - seen));
 }
 
 // what has just happened, in sentences
@@ -99,11 +107,18 @@ function wrongTexts(node) {
     ...(fault ? [`<b class="fault">A fault: ${fault}</b>`] : [])];
 }
 
+// how to go on, if more events of the path follow
+function onwardTexts() {
+  if (view.at === view.path.length) return [];
+  return ['<span class="soft">More events follow: <b>on ▶</b> shows the next one. A choice at a seat drops them.</span>'];
+}
+
 function showStory() {
   const { node, placeName, placeSeat } = stateAfter(view, view.at);
   const place = sentence(sentences, 'place ' + placeName, placeSeat).does;
   const texts = [...taskTexts(), ...eventTexts(view.path[view.at - 1]), ...wrongTexts(node)];
-  $('story').innerHTML = [...texts, `<span class="soft">${place}</span>`].map(text => `<p>${text}</p>`).join('');
+  const last = [`<span class="soft">${place}</span>`, ...onwardTexts()];
+  $('story').innerHTML = [...texts, ...last].map(text => `<p>${text}</p>`).join('');
 }
 
 function showTexts() {
@@ -129,6 +144,8 @@ function showTime() {
 // draws all anew. The button that was pressed is drawn anew too, so the focus goes to it, or to another one of its seat
 function show() {
   const { seat, act } = document.activeElement.closest('button[data-seat]')?.dataset ?? {};
+  showFirst();
+  $('seats').className = view.graph.seats > 3 ? 'seats many' : 'seats';
   $('seats').innerHTML = drawSeats(view, sentences);
   showLanes();
   $('memory').innerHTML = drawMemory(view);
@@ -205,6 +222,8 @@ function addressPart() {
 function openAddress() {
   const [first, ...lines] = addressPart().split(';');
   const graph = graphs[first] ?? graphs.whole, opened = examples.findIndex(({ graph }) => graph.name === 'opened');
+  view.task = null;
+  $('examples').value = '';
   if (first === '' && opened >= 0) return startExample(opened);
   load(graph, [first.startsWith('seats') ? first : 'seats ' + graph.seats, ...lines].join('\n'));
 }
@@ -228,7 +247,9 @@ const KEYS = {
 };
 
 function pressKey(event) {
-  if (event.ctrlKey || event.metaKey || event.altKey || /TEXTAREA|SELECT/.test(event.target.tagName)) return;
+  if (event.ctrlKey || event.metaKey || event.altKey || event.target.tagName === 'TEXTAREA') return;
+  // in a list only the keys that lead along the path, since others choose an item of it
+  if (event.target.tagName === 'SELECT' && !/^Arrow(Left|Right)$/.test(event.key)) return;
   const button = buttonOfKey(event);
   if (button) choose(Number(button.dataset.seat), button.dataset.act);
   else if (event.key in KEYS && event.target !== $('slider')) KEYS[event.key]();
@@ -271,8 +292,9 @@ function listen() {
   $('ways').innerHTML = options('the shortest way to …', ways.map(([name]) => name));
   $('ways').onchange = () => {
     if ($('ways').value !== '') showWay(ways[$('ways').value][1]);
-    $('ways').value = '';
   };
+  // the item stays until then, so that a reader by keys can go from one to the next
+  $('ways').onblur = () => { $('ways').value = ''; };
 }
 
 listen();

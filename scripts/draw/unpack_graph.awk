@@ -8,8 +8,9 @@ function number(code,    i, value, digits) {
   return code ~ /^-/ ? -value : value + 0
 }
 
-# the texts up to this one, if they are not printed yet
+# the texts up to this one, if they are not printed yet. If the graph has no text of this number, the status is 1
 function show_texts(last) {
+  if (last >= texts) exit 1
   while (shown <= last) print "+" text[shown++]
 }
 

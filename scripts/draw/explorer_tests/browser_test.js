@@ -1,36 +1,16 @@
 'use strict';
-// Opens a page in a headless Chromium, and clicks, types and looks as a reader does. It needs node and Chromium, and no
-// library.
+// Opens a page in a headless Chromium, and clicks and looks as a reader does: through the examples, the tasks, and the links
+// that lead to a moment. It needs node and Chromium, and no library.
 //
 //   node browser_test.js PAGE [PAGE_OF_3_SEATS [OPENED_PAGE]]     CHROMIUM names the browser
 const assert = require('assert');
 const fs = require('fs');
-const path = require('path');
-const { Browser } = require('./browser.js');
-const { readPage, stored, storedPlace, withoutSeats, runTests } = require('./built_page.js');
+const { readPage, linksTo, stored, storedPlace, withoutSeats } = require('./built_page.js');
+const { browser, address, text, test, titles, chooseTitle, WALK_THE_WAY, words, layoutFaults, crossedRows, runInBrowser } =
+  require('./reader.js');
 
 const [pageFile, threeFile, openedFile] = process.argv.slice(2);
-const address = file => 'file://' + path.resolve(file);
 const page = readPage(pageFile);
-const browser = new Browser();
-const text = id => browser.run(`document.getElementById('${id}').textContent`);
-// what the boxes of count, owner and handoff say
-const words = () => browser.run(`['count', 'owner', 'handoff'].map(word => {
-  const box = document.querySelector('[data-word=' + word + ']');
-  return box.nextElementSibling.nextElementSibling.textContent.replace('seat ', '');
-}).join(' ')`);
-const choose = (list, value) => browser.run(`(() => {
-  const list = document.getElementById('${list}');
-  list.value = '${value}';
-  list.dispatchEvent(new Event('change'));
-  document.activeElement.blur();
-})()`);
-const titles = () => browser.run('examples.map(({ title }) => title)');
-const chooseTitle = async title => choose('examples', (await titles()).findIndex(found => found.startsWith(title)));
-// walks the shortest way to the end of the present task
-const WALK_THE_WAY = 'showWay(event => isGoal(view.graph, view.task.goal, event)); goTo(view.path.length)';
-const tests = [];
-const test = (name, run) => tests.push([name, run]);
 const examples = page.schedules.filter(({ kind }) => kind === 'example');
 
 // where each drawn bar of the lanes is on the screen, and each row: whether the pieces lie where their rows are
@@ -59,42 +39,6 @@ function placeOf(place, owner) {
   const [name, seat] = place.split('.');
   return { free: '0', owner: 'owner', posted: 'handoff', passed: 'wake.' + seat, carried: 'carried.' + seat }[name];
 }
-
-// no text is wider than what holds it, and no panel lies over another one
-const layoutFaults = () => browser.run(`(() => {
-  const faults = [], box = element => element.getBoundingClientRect();
-  const names = 'header, .seat, .time, #lanes, .legend, #story, #memory, .text section, details';
-  const panels = [...document.querySelectorAll(names)];
-  panels.forEach((a, i) => panels.slice(i + 1).forEach(b => {
-    const p = box(a), q = box(b);
-    if (p.left < q.right - 1 && q.left < p.right - 1 && p.top < q.bottom - 1 && q.top < p.bottom - 1) {
-      faults.push((a.id || a.className) + ' lies over ' + (b.id || b.className));
-    }
-  }));
-  for (const element of document.querySelectorAll('header, .seat, #story, .legend, button, select, h2')) {
-    if (element.scrollWidth > element.clientWidth + 1 && getComputedStyle(element).display !== 'inline') {
-      faults.push('cut: ' + element.textContent.slice(0, 40));
-    }
-  }
-  const memory = box(document.querySelector('#memory svg'));
-  for (const label of document.querySelectorAll('#memory text')) {
-    if (box(label).right > memory.right + 1) faults.push('cut: ' + label.textContent);
-  }
-  for (const rect of document.querySelectorAll('#memory .box')) {
-    const label = rect.nextElementSibling.nextElementSibling;
-    if (box(label).width > box(rect).width) faults.push('too wide: ' + label.textContent);
-  }
-  if (document.documentElement.scrollWidth > innerWidth) faults.push('the page is wider than the window');
-  return faults; })()`);
-
-// a row of a lane whose text runs into what stands at its right
-const crossedRows = () => browser.run(`(() => {
-  const labels = [...document.querySelectorAll('#lanes svg:last-child g:not(.row) > text')];
-  const places = labels.map(label => [label.textContent, label.getBoundingClientRect()]), faults = [];
-  places.forEach(([a, p], i) => places.slice(i + 1).forEach(([b, q]) => {
-    if (Math.abs(p.y - q.y) < 5 && p.left < q.right - 1 && q.left < p.right - 1) faults.push(a + ' | ' + b);
-  }));
-  return faults; })()`);
 
 for (const { name, title } of examples) test(`looks at ${name}, event by event`, async () => {
   const trace = stored(name, '.out').trim().split('\n');
@@ -132,54 +76,6 @@ for (const { name } of withSteps) test(`clicks through ${name}`, async () => {
   assert.strictEqual(last(await text('trace')), last(stored(name, '.out')));
 });
 
-test('keys: seat 1 locks, seat 2 locks and sleeps, seat 1 unlocks to the end', async () => {
-  await browser.key('0', 'Digit0');
-  for (const key of ['1', '1', '1', '2']) await browser.key(key, 'Digit' + key);
-  await browser.key('@', 'Digit2', 8);
-  await browser.key('1', 'Digit1');
-  assert.strictEqual(await browser.run('view.path.at(-1).act'), 'unlock'); // the first call that seat 1 may begin
-  await browser.key('!', 'Digit1', 8);
-  assert.strictEqual(await browser.run('view.path.at(-1).turn'), 'ends Granted 2');
-});
-
-// what has the focus: a button by its seat and act, anything else by its name
-const focused = () => browser.run(`(() => { const { dataset, id, tagName } = document.activeElement;
-  return dataset.seat ? dataset.seat + ' ' + dataset.act : dataset.task ? 'task ' + dataset.task : id || tagName; })()`);
-const tabTo = async wanted => {
-  for (let i = 0; i < 80; i++) {
-    if (await focused() === wanted) return;
-    await browser.key('Tab', 'Tab');
-  }
-  throw new Error('the key Tab does not lead to ' + wanted);
-};
-
-test('by Tab and Enter alone: a task from its start to its end, and the next one', async () => {
-  await browser.open(address(pageFile));
-  await tabTo('task 0');
-  await browser.key('Enter', 'Enter');
-  assert.strictEqual(await focused(), 'story');
-  await browser.run(`document.getElementById('examples').focus()`);
-  await tabTo('1 lock');
-  for (const next of ['1 .', '1 .']) {
-    await browser.key('Enter', 'Enter');
-    assert.strictEqual(await focused(), next);
-  }
-  await browser.key('Enter', 'Enter');
-  assert.match(await focused(), /^1 /);
-  assert.match(await text('story'), /Done\./);
-  await tabTo('task 1');
-  await browser.key('Enter', 'Enter');
-  assert.match(await text('story'), /Task 2/);
-});
-
-test('the focus stays at the seat whose button was pressed', async () => {
-  await browser.open(address(pageFile));
-  await browser.run(`document.getElementById('examples').focus()`);
-  await tabTo('2 lock');
-  await browser.key('Enter', 'Enter');
-  assert.match(await focused(), /^2 /);
-});
-
 test('a task shows a way to its end, and can be begun again', async () => {
   await browser.run('startTask(5)');
   await browser.click('#hint');
@@ -189,12 +85,6 @@ test('a task shows a way to its end, and can be begun again', async () => {
   await browser.run('goTo(12)');
   await browser.click('#story [data-task="5"]');
   assert.strictEqual(await text('moment'), '11 of 11');
-});
-
-test('the key n begins the next task', async () => {
-  await browser.run(`startTask(0); ${WALK_THE_WAY}; document.activeElement.blur()`);
-  await browser.key('n', 'KeyN');
-  assert.match(await text('story'), /Task 2/);
 });
 
 test('a choice in the past drops what came after it', async () => {
@@ -268,6 +158,10 @@ test('schedules of more seats can be looked at', async () => {
     assert.strictEqual(await browser.run('view.path.length + 1'), await browser.run('view.graph.states.length'));
     assert.deepStrictEqual(await crossedRows(), []);
     assert.deepStrictEqual(await layoutFaults(), []);
+    // no text of the memory is smaller than ten pixels
+    const scale = await browser.run(`(() => { const svg = document.querySelector('#memory svg');
+      return svg.getBoundingClientRect().width / svg.viewBox.baseVal.width; })()`);
+    assert(12 * scale >= 10, `${title}: ${scale}`);
   }
   return `${many} of them`;
 });
@@ -283,9 +177,40 @@ test('a link opens the same moment, also of a wrong mutex', async () => {
   }
 });
 
-test('an address that names nothing opens the free mutex', async () => {
-  for (const hash of ['#%', '#seats 9', '#nothing;1 lock;1 lock']) {
+const linesOfHash = hash => decodeURIComponent(hash).split(';').join('\n');
+
+// the example that a link of examples/README.md belongs to: the last one whose heading stands before it
+const exampleOf = before => [...before.matchAll(/^\*\*\d\. `(?:\w+\/)?(\w+)`:/gm)].pop()[1];
+
+test('each of the six examples has a link, which opens at a moment of it', async () => {
+  const links = linksTo('explorer').filter(({ file }) => file === 'examples/README.md');
+  assert.deepStrictEqual(links.map(({ before }) => exampleOf(before)), withSteps.map(({ name }) => name));
+  for (const { before, hash } of links) {
+    const name = exampleOf(before), example = page.follow(page.whole, stored(name, '.lfm')).path;
+    await browser.open(`${address(pageFile)}#${hash}`);
+    assert.strictEqual(await text('fault'), '');
+    const wanted = page.follow(page.whole, linesOfHash(hash)).path, states = path => path.map(({ seat, to }) => [seat, to]);
+    const shown = await browser.run('view.path.map(({ seat, to }) => [seat, to])');
+    assert.deepStrictEqual(shown, states(wanted), name);
+    assert.deepStrictEqual(shown, states(example).slice(0, shown.length), name);
+    assert.strictEqual(await text('moment'), `${shown.length} of ${shown.length}`);
+    assert.strictEqual(await text('trace'), page.traceOf(page.whole, wanted));
+  }
+  return `${links.length} links`;
+});
+
+test('an address that is typed in a task ends the task', async () => {
+  await browser.run('startTask(1)');
+  await browser.run(`location.hash = '#' + encodeURIComponent('seats 2 2;2 lock;2 *')`);
+  await browser.run('new Promise(end => setTimeout(end, 100))');
+  assert.strictEqual(await text('moment'), '3 of 3');
+  assert(!/Task/.test(await text('story')));
+});
+
+test('an address that names nothing opens the free mutex, and the line that leads nowhere is named', async () => {
+  for (const [hash, fault] of [['#%', ''], ['#seats 9', 'line 1'], ['#nothing;1 lock;1 lock', 'line 3']]) {
     await browser.open(address(pageFile) + hash);
+    assert.strictEqual((await text('fault')).split(' leads')[0], fault);
     assert.match(await text('trace'), /^1 seats 2 \| 0 0 0 free -/);
   }
 });
@@ -294,49 +219,6 @@ test('a recursive lock, and an unlock that still holds', async () => {
   await chooseTitle('Recursion');
   for (const act of ['lock', '*', 'lock', '*', 'unlock']) await browser.click(`button[data-seat="1"][data-act="${act}"]`);
   assert.strictEqual(await browser.run('view.path.at(-1).turn'), 'ends Still 1');
-});
-
-test('landmarks, names and headings for a screen reader', async () => {
-  const nodes = await browser.send('Accessibility.getFullAXTree').then(({ nodes }) => nodes.filter(node => !node.ignored));
-  const named = role => nodes.filter(node => node.role?.value === role).map(node => node.name?.value ?? '');
-  assert.strictEqual(named('main').length, 1);
-  assert.strictEqual(named('banner').length, 1);
-  assert.deepStrictEqual(named('navigation'), ['moments']);
-  for (const name of ['what is happening now', 'The words in memory now', 'what has happened']) {
-    assert(named('region').includes(name), name);
-  }
-  assert(named('region').some(name => name.startsWith('Seat 1 ')));
-  assert(named('heading').includes('Which seat makes the next step?'));
-  for (const role of ['button', 'combobox', 'slider', 'textbox']) {
-    named(role).forEach(name => assert(name.trim() !== '', `a ${role} without a name`));
-  }
-});
-
-const MOMENTS = ['', '#seats 2 2;1 lock;1 *;2 lock;2 .;1 unlock;1 +4;2 +4',
-  '#seats 2 2;1 lock;1 *;1 start_wait;1 *;2 send_lock 1;2 *'];
-for (const [width, height, dark] of [[1500, 900], [1500, 900, true], [1280, 800], [1000, 800], [700, 900]]) {
-  test(`${width} pixels${dark ? ', dark' : ''}: no text is cut, and no panel lies over another`, async () => {
-    for (const moment of MOMENTS) {
-      await browser.open(address(pageFile) + encodeURI(moment), width, height, dark);
-      assert.deepStrictEqual(await layoutFaults(), []);
-      assert.deepStrictEqual(await crossedRows(), []);
-    }
-  });
-}
-
-test('on random walks no text of a lane runs into another', async () => {
-  await browser.open(address(pageFile), 1000, 800);
-  for (let walk = 0; walk < 25; walk++) {
-    await browser.run(`(() => { let seed = ${walk * 7919 + 1}; const path = [];
-      for (let i = 0; i < 60; i++) {
-        const events = eventsFrom(graphs.whole, endOf(path));
-        seed = (Math.imul(seed, 1664525) + 1013904223) >>> 0;
-        const { seat, act } = events[Math.floor(seed / 2 ** 32 * events.length)] ?? {};
-        if (seat) extend(graphs.whole, path, seat, act);
-      }
-      Object.assign(view, { graph: graphs.whole, path, task: null }); goTo(path.length); })()`);
-    assert.deepStrictEqual(await crossedRows(), [], await text('trace'));
-  }
 });
 
 if (threeFile) test('the page of three seats: its tasks, and lanes', async () => {
@@ -362,7 +244,4 @@ test('nothing is asked of a network, and no script failed', async () => {
   assert.deepStrictEqual(browser.faults, []);
 });
 
-browser.open(address(pageFile)).then(() => runTests(tests)).catch(error => {
-  console.log('FAILED ' + error.message + '\n0 passed, 1 failed');
-  process.exitCode = 1;
-}).finally(() => browser.close());
+runInBrowser(pageFile);

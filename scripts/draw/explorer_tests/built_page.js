@@ -49,6 +49,17 @@ function printed(name) {
   return execFileSync(path.join(TOP, 'scripts/draw/explorer'), ['--print', name], { encoding: 'utf8', maxBuffer: 1e9 });
 }
 
+// the links to moments of a page in the pages of the repository: the file of each, what stands before it there, and what
+// follows its #
+function linksTo(name) {
+  const inDocs = fs.readdirSync(path.join(TOP, 'docs')).filter(file => file.endsWith('.md')).map(file => 'docs/' + file);
+  const link = new RegExp(`${name}\\.html#([^)\\s]+)`, 'g');
+  return ['README.md', 'CONTRIBUTING.md', 'examples/README.md', ...inDocs].flatMap(file => {
+    const text = fs.readFileSync(path.join(TOP, file), 'utf8');
+    return [...text.matchAll(link)].map(({ 1: hash, index }) => ({ file, before: text.slice(0, index), hash }));
+  });
+}
+
 const stored = (name, suffix) => fs.readFileSync(storedPlace(name) + suffix, 'utf8');
 
 // a mutex of one seat is shown in a graph of two, and with a smaller budget
@@ -63,7 +74,8 @@ function randomNumbers() {
   };
 }
 
-// runs tests one after the other, each with a name, and prints the counts. If STOP_AT_FAULT is set, it ends at the first fault
+// runs tests one after the other, each with a name, and prints the counts. If STOP_AT_FAULT is set, it ends at the first
+// fault
 async function runTests(tests) {
   let passed = 0, failed = 0;
   for (const [name, test] of tests) {
@@ -81,5 +93,5 @@ async function runTests(tests) {
   if (failed !== 0) process.exitCode = 1;
 }
 
-module.exports = { TOP, SCHEDULES, readPage, startRows, printed, storedPlace, stored, withoutSeats, randomNumbers,
+module.exports = { TOP, SCHEDULES, readPage, startRows, printed, linksTo, storedPlace, stored, withoutSeats, randomNumbers,
   runTests };

@@ -5,7 +5,7 @@
 const assert = require('assert');
 const fs = require('fs');
 const path = require('path');
-const { TOP, SCHEDULES, readPage, startRows, printed, storedPlace, stored, withoutSeats, runTests } =
+const { TOP, SCHEDULES, readPage, startRows, printed, linksTo, storedPlace, stored, withoutSeats, runTests } =
   require('./built_page.js');
 
 const page = readPage(process.argv[2]);
@@ -83,7 +83,7 @@ test('all stored schedules that a whole graph has', () => {
 
 test('a sentence names its seat', () => {
   assert.match(page.sentence(sentences, 'place owner', 2).does, /^Seat 2 owns /);
-  assert.match(page.sentence(sentences, 'unlock 5 take 1', 2).does, /^take the whole push list/);
+  assert.match(page.sentence(sentences, 'unlock 5 take 1', 2).does, /^remove the whole push list/);
 });
 
 test('each state is reached', () => {
@@ -167,6 +167,31 @@ for (const graph of right) {
   });
 }
 
+// the calls of a graph as starts.txt names them, for this seat: a send has a target, which is another seat
+function callsOf(graph, seat) {
+  const [, , , ...named] = startRows().find(([, , name]) => name === graph.name)[4].split(' ');
+  const calls = named[0] === 'all' ? ['lock', 'try_lock', 'unlock', 'receive', 'start_wait', 'send_lock'] : named;
+  const targets = graph.seatNumbers.filter(other => other !== seat).map(target => 'send_lock ' + target);
+  return calls.flatMap(call => call === 'send_lock' ? targets : [call]);
+}
+
+for (const graph of right) {
+  test(`${graph.name}: a seat without an open call begins each call, or is refused it`, () => {
+    const calls = graph.seatNumbers.map(seat => callsOf(graph, seat).sort());
+    const deepest = Number(startRows().find(([, , name]) => name === graph.name)[4].split(' ')[2]);
+    for (let node = 0; node < graph.states.length; node++) {
+      const { seats, choices } = page.stateAt(graph, node);
+      seats.forEach(({ depth, point }, i) => {
+        if (point.includes(':')) return;
+        // at the greatest depth of the graph a further lock is left out
+        const isKept = act => depth < deepest || !/lock$/.test(act) || act === 'unlock';
+        const found = [...choices[i].moves, ...choices[i].refusals].map(({ act }) => act).sort();
+        assert.deepStrictEqual(found, calls[i].filter(isKept), `seat ${i + 1} in state ${node}`);
+      });
+    }
+  });
+}
+
 // whether these events lead from the state, one after another, to one that is wanted
 function isWay(graph, from, events, isWanted) {
   let node = from;
@@ -206,18 +231,34 @@ test('each queued record is in one of the lists, in order', () => {
 });
 
 test('each link to a moment of this page leads there', () => {
-  const link = new RegExp(`/${path.basename(process.argv[2], '.html')}\\.html#([^)\\s]+)`, 'g'), links = [];
-  const inDocs = fs.readdirSync(path.join(TOP, 'docs')).filter(name => name.endsWith('.md')).map(name => 'docs/' + name);
-  for (const file of ['README.md', 'CONTRIBUTING.md', 'examples/README.md', ...inDocs]) {
-    const text = fs.readFileSync(path.join(TOP, file), 'utf8');
-    for (const [, hash] of text.matchAll(link)) links.push(decodeURIComponent(hash));
-  }
-  for (const moment of links) {
-    const [first, ...lines] = moment.split(';'), graph = graphs[first] || whole;
+  const links = linksTo(path.basename(process.argv[2], '.html'));
+  for (const { hash } of links) {
+    const [first, ...lines] = decodeURIComponent(hash).split(';'), graph = graphs[first] || whole;
     const head = first.startsWith('seats') ? first : 'seats ' + graph.seats;
-    assert.strictEqual(page.follow(graph, [head, ...lines].join('\n')).fault, 0, moment);
+    assert.strictEqual(page.follow(graph, [head, ...lines].join('\n')).fault, 0, hash);
   }
   return `${links.length} links`;
+});
+
+test('README, the first hour and the examples lead to the page', () => {
+  const read = file => fs.readFileSync(path.join(TOP, file), 'utf8'), hour = read('CONTRIBUTING.md').split('\n## ')[1];
+  assert.match(hour, /^The first hour\n/);
+  for (const text of [read('README.md'), hour]) assert.match(text, /\]\(docs\/explorer\.html\)/);
+  assert.match(read('examples/README.md'), /\]\(\.\.\/docs\/explorer\.html\)/);
+});
+
+// what a reader sees of a page in HTML, without what programs print
+const seenText = html => html.replace(/<(style|script|code)[^]*?<\/\1>/g, '').replace(/<[^>]*>/g, ' ');
+
+test('take is said of posts alone', () => {
+  const html = fs.readFileSync(path.join(TOP, 'docs/explorer/page.html'), 'utf8');
+  const said = [seenText(html), ...Object.values(sentences).flatMap(({ does, next }) => [does, next]),
+    ...tasks.flatMap(({ text, seen }) => [text, seen]), ...page.WAYS.map(([name]) => name)];
+  const parts = said.flatMap(text => text.split(/(?<=[.?!])\s/));
+  const taken = parts.filter(part => /\b(take|takes|took|taken|taking)\b/i.test(part));
+  taken.forEach(part => assert.match(part, /\bpost/i));
+  assert(taken.length > 8);
+  return `${taken.length} sentences`;
 });
 
 for (const graph of Object.values(graphs)) {

@@ -79,6 +79,13 @@ function checkBoxes(view) {
   seats.forEach(({ wake, link }, i) => {
     assert.deepStrictEqual([text('wake.' + (i + 1)), text('link.' + (i + 1))], [wake, pair(link)]);
   });
+  // the seats whose next step accesses a word are named below its box
+  const wordOf = step => (/: ([a-z]+(?:\.\d+)?) /.exec(step) || [])[1];
+  for (const box of tags(memory, 'rect').map(tag => tag['data-word']).filter(word => word)) {
+    const next = seats.flatMap(({ point }, i) => wordOf(point) === box ? [i + 1] : []).join(', ');
+    const third = '(?:<text [^>]*>next: ([^<]*)</text>)?', start = `data-word="${box.replace('.', '\\.')}"/>`;
+    assert.strictEqual(new RegExp(start + label + label + third).exec(memory)[3] ?? '', next, box);
+  }
   const step = view.at === 0 ? '' : view.path[view.at - 1].step, word = (/: ([a-z]+(?:\.\d+)?) /.exec(step) || [])[1];
   const thick = tags(memory, 'rect').filter(tag => /touched/.test(tag.class)).map(tag => tag['data-word']);
   assert.deepStrictEqual(thick, word && word !== 'begins' && !/^[a-z_]+: /.test(step) ? [word] : []);
@@ -126,6 +133,22 @@ function checkArrows(view) {
   assert.deepStrictEqual(drawn, wanted);
 }
 
+// in each row that changes a word the values are those of the trace, and in no other row are there any
+function checkValues(view) {
+  const rows = page.rowsOf(view), layout = page.layoutOf(view.graph, rows, 900), { body } = page.drawLanes(view, 900);
+  const shown = new Map(), values = body.slice(body.indexOf('<svg class="values"'));
+  for (const [, y, value] of values.matchAll(/<text x="[\d.]+" y="([\d.]+)"[^>]*>([^<]*)<\/text>/g)) {
+    shown.set(Number(y) - 4, [...shown.get(Number(y) - 4) ?? [], value]);
+  }
+  const wanted = new Map();
+  rows.forEach(({ kind, moment }, r) => {
+    const [now, then] = [moment, moment - 1].map(at => lineAfter(view, at));
+    const isChanged = kind !== 'answer' && now.join() !== then.join();
+    if (isChanged) wanted.set(layout.y(r), [0, 1, 2, 4].map(part => now[part]));
+  });
+  assert.deepStrictEqual(shown, wanted);
+}
+
 const paths = pathsOfPage();
 
 // a test that makes a check at some moments of each path
@@ -149,6 +172,7 @@ const two = check => atMoments(check, last => [last, Math.floor(last / 2)]);
 runTests([
   ['bars and lines of the lanes, row by row', two(checkLanes)],
   ['arrows of posts and grants', two(checkArrows)],
+  ['the values beside the lanes, row by row', two(checkValues)],
   ['the disc of the responsibility is at the place of the trace', each(checkDisc)],
-  ['each box has its word, and the thick one is that of the last step', each(checkBoxes)],
+  ['each box has its word and who accesses it next, and the thick one is that of the last step', each(checkBoxes)],
 ]);

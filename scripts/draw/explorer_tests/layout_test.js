@@ -1,0 +1,115 @@
+'use strict';
+// Opens a page in a headless Chromium, in windows of several sizes: no text is cut, no panel lies over another one, and what
+// a reader needs first is in sight. Also the picture of the page in README.md is one of the page as it is. It needs node and
+// Chromium, and no library.
+//
+//   node layout_test.js PAGE [PAGE_OF_3_SEATS]     CHROMIUM names the browser
+const assert = require('assert');
+const fs = require('fs');
+const { browser, address, text, test, chooseTitle, WALK_THE_WAY, layoutFaults, crossedRows, runInBrowser } =
+  require('./reader.js');
+const { PICTURE, readPicture, digest, drawnNow } = require('./picture.js');
+
+const [pageFile, threeFile] = process.argv.slice(2);
+
+const MOMENTS = ['', '#seats 2 2;1 lock;1 *;2 lock;2 .;1 unlock;1 +4;2 +4',
+  '#seats 2 2;1 lock;1 *;1 start_wait;1 *;2 send_lock 1;2 *'];
+for (const [width, height, dark] of [[1500, 900], [1500, 900, true], [1280, 800], [1000, 800], [700, 900]]) {
+  test(`${width} pixels${dark ? ', dark' : ''}: no text is cut, and no panel lies over another`, async () => {
+    for (const moment of MOMENTS) {
+      await browser.open(address(pageFile) + encodeURI(moment), width, height, dark);
+      assert.deepStrictEqual(await layoutFaults(), []);
+      assert.deepStrictEqual(await crossedRows(), []);
+    }
+  });
+}
+
+test('on random walks no text of a lane runs into another', async () => {
+  await browser.open(address(pageFile), 1000, 800);
+  for (let walk = 0; walk < 25; walk++) {
+    await browser.run(`(() => { let seed = ${walk * 7919 + 1}; const path = [];
+      for (let i = 0; i < 60; i++) {
+        const events = eventsFrom(graphs.whole, endOf(path));
+        seed = (Math.imul(seed, 1664525) + 1013904223) >>> 0;
+        const { seat, act } = events[Math.floor(seed / 2 ** 32 * events.length)] ?? {};
+        if (seat) extend(graphs.whole, path, seat, act);
+      }
+      Object.assign(view, { graph: graphs.whole, path, task: null }); goTo(path.length); })()`);
+    assert.deepStrictEqual(await crossedRows(), [], await text('trace'));
+  }
+});
+
+// whether what these selectors find lies in the window
+const inSight = (...selectors) => browser.run(`${JSON.stringify(selectors)}.every(selector => {
+  const { top, bottom, left, right } = document.querySelector(selector).getBoundingClientRect();
+  return top >= 0 && left >= 0 && bottom <= innerHeight && right <= innerWidth; })`);
+
+for (const [width, height] of [[1450, 900], [1280, 720], [1000, 700]]) {
+  test(`${width} pixels: the first screen says what this is and what to do first, and has the first tasks`, async () => {
+    await browser.open(address(pageFile), width, height);
+    assert.match(await browser.run(`document.querySelector('header p').innerText`),
+      /^This page runs a mutex, [^.]* you choose which seat makes the next step\. To begin, press try at task 1 [^.]*\.$/);
+    assert(await inSight('header p', '#seats', '#story', '[data-task="0"]', '[data-task="1"]'));
+    await browser.click('[data-task="0"]');
+    assert.match(await browser.run(`document.querySelector('header p').innerText`), /press start over\.$/);
+    await browser.click('button[data-seat="1"][data-act="lock"]');
+    await browser.click('button[data-seat="1"][data-act="*"]');
+    assert(await inSight('#seats', '#story', '#on', '.now'));
+    await browser.click('#anew');
+    assert(await inSight('[data-task="0"]'));
+  });
+}
+
+test('a path that goes on says how', async () => {
+  await browser.open(address(pageFile));
+  await chooseTitle('A posted hand-off');
+  assert.match(await text('story'), /More events follow: on ▶ shows the next one/);
+  await browser.key('End', 'End');
+  assert(!/More events follow/.test(await text('story')));
+});
+
+if (threeFile) for (const [width, height] of [[1450, 900], [1000, 800]]) {
+  test(`${width} pixels: the page of three seats`, async () => {
+    await browser.open(address(threeFile), width, height);
+    assert(await inSight('header p', '#seats', '#story', '[data-task="0"]'));
+    const many = await browser.run('tasks.length');
+    for (let i = 0; i < many; i++) {
+      await browser.run(`startTask(${i}); ${WALK_THE_WAY}`);
+      assert.deepStrictEqual(await layoutFaults(), []);
+      assert.deepStrictEqual(await crossedRows(), []);
+    }
+  });
+}
+
+// the lanes, the values, and the texts of the present row in the lanes: where they are on the screen
+const placesOfNow = () => browser.run(`(() => {
+  const place = element => { const { left, right, top } = element.getBoundingClientRect(); return { left, right, top }; };
+  const { top, bottom } = document.querySelector('.now .hit').getBoundingClientRect();
+  const texts = [...document.querySelectorAll('.rows svg:first-child text.halo')].map(place);
+  return { lanes: place(document.getElementById('lanes')), values: place(document.querySelector('.rows .values')),
+    texts: texts.filter(text => text.top >= top - 1 && text.top < bottom) }; })()`);
+
+test('the present row and the values stay in sight where the lanes are scrolled', async () => {
+  await browser.open(address(pageFile), 1000, 800);
+  await chooseTitle('Pop list beside push list');
+  const last = await browser.run('view.path.length');
+  for (let at = last; at > 0; at -= 5) {
+    await browser.run(`goTo(${at})`);
+    const { lanes, values, texts } = await placesOfNow();
+    assert(values.right <= lanes.right + 1 && values.left >= lanes.left);
+    assert(texts.length > 0 && texts.every(({ left, right }) => left >= lanes.left && right <= values.left + 1), `moment ${at}`);
+  }
+});
+
+test('README has a picture of the page as it is', async () => {
+  const { moment, width, height, picture, drawing, text } = readPicture(), png = fs.readFileSync(PICTURE);
+  const again = 'docs/pictures/explorer.png is of another page: scripts/draw/explorer_tests/picture.js takes it anew';
+  assert.deepStrictEqual([png.readUInt32BE(16), png.readUInt32BE(20)], [width, height]);
+  assert.strictEqual(digest(png), picture, again);
+  await browser.open(address(pageFile) + '#' + encodeURIComponent(moment), width, height);
+  const now = await drawnNow(browser);
+  assert.deepStrictEqual(now.text, text, again);
+  assert.strictEqual(now.drawing, drawing, again);
+});
+
+runInBrowser(pageFile);

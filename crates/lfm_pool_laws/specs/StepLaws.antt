@@ -34,14 +34,18 @@ pub record IsSame (s t : State ℕ PoolView) (mutexes m : ℕ) : Type 0 where
       → slice_index t.words (wake_at mutexes j) ≡ slice_index s.words (wake_at mutexes j)
   pub runs : (l : Limits) (actions : List Action) → HasRunOf s m l actions → HeldPool t → HasRunOf t m l actions
 
+-- the views v and u of a seat differ only in what it knows of mutex m: by u, that is the view w and the note k
+abbrev pub DifferIn : ℕ → View ⊤ → Note → PoolView → PoolView → Type 0
+DifferIn m w k v u = u.parts ≡ (with_part v m w k).parts
+
 -- The seat at place id, whose view is v and whose data in mutex m have become p by starts of calls, makes its step in this
--- mutex. Whatever number x the step writes into the word that it accesses, and whatever view w and note k of the mutex the
--- seat has after it: each other mutex is the same after the step.
+-- mutex. Whatever number x the step writes into the word that it accesses, and whatever the seat knows of this mutex after
+-- it: each other mutex is the same after the step.
 abbrev pub StepsAreInOneMutex : Type 0
 StepsAreInOneMutex =
-    (s : State ℕ PoolView) (h : HeldPool s) (id m : ℕ) (v : PoolView) (p : SeatState) (a : PoolAccess) (x : ℕ) (w : View ⊤) (k : Note)
+    (s : State ℕ PoolView) (h : HeldPool s) (id m : ℕ) (v u : PoolView) (p : SeatState) (a : PoolAccess) (x : ℕ) (w : View ⊤) (k : Note)
     → m < h.mutexes → get_elem? s.views id ≡ some v → RestsElsewhere v m → Became (part v m).state (part v m).limits p → IsStepAt h.mutexes h.seats m (id + 1) p a
-    → (i : ℕ) → i < h.mutexes → i ≢ m → IsSame s (stepped s a.index x id [] (with_part v m w k) keeps) h.mutexes i
+    → DifferIn m w k v u → (i : ℕ) → i < h.mutexes → i ≢ m → IsSame s (stepped s a.index x id [] u keeps) h.mutexes i
 
 -- The seat with this view carries mutex m, or holds it, and the word at this index is one that no other seat touches then:
 -- the carried word of the mutex, or the link word of the seat of a popped record.
@@ -50,16 +54,11 @@ IsCarriersWord mutexes m v index =
     (carries_value (part v m).state ≡ true)
     × ((index ≡ own_at m 4) ⊎ ((j : ℕ) × (index ≡ link_at mutexes j) × HasRecord (j + 1) (part v m).popped))
 
--- the state after the seat at place id, whose view is v, has written x into the word at this index, with its note k of mutex
--- m
-abbrev pub after_write : State ℕ PoolView → ℕ → ℕ → ℕ → ℕ → PoolView → Note → State ℕ PoolView
-after_write s index x id m v k = stepped s index x id [] (with_part v m (part v m) k) keeps
-
--- A write of x into such a word is no step of the mutex: each run of mutex m before it is one after it, if the pool keeps
--- its rule. And each other mutex is the same after the write.
+-- A write of x into such a word, after which the seat knows the same of mutex m, except its note, is no step of this mutex:
+-- each run of the mutex before it is one after it, if the pool keeps its rule. And each other mutex is the same after it.
 abbrev pub CarriersWriteInOneMutex : Type 0
 CarriersWriteInOneMutex =
-    (s : State ℕ PoolView) (h : HeldPool s) (id m : ℕ) (v : PoolView) (index x : ℕ) (k : Note)
-    → m < h.mutexes → get_elem? s.views id ≡ some v → IsCarriersWord h.mutexes m v index
-    → ((i : ℕ) → i < h.mutexes → i ≢ m → IsSame s (after_write s index x id m v k) h.mutexes i)
-    × ((l : Limits) (actions : List Action) → HasRunOf s m l actions → HeldPool (after_write s index x id m v k) → HasRunOf (after_write s index x id m v k) m l actions)
+    (s : State ℕ PoolView) (h : HeldPool s) (id m : ℕ) (v u : PoolView) (index x : ℕ) (k : Note)
+    → m < h.mutexes → get_elem? s.views id ≡ some v → IsCarriersWord h.mutexes m v index → DifferIn m (part v m) k v u
+    → ((i : ℕ) → i < h.mutexes → i ≢ m → IsSame s (stepped s index x id [] u keeps) h.mutexes i)
+    × ((l : Limits) (actions : List Action) → HasRunOf s m l actions → HeldPool (stepped s index x id [] u keeps) → HasRunOf (stepped s index x id [] u keeps) m l actions)

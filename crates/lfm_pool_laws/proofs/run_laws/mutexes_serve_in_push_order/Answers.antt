@@ -1,0 +1,5 @@
+use Rattle.lfm_pool_laws.proofs.Runs.{mutexes_serve_in_push_order}
+use Rattle.lfm_pool_laws.proofs.run_laws.mutexes_serve_in_push_order.Goals as goal
+
+pub returns : goal.returns
+returns c = mutexes_serve_in_push_order

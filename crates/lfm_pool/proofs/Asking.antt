@@ -1,14 +1,15 @@
 -- The steps of a lock up to the point at which its seat holds the mutex, sleeps, or has taken a post over.
 use Rattle.std.proofs.Common.{◌≡◌, ◌≢◌, ℕ, ◌+◌, ◌-◌, ◌*◌, ◌^◌, ◌<◌, ◌≤◌, List, [], ◌∷◌, ◌++◌, length, nat_eq, nat_lt, if◌then◌else◌, refl, sym, ap, ◌∙◌, subst, inl, inr, arith, tests, length-append, Option}
-use Rattle.std.specs.Prelude.{⊤, Bool, true, false}
-use Rattle.std.proofs.lemmas.Bool.{cases_eq, eq-eqb, ne_eqb, not-false, not-true}
+use Rattle.std.specs.Prelude.{⊤, Bool, not, true, false}
+use Rattle.std.proofs.lemmas.Bool.{cases_eq, eq-eqb, eqb-true, ne_eqb, not-false, not-true}
 use Rattle.std.proofs.lemmas.Nat.{div-add-mod'}
 use Rattle.lfm_model.specs.declared.answers.How.{How}
 use Rattle.lfm_words.specs.declared.handoffs.Handoff.{Handoff}
 use Rattle.lfm_words.specs.declared.links.Link.{Link}
 use Rattle.lfm_words.specs.declared.pop_lists.Record.{Record}
 use Rattle.lfm_words.specs.Popped.{oldest}
-use Rattle.lfm_words.specs.Words.{handoff_of, is_posted_word, link_of, link_word, seat_field_size}
+use Rattle.atomic_table.specs.Table.{Me}
+use Rattle.lfm_words.specs.Words.{handoff_of, handoff_word, is_posted_word, link_of, link_word, seat_field_size}
 use Rattle.lfm_protocol.specs.After.{same_handoff, same_link, take}
 use Rattle.lfm_protocol.specs.declared.answers.Call.{Call}
 use Rattle.lfm_protocol.specs.declared.kinds.Kind.{Kind}
@@ -34,18 +35,23 @@ use Rattle.lfm_table.proofs.tables.StepFacts.{carrying, made_of, taking}
 use Rattle.lfm_pool.specs.declared.ask.Asking.{Asking}
 use Rattle.lfm_pool.specs.declared.pool.Pool.{Pool}
 use Rattle.lfm_pool.specs.declared.pool.PoolSeat.{PoolSeat}
+use Rattle.lfm_pool.specs.declared.view.PoolView.{PoolView}
 use Rattle.lfm_pool.specs.Ask.{AsksIn, AskSteps, FindsChanges, IsChanged, IsReadyAfter, MakesBesideFailuresIn, PushSteps, QueuesIn, QueueSteps, StepsIfPosted, TakeOverSteps, WaitsIn, asked, asked_point, attempt, attempts, failed_pushes}
 use Rattle.lfm_pool.specs.Belongs.{SameSeat}
+use Rattle.lfm_pool.specs.Chain.{note_since}
+use Rattle.lfm_pool.specs.FastPaths.{KnowsMoreOf}
 use Rattle.lfm_pool.specs.Finds.{Finds}
-use Rattle.lfm_pool.specs.Moves.{MakesIn, MayStepIn, StartsIn}
-use Rattle.lfm_pool.specs.Push.{LoadsHandoff, LoadsHandoffIn, LoadsPush, LoadsPushIn, PushesIn, StepsFrom, TakesOverIn, TakesPost}
+use Rattle.lfm_pool.specs.Handoff.{forgotten}
+use Rattle.lfm_pool.specs.Moves.{Made, MakesIn, MayStepIn, StartsIn}
+use Rattle.lfm_pool.specs.Push.{FindsHandoffIn, LoadsHandoff, LoadsHandoffIn, LoadsPush, LoadsPushIn, PushesIn, StepsFrom, TakesOverIn, TakesPost, TakesWord, TakesWordIn}
 use Rattle.lfm_pool.specs.SeatWords.{StoresLink}
-use Rattle.lfm_pool.specs.Seats.{MayTryIn, MovesIn, state_of}
+use Rattle.lfm_pool.specs.Seats.{MayTryIn, MovesIn, note_of, state_of}
 use Rattle.lfm_pool.specs.Steps.{IsPlainAccessOf, begun_in}
 use Rattle.lfm_pool.specs.Tables.{part}
 use Rattle.lfm_pool.proofs.FastPaths.{part_now}
+use Rattle.lfm_pool.proofs.Forgotten.{forgets_none, may_forgotten}
 use Rattle.lfm_pool.proofs.Keeping.{idle_at}
-use Rattle.lfm_pool.proofs.SeveralSteps.{enters_by, holds_after, inside, join, may_then, next_access, part_after, same_then, start_made, state_after, then_carry, then_move, whole_after}
+use Rattle.lfm_pool.proofs.SeveralSteps.{enters_by, holds_after, inside, join, may_then, next_access, packs_handoff, part_after, same_then, start_made, state_after, then_carry, then_move, whole_after}
 use Rattle.lfm_pool.proofs.Trying.{posts_differ, same_post}
 
 -- Push words
@@ -301,6 +307,59 @@ module _ (s t : PoolSeat) (p : Pool) (m : ℕ) (may : MayStepIn s p m) (pushed :
                   (taken_to (take Carrier.Locker s.number (oldest (part v.place.me.0 m).popped)) leads)),
             )
 
+-- By the handoff word of the mutex
+
+-- a seat that remembers no number knows all that it knows without it
+pub waits_remember : (s u : PoolSeat) (m : ℕ) (asking : Asking) → u.place.me.0.found ≡ 0 → WaitsIn s (forgotten u) m asking → WaitsIn s u m asking
+waits_remember s u m asking none waits =
+    subst
+    (λ (z : Me ℕ PoolView).
+    (new : List Seen) × QueueSteps asking new
+    × KnowsMoreOf m (λ w k. Made new (record (state_of s m) { point = asked_point asking s.number (part z.0 m).popped }) (part s.place.me.0 m) w × (k ≡ note_since w (note_of s m))) s.place.me z)
+    (forgets_none u.place.me none) waits
+
+same_posted : (n l : ℕ) → (handoff_of l).seat ≡ (handoff_of n).seat → is_posted_word l ≡ is_posted_word n
+same_posted n l same = ap (λ (t : ℕ). not (nat_eq t 0)) same
+
+module _ (s t : PoolSeat) (p : Pool) (m : ℕ) (may : MayStepIn s p m) (pushed : QueuesIn s t m) (may1 : MayStepIn t p m) (u : PoolSeat) (n : ℕ) (did : FindsHandoffIn t u p m n) where
+  -- nothing is posted
+  pub sleeps_at_none : is_posted_word n ≡ false → WaitsIn s u m Asking.Asleep
+  sleeps_at_none none =
+      let empty = not-false (nat_eq (handoff_of n).seat 0) none in
+      let zero : (handoff_of n).seat ≡ 0 = eqb-true (handoff_of n).seat 0 empty in
+      waits_remember s u m Asking.Asleep (did.3 ∙ did.2.none zero)
+      (sleeps_at_once s t p m may pushed (forgotten u) did.0 did.1 (same_posted n did.0 did.2.seat ∙ none))
+
+  module _ (some : is_posted_word n ≡ true) (may2 : MayStepIn u p m) where
+    some_there : is_posted_word did.0 ≡ true
+    some_there = same_posted n did.0 did.2.seat ∙ some
+
+    at_there : (posted : Handoff) → posted ≡ handoff_of did.0 → TakesPost posted (state_of u m)
+    at_there = at_post s t p m may pushed (forgotten u) did.0 did.1 some_there may1
+
+    pub at_word : TakesWord n u m
+    at_word = (
+      handoff_of did.0,
+      at_there (handoff_of did.0) refl,
+      sym (packs_handoff n) ∙ (λ i. handoff_word (record { seat = sym did.2.seat i; post = sym did.3 i })),
+    )
+
+    module _ (v : PoolSeat) (k : ℕ) (took : TakesWordIn u v p m n k) where
+      -- the post is the one that the seat has loaded
+      posted_is : took.0 ≡ handoff_of did.0
+      posted_is = let e : PushedHandoffExchange Pusher.Locker took.0 ≡ PushedHandoffExchange Pusher.Locker (handoff_of did.0) = sym took.2 ∙ at_there (handoff_of did.0) refl in cc
+
+      packed : handoff_word took.0 ≡ did.0
+      packed = ap handoff_word posted_is ∙ packs_handoff did.0
+
+      pub carries_word : k ≡ n → u.number ≡ s.number → WaitsIn s v m Asking.Carries
+      carries_word hit named =
+          carries s t p m may pushed (forgotten u) did.0 did.1 some_there may1 v took.1 took.0 posted_is (may_forgotten u p m may2) took.3 (took.4.hits hit ∙ packed) named
+
+      pub sleeps_beside : k ≢ n → WaitsIn s v m Asking.Asleep
+      sleeps_beside miss =
+          sleeps_after s t p m may pushed (forgotten u) did.0 did.1 some_there may1 v took.1 took.0 posted_is (may_forgotten u p m may2) took.3 (λ e. took.4.misses miss (e ∙ sym packed))
+
 -- The whole begin
 
 below : (m n : ℕ) → m < n → nat_lt m n ≡ true
@@ -342,7 +401,7 @@ module _ (s : PoolSeat) (p : Pool) (m : ℕ) (may : MayStepIn s p m) (try : MayT
   begun = lock_begun z p.limits try.rests try.flat try.charged
 
   pub counts : IsPlainAccessOf p.limits.seats s.number (begun_in s.place.me.0 m p.limits Call.Lock) (Access.FetchAdd 0 1)
-  counts = subst (λ (w : SeatState). IsPlainAccessOf p.limits.seats s.number w (Access.FetchAdd 0 1)) (sym begun) (((Kind.CountAdd, refl, refl, (λ n. refl), refl), omega arith), refl)
+  counts = subst (λ (w : SeatState). IsPlainAccessOf p.limits.seats s.number w (Access.FetchAdd 0 1)) (sym begun) (((Kind.CountAdd, refl, refl, (λ n. refl), refl), omega arith, λ e. omega (arith, e)), refl)
 
   module _ (t : PoolSeat) (count : ℕ) (did : StartsIn s t p m Call.Lock count) (may1 : MayStepIn t p m) where
     -- the mutex was free
@@ -370,7 +429,7 @@ module _ (s : PoolSeat) (p : Pool) (m : ℕ) (may : MayStepIn s p m) (try : MayT
       second = start_made s t p m count (made_of 0 (z.takes + 1) z.posts LockCountAdd) (made_of 0 (z.takes + 1) z.posts LockOwnerLoad) (λ o. counted_taken (z.takes + 1) z.posts s.number count o beside) (λ deep. refl) Call.Lock may begun did
 
       pub loads_owner : IsPlainAccessOf p.limits.seats t.number (state_of t m) (Access.Load 1)
-      loads_owner = next_access s t p m _ _ p.limits.seats (Access.Load 1) may second (((Kind.OwnerLoad, refl, refl, (λ n. refl), refl), omega arith), refl)
+      loads_owner = next_access s t p m _ _ p.limits.seats (Access.Load 1) may second (((Kind.OwnerLoad, refl, refl, (λ n. refl), refl), omega arith, λ e. omega (arith, e)), refl)
 
       module _ (u : PoolSeat) (owner : ℕ) (loaded : MovesIn t u p m owner) (finds : Finds t.number (state_of t m) owner) (may2 : MayStepIn u p m) where
         not_own : owner ≢ t.number
@@ -418,7 +477,7 @@ ready s t p m Asking.Carries may rests same later asks = (
 
 -- The number of steps
 
-failed_join : (xs ys : List Seen) → failed_pushes (xs ++ ys) ≡ failed_pushes xs + failed_pushes ys
+pub failed_join : (xs ys : List Seen) → failed_pushes (xs ++ ys) ≡ failed_pushes xs + failed_pushes ys
 failed_join [] ys = omega arith
 failed_join (x ∷ xs) ys = let h = failed_join xs ys in omega (arith, h)
 
@@ -461,7 +520,7 @@ queue_count asking new (pushing, word, later, pushes, posted, e) =
 more_steps : (asking : Asking) (count owner : ℕ) (later new : List Seen) → QueueSteps asking later → new ≡ seen LockCountAdd count ∷ seen LockOwnerLoad owner ∷ later → length new ≤ 7 + 2 * failed_pushes new
 more_steps asking count owner later new steps e = let most = queue_count asking later steps in let size = ap length e in let failed = ap failed_pushes e in omega (arith, most, size, failed)
 
-ask_count : (asking : Asking) (number : ℕ) (new : List Seen) → AskSteps asking number new → length new ≤ 7 + 2 * failed_pushes new
+pub ask_count : (asking : Asking) (number : ℕ) (new : List Seen) → AskSteps asking number new → length new ≤ 7 + 2 * failed_pushes new
 ask_count Asking.Held number new e = let size = ap length e in omega (arith, size)
 ask_count Asking.Asleep number new h = more_steps Asking.Asleep h.0 h.1 h.2 new h.5 h.6
 ask_count Asking.Carries number new h = more_steps Asking.Carries h.0 h.1 h.2 new h.5 h.6

@@ -6,7 +6,7 @@ use Rattle.std.proofs.lemmas.Bool.{cases_eq, false≢true}
 use Rattle.std.proofs.lemmas.List.{get_or-set_other, get_or-set_same, set-get_or}
 use mathlib.Core.Option.{some, some-injective}
 use lib.ListN.{get_elem?}
-use Rattle.atomic_table.specs.Table.{State, Me, keeps}
+use Rattle.atomic_table.specs.Table.{State, Me, Allows, keeps}
 use Rattle.atomic_table.proofs.Lists.{at_set, set_again, set_here, set_else}
 use Rattle.lfm_words.specs.declared.pop_lists.Record.{Record}
 use Rattle.lfm_protocol.specs.Limits.{max_seats}
@@ -22,6 +22,7 @@ use Rattle.lfm_pool.specs.Belongs.{IsMutex, OfPool, SameSeat}
 use Rattle.lfm_pool.specs.Carrying.{CarriesIn, MayAccess, NotesIn}
 use Rattle.lfm_pool.specs.Seats.{note_of, popped_of}
 use Rattle.lfm_pool.specs.Chain.{AreWithin, HasRecord, IsChain, first_link, first_seat}
+use Rattle.lfm_pool.specs.Posts.{KeepsPost, KeepsPosts}
 use Rattle.lfm_pool.specs.Rule.{own_at, link_at, wake_at, HeldPool, NobodyCarries}
 use Rattle.lfm_pool.specs.Tables.{IsUncollected, note, part, with_part, rests, has_link}
 use Rattle.lfm_pool.proofs.Chains.{chain_on, has_dropped}
@@ -29,6 +30,8 @@ use Rattle.lfm_pool.proofs.Links.{linked_busy}
 use Rattle.lfm_pool.proofs.LoneTables.{changed_same, changed_other, note_same, note_other, part_same, part_other, seats_of}
 use Rattle.lfm_pool.proofs.PoppedRecords.{first_alone}
 use Rattle.lfm_pool.proofs.PoppedViews.{HasLinkAt, popped_view}
+use Rattle.lfm_pool.proofs.PostStates.{keeps_same}
+use Rattle.lfm_pool.proofs.PostsKept.{allows_posts}
 use Rattle.lfm_pool.proofs.Steps.{one_carries}
 
 -- What a write of x into the word at this index needs, if the seat that carries mutex m has the note k of it then, and
@@ -282,33 +285,62 @@ first_record (r ∷ rest) above = (r, rest, refl)
 mutexes_are : (p : Pool) (t : PoolSeat) → OfPool t p → (s : State ℕ PoolView) (h : HeldPool s) → get_elem? s.views t.place.id ≡ some t.place.me.0 → h.mutexes ≡ p.mutexes
 mutexes_are p t belongs s h at = sym (h.wide t.place.id t.place.me.0 at) ∙ belongs.parts
 
+-- a view in which only a note has changed says the same of posts
+notes_keep : (v : PoolView) (m : ℕ) (k : Note) → m < length v.parts → KeepsPosts v (with_part v m (part v m) k)
+notes_keep v m k here = record {
+  parts = length-set v.parts m (record { view = part v m; note = k });
+  posts = refl;
+  found = refl;
+  each = λ i. elim (cases_eq i m) [
+    | inl same ↦
+        subst (λ (y : View ⊤). KeepsPost (part v i).state y.state)
+        (ap (part v) same ∙ sym (part_same v m (part v m) k here) ∙ ap (part (with_part v m (part v m) k)) (sym same)) (keeps_same (part v i).state)
+    | inr other ↦ subst (λ (y : View ⊤). KeepsPost (part v i).state y.state) (sym (part_other v m i (part v m) k other)) (keeps_same (part v i).state)
+  ];
+}
+
 module _ (p : Pool) (t : PoolSeat) (m : ℕ) (belongs : OfPool t p) (mutex : IsMutex m p) (carries : CarriesIn t m) where
   here : m < length t.place.me.0.parts
   here = let n = belongs.parts in omega (arith, n, mutex)
 
+  -- the word at this index is no handoff word
+  abbrev IsOff : ℕ → Type 0
+  IsOff index = (s : State ℕ PoolView) (h : HeldPool s) → get_elem? s.views t.place.id ≡ some t.place.me.0 → (i : ℕ) → i < h.mutexes → index ≢ own_at i 2
+
+  -- an access that keeps the rule of the words with the handoff words of the tables, and says nothing of posts
+  may_access : (index : ℕ) (f : ℕ → ℕ) (number : ℕ) (after : PoolView) (within : List Record) → IsOff index → KeepsPosts t.place.me.0 after
+      → Allows HeldPool p.table.shared.table_id.slots t.place.id t.place.me index f (λ n me'. (f n ≡ number) × (me' ≡ (after, t.place.me.1)) × AreWithin max_seats within)
+      → MayAccess p.table.shared.table_id.slots t.place.id t.place.me index f number after within
+  may_access index f number after within off kept allowed =
+      allows_posts p.table.shared.table_id.slots t.place.id index t.place.me f (λ n me'. (f n ≡ number) × (me' ≡ (after, t.place.me.1)) × AreWithin max_seats within) allowed off
+      (λ n me' told. subst (λ (z : Me ℕ PoolView). KeepsPosts t.place.me.0 z.0) (sym told.1) kept)
+
+  same_view : KeepsPosts t.place.me.0 t.place.me.0
+  same_view = record { parts = refl; posts = refl; found = refl; each = λ i. keeps_same (part t.place.me.0 i).state }
+
   -- a load of a word whose number is known
-  loads : (index x : ℕ) (within : List Record) → ((s : State ℕ PoolView) (h : HeldPool s) → get_elem? s.views t.place.id ≡ some t.place.me.0 → (slice_index s.words index ≡ x) × AreWithin max_seats within)
+  loads : (index x : ℕ) (within : List Record) → IsOff index → ((s : State ℕ PoolView) (h : HeldPool s) → get_elem? s.views t.place.id ≡ some t.place.me.0 → (slice_index s.words index ≡ x) × AreWithin max_seats within)
       → MayAccess p.table.shared.table_id.slots t.place.id t.place.me index (λ n. n) x t.place.me.0 within
-  loads index x within is s h none at small = (
+  loads index x within off is = may_access index (λ n. n) x t.place.me.0 within off same_view (λ s h none at small. (
     t.place.me.0,
     keeps,
     tt,
     subst HeldPool (λ i. record { words = sym (set-get_or s.words index 0) i; homes = s.homes; views = sym (set_again s.views t.place.id t.place.me.0 at) i }) h,
     ((is s h at).0, refl, (is s h at).1),
-  )
+  ))
 
   -- a write after which the seat has this note of the mutex
-  writes : (index number x : ℕ) (k : Note) → number ≡ x
+  writes : (index number x : ℕ) (k : Note) → number ≡ x → IsOff index
       → ((s : State ℕ PoolView) (h : HeldPool s) → get_elem? s.views t.place.id ≡ some t.place.me.0 → HeldPool (record { words = set s.words index number; homes = s.homes; views = set s.views t.place.id (with_part t.place.me.0 m (part t.place.me.0 m) k) }))
       → MayAccess p.table.shared.table_id.slots t.place.id t.place.me index (λ n. number) x (with_part t.place.me.0 m (part t.place.me.0 m) k) []
-  writes index number x k same held s h none at small = (with_part t.place.me.0 m (part t.place.me.0 m) k, keeps, tt, held s h at, (same, refl, λ r has. absurd has))
+  writes index number x k same off held = may_access index (λ n. number) x (with_part t.place.me.0 m (part t.place.me.0 m) k) [] off (notes_keep t.place.me.0 m k here) (λ s h none at small. (with_part t.place.me.0 m (part t.place.me.0 m) k, keeps, tt, held s h at, (same, refl, λ r has. absurd has)))
 
   pub loads_carried : (index : ℕ) → index ≡ own_at m 4 → MayAccess p.table.shared.table_id.slots t.place.id t.place.me index (λ n. n) (note_of t m).carried t.place.me.0 []
-  loads_carried index e = loads index (note_of t m).carried [] (λ s h at. (ap (λ (i : ℕ). slice_index s.words i) e ∙ carried_is t.place.id m t.place.me.0 here carries s h at, λ r has. absurd has))
+  loads_carried index e = loads index (note_of t m).carried [] (λ s h at i less hit. omega (arith, e, hit)) (λ s h at. (ap (λ (i : ℕ). slice_index s.words i) e ∙ carried_is t.place.id m t.place.me.0 here carries s h at, λ r has. absurd has))
 
   pub writes_carried : (index number : ℕ) → index ≡ own_at m 4
       → MayAccess p.table.shared.table_id.slots t.place.id t.place.me index (λ n. number) number (with_part t.place.me.0 m (part t.place.me.0 m) (record (note_of t m) { carried = number })) []
-  writes_carried index number e = writes index number number (record (note_of t m) { carried = number }) refl (λ s h at.
+  writes_carried index number e = writes index number number (record (note_of t m) { carried = number }) refl (λ s h at i less hit. omega (arith, e, hit)) (λ s h at.
       subst (λ (i : ℕ). HeldPool (record { words = set s.words i number; homes = s.homes; views = set s.views t.place.id (with_part t.place.me.0 m (part t.place.me.0 m) (record (note t.place.me.0 m) { carried = number })) })) (sym e)
       (carried_written t.place.id m t.place.me.0 here carries s h at number))
 
@@ -320,11 +352,15 @@ module _ (p : Pool) (t : PoolSeat) (m : ℕ) (belongs : OfPool t p) (mutex : IsM
       let first : target ≡ r.seat = is ∙ ap first_seat popped in
       omega (arith, many, first, above, there)
 
+  -- nor is a link word
+  off_chain : (index target : ℕ) → 0 < target → index + 2 ≡ p.mutexes * 8 + target * 2 → IsOff index
+  off_chain index target above there s h at i less hit = let many = mutexes_are p t belongs s h at in omega (arith, many, above, there, less, hit)
+
   pub loads_chain : (index target : ℕ) → target ≡ first_seat (popped_of t m) → 0 < target → index + 2 ≡ p.mutexes * 8 + target * 2 → (note_of t m).due ≡ 0
       → MayAccess p.table.shared.table_id.slots t.place.id t.place.me index (λ n. n) (first_link (popped_of t m)) t.place.me.0 (popped_of t m)
   loads_chain index target is above there whole =
       let first = first_record (popped_of t m) (let e = is in omega (arith, e, above)) in
-      loads index (first_link (popped_of t m)) (popped_of t m) (λ s h at. (
+      loads index (first_link (popped_of t m)) (popped_of t m) (off_chain index target above there) (λ s h at. (
         ap (λ (i : ℕ). slice_index s.words i) (oldest_at index target first.0 first.1 first.2 is above there s h at)
             ∙ link_is t.place.id m t.place.me.0 here carries s h at first.0 first.1 first.2 whole ∙ ap first_link (sym first.2),
         are_within t.place.id m t.place.me.0 here carries s h at,
@@ -334,7 +370,7 @@ module _ (p : Pool) (t : PoolSeat) (m : ℕ) (belongs : OfPool t p) (mutex : IsM
       → MayAccess p.table.shared.table_id.slots t.place.id t.place.me index (λ n. number) (first_link (popped_of t m)) (with_part t.place.me.0 m (part t.place.me.0 m) (record (note_of t m) { due = 0 })) []
   writes_chain index target number is above there due link =
       let first = first_record (popped_of t m) (let e = is in omega (arith, e, above)) in
-      writes index number (first_link (popped_of t m)) (record (note_of t m) { due = 0 }) link (λ s h at.
+      writes index number (first_link (popped_of t m)) (record (note_of t m) { due = 0 }) link (off_chain index target above there) (λ s h at.
       subst (λ (i : ℕ). HeldPool (record { words = set s.words i number; homes = s.homes; views = set s.views t.place.id (with_part t.place.me.0 m (part t.place.me.0 m) (record (note t.place.me.0 m) { due = 0 })) }))
       (sym (oldest_at index target first.0 first.1 first.2 is above there s h at))
       (chain_written t.place.id m t.place.me.0 here carries s h at first.0 first.1 first.2 due number (link ∙ ap first_link first.2)))

@@ -12,6 +12,7 @@ use Rattle.lfm_pool.specs.declared.view.PoolView.{PoolView}
 use Rattle.lfm_pool.specs.Chain.{HasRecord, IsChain, first_seat}
 use Rattle.lfm_pool.specs.Laws.{AreOfDifferentSeats, ChainsAreWalked, seats_of_records, walked}
 use Rattle.lfm_pool.specs.Rule.{HeldPool, link_at}
+use Rattle.lfm_pool.proofs.Chains.{chain_on}
 use Rattle.lfm_pool.proofs.PoppedRecords.{popped_differ}
 use Rattle.lfm_pool.proofs.PoppedViews.{popped_view}
 
@@ -37,7 +38,7 @@ walks mutexes words (suc most) (r ∷ rest) are chain within =
     ap (λ b. if b then [] else r.seat ∷ walked mutexes words most (link_of (slice_index words (link_at mutexes (r.seat - 1)))).next) (ne_eqb r.seat 0 (λ e. omega (arith, e, above)))
     ∙ ap (λ (n : ℕ). r.seat ∷ walked mutexes words most n) next ∙ ap (λ (ts : List ℕ). r.seat ∷ ts) on
 
-module _ (s : State ℕ PoolView) (h : HeldPool s) (m : ℕ) (less : m < h.mutexes) where
+module _ (s : State ℕ PoolView) (h : HeldPool s) (m : ℕ) (less : m < h.mutexes) (words : List ℕ) (same : (t : ℕ) → slice_index words (link_at h.mutexes (t - 1)) ≡ slice_index s.words (link_at h.mutexes (t - 1))) where
   popped_are_seats : AreSeats (h.popped m)
   popped_are_seats t has =
       let f = popped_view s h m less t has in
@@ -47,13 +48,17 @@ module _ (s : State ℕ PoolView) (h : HeldPool s) (m : ℕ) (less : m < h.mutex
       let most = (h.kept m less).fits.sizes.seats in
       (omega (arith, f.1), omega (arith, f.1, low, many, few, most))
 
-  walked_whole : h.dues m ≡ 0 → (most : ℕ) → length (h.popped m) ≤ most → walked h.mutexes s.words most (first_seat (h.popped m)) ≡ seats_of_records (h.popped m)
+  walked_whole : h.dues m ≡ 0 → (most : ℕ) → length (h.popped m) ≤ most → walked h.mutexes words most (first_seat (h.popped m)) ≡ seats_of_records (h.popped m)
   walked_whole none most within =
-      walks h.mutexes s.words most (h.popped m) popped_are_seats (subst (λ (n : ℕ). IsChain h.mutexes s.words (drop n (h.popped m))) none (h.chain m less)) within
+      walks h.mutexes words most (h.popped m) popped_are_seats
+      (chain_on h.mutexes s.words words (h.popped m) (λ t has. same t) (subst (λ (n : ℕ). IsChain h.mutexes s.words (drop n (h.popped m))) none (h.chain m less))) within
 
   differ : AreOfDifferentSeats (h.popped m)
   differ =
       let k = h.kept m less in subst AreOfDifferentSeats (h.listed m less) (popped_differ k.core k.ghost_state k.fits)
 
 pub chains_are_walked : ChainsAreWalked
-chains_are_walked s h m less none = (walked_whole s h m less none, differ s h m less)
+chains_are_walked s h m less none =
+    let own : State ℕ PoolView = record { words = h.own; homes = s.homes; views = s.views } in
+    let same : (t : ℕ) → slice_index s.words (link_at h.held.mutexes (t - 1)) ≡ slice_index h.own (link_at h.held.mutexes (t - 1)) = λ t. h.same (link_at h.held.mutexes (t - 1)) (λ i low e. omega (arith, low, e)) in
+    (walked_whole own h.held m less s.words same none, differ own h.held m less s.words same)

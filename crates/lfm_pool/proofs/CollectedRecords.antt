@@ -79,4 +79,4 @@ module _ (p : Pool) (s s1 : PoolSeat) (m target n : ℕ) (mutex : IsMutex m p) (
 -- The clearing of the head
 
 pub clears_head : (seats number : ℕ) (p : SeatState) → ClearsHead p → IsOwnAccessOf seats number p (Access.FetchAnd 3 (2 ^ 64 - 2 ^ 16))
-clears_head seats number p at = ((Kind.ClearHead, ap kind at.1, refl, (λ n. refl), refl), omega arith)
+clears_head seats number p at = ((Kind.ClearHead, ap kind at.1, refl, (λ n. refl), refl), omega arith, λ e. omega (arith, e))

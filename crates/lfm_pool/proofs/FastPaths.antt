@@ -42,7 +42,7 @@ pub length_with : (v : PoolView) (m : ℕ) (w : View ⊤) (n : Note) → length 
 length_with v m w n = length-set v.parts m (record { view = w; note = n })
 
 pub twice_with : (v : PoolView) (m : ℕ) (w x : View ⊤) (n k : Note) → with_part (with_part v m w n) m x k ≡ with_part v m x k
-twice_with v m w x n k = λ i. record { parts = set-set v.parts m (record { view = w; note = n }) (record { view = x; note = k }) i }
+twice_with v m w x n k = λ i. record v { parts = set-set v.parts m (record { view = w; note = n }) (record { view = x; note = k }) i }
 
 pub elsewhere_with : (v : PoolView) (m : ℕ) (w : View ⊤) (n : Note) → RestsElsewhere v m → RestsElsewhere (with_part v m w n) m
 elsewhere_with v m w n rest i less other = rw (part_other v m i w n other) (rest i (let l = length_with v m w n in omega (arith, l, less)) other)
@@ -72,16 +72,16 @@ unlock_begun x l rests once = ap (λ (y : SeatState). (Begin.begin y l Call.Unlo
 
 pub exchanges : (seats number t ps : ℕ) → IsOwnAccessOf seats number (made_of 0 t ps TryCountExchange) (Access.CompareExchange 0 0 1)
 exchanges seats number t ps =
-    ((Kind.CountExchange, refl, refl, (λ n. refl), refl), omega arith)
+    ((Kind.CountExchange, refl, refl, (λ n. refl), refl), omega arith, λ e. omega (arith, e))
 
 pub enters : (seats number t ps : ℕ) → IsOwnAccessOf seats number (made_of 0 t ps (EnterOwnerStore Entrant.Trier How.Free)) (Access.Store 1 number)
-enters seats number t ps = ((Kind.OwnerStore, refl, refl, (λ n. refl), refl), omega arith)
+enters seats number t ps = ((Kind.OwnerStore, refl, refl, (λ n. refl), refl), omega arith, λ e. omega (arith, e))
 
 pub gives_up : (seats number t ps : ℕ) → IsOwnAccessOf seats number (made_of 1 t ps (ReleaseOwnerStore Unlocker)) (Access.Store 1 0)
-gives_up seats number t ps = ((Kind.OwnerStore, refl, refl, (λ n. refl), refl), omega arith)
+gives_up seats number t ps = ((Kind.OwnerStore, refl, refl, (λ n. refl), refl), omega arith, λ e. omega (arith, e))
 
 pub subtracts : (seats number t ps : ℕ) → IsOwnAccessOf seats number (made_of 0 t ps (ReleaseCountSubtract Unlocker)) (Access.FetchSub 0 1)
-subtracts seats number t ps = ((Kind.CountSubtract, refl, refl, (λ n. refl), refl), omega arith)
+subtracts seats number t ps = ((Kind.CountSubtract, refl, refl, (λ n. refl), refl), omega arith, λ e. omega (arith, e))
 
 -- Where each step leads
 

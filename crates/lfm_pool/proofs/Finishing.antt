@@ -1,5 +1,5 @@
 -- The end of a lock that has taken a post over: the seat after each part of it.
-use Rattle.std.proofs.Common.{◌≡◌, ◌≢◌, ℕ, ◌+◌, ◌*◌, ◌<◌, ◌≤◌, List, [], ◌∷◌, ◌++◌, drop, length, Option, Some, None, refl, sym, ap, ◌∙◌, subst, inr, arith, append_assoc, length-append}
+use Rattle.std.proofs.Common.{◌≡◌, ◌≢◌, ℕ, ◌+◌, ◌*◌, ◌<◌, ◌≤◌, List, [], ◌∷◌, ◌++◌, drop, length, Option, refl, sym, ap, ◌∙◌, subst, inr, arith, append_assoc, length-append}
 use Rattle.std.specs.Prelude.{⊤, true, false}
 use Rattle.std.proofs.lemmas.Bool.{eq-eqb, ne_eqb}
 use Rattle.atomic_table.specs.Table.{Me}
@@ -27,6 +27,7 @@ use Rattle.lfm_table.specs.declared.seat_view.View.{View}
 use Rattle.lfm_table.specs.Actions.{seen}
 use Rattle.lfm_table.proofs.tables.Actions.{run_next}
 use Rattle.lfm_table.proofs.tables.StepFacts.{carrying, made_of, taking}
+use Rattle.lfm_pool.specs.declared.finish_ask.Finished.{Finished}
 use Rattle.lfm_pool.specs.declared.pool.Pool.{Pool}
 use Rattle.lfm_pool.specs.declared.pool.PoolSeat.{PoolSeat}
 use Rattle.lfm_pool.specs.declared.view.Note.{Note}
@@ -88,7 +89,7 @@ module _ (u z : PoolSeat) (p : Pool) (m n : ℕ) (may : MayStepIn u p m) (y y' :
   last_note = carried_on y last.0 (note_of u m) (carrying y on) loads ∙ whole ∙ ap rested (sym last_left)
 
   -- the whole, from the seat s on, which has come to u by these steps, and has the same number
-  module _ (s : PoolSeat) (same : SameSeat s u) (result : Option Record) (new : List Seen) (x : SeatState) (earlier : Made new x (part s.place.me.0 m) (part u.place.me.0 m))
+  module _ (s : PoolSeat) (same : SameSeat s u) (result : Finished) (new : List Seen) (x : SeatState) (earlier : Made new x (part s.place.me.0 m) (part u.place.me.0 m))
       (reaches : (w : View ⊤) (k : Note) → z.place.me ≡ (with_part u.place.me.0 m w k, u.place.me.1) → z.place.me ≡ (with_part s.place.me.0 m w k, s.place.me.1))
       (steps : FinishSteps result s.number (popped_of s m) rest (new ++ seen y.point n ∷ [])) (ends : y' ≡ finished result (state_of s m)) (notes : NotesFinished result (note_after y last.0 (note_of u m)) last.0.popped) where
     pub finishes : FinishesIn result s z p m
@@ -110,10 +111,10 @@ module _ (u z : PoolSeat) (p : Pool) (m n : ℕ) (may : MayStepIn u p m) (y y' :
 -- The seat after it
 
 module _ (s t : PoolSeat) (p : Pool) (m : ℕ) (may : MayStepIn s p m) (same : SameSeat s t) where
-  pub may_finished : (result : Option Record) → FinishesIn result s t p m → MayStepIn t p m
+  pub may_finished : (result : Finished) → FinishesIn result s t p m → MayStepIn t p m
   may_finished result did = may_then s t p m may same (did.0, did.1, did.2, did.3.1)
 
-  module _ (result : Option Record) (did : FinishesIn result s t p m) where
+  module _ (result : Finished) (did : FinishesIn result s t p m) where
     now : part t.place.me.0 m ≡ did.0
     now = part_now s.number s.place.id m p.limits s.place.me t.place.me t.place.me (inside s t p m may) did.0 did.1 did.2
 
@@ -123,26 +124,26 @@ module _ (s t : PoolSeat) (p : Pool) (m : ℕ) (may : MayStepIn s p m) (same : S
     whole_now : did.1 ≡ rested did.0.popped → note_of t m ≡ rested (popped_of t m)
     whole_now e = note_now s.number s.place.id m p.limits s.place.me t.place.me t.place.me (inside s t p m may) did.0 did.1 did.2 ∙ e ∙ ap (λ (y : View ⊤). rested y.popped) (sym now)
 
-  pub ready_finished : (result : Option Record) → FinishesIn result s t p m → IsReadyFinished result t p m
-  ready_finished None did = record {
-    sits = (may_finished None did).sits;
-    rests = ap (λ (y : SeatState). y.point) (state_now None did);
-    once = ap (λ (y : SeatState). y.depth) (state_now None did);
-    noted = whole_now None did did.3.2;
+  pub ready_finished : (result : Finished) → FinishesIn result s t p m → IsReadyFinished result t p m
+  ready_finished (Finished.Held stamp) did = record {
+    sits = (may_finished (Finished.Held stamp) did).sits;
+    rests = ap (λ (y : SeatState). y.point) (state_now (Finished.Held stamp) did);
+    once = ap (λ (y : SeatState). y.depth) (state_now (Finished.Held stamp) did);
+    noted = whole_now (Finished.Held stamp) did did.3.2;
   }
-  ready_finished (Some r) did = (Sleeper.Locker, ap (λ (y : SeatState). y.point) (state_now (Some r) did))
+  ready_finished (Finished.Granted r) did = (Sleeper.Locker, ap (λ (y : SeatState). y.point) (state_now (Finished.Granted r) did))
 
-finish_length : (result : Option Record) (number : ℕ) (before after : List Record) (new : List Seen) → FinishSteps result number before after new → length new ≤ 3 + length after
-finish_length None number before after new h =
+pub finish_length : (result : Finished) (number : ℕ) (before after : List Record) (new : List Seen) → FinishSteps result number before after new → length new ≤ 3 + length after
+finish_length (Finished.Held stamp) number before after new h =
     let less = collecting_length Carrier.Locker before h.0 (h.1 ∷ after) in
-    let long = ap length h.4 ∙ length-append (collecting Carrier.Locker before h.0 (h.1 ∷ after)) (seen (EnterOwnerStore Entrant.Locker (How.Queued h.1.stamp)) number ∷ []) in
+    let long = ap length h.5 ∙ length-append (collecting Carrier.Locker before h.0 (h.1 ∷ after)) (seen (EnterOwnerStore Entrant.Locker (How.Queued h.1.stamp)) number ∷ []) in
     omega (arith, less, long)
-finish_length (Some r) number before after new h =
+finish_length (Finished.Granted r) number before after new h =
     let less = collecting_length Carrier.Locker before h.0 (r ∷ after) in
     let long = ap length h.3 ∙ length-append (collecting Carrier.Locker before h.0 (r ∷ after)) (seen (GrantWakeStore Carrier.Locker r) (wake_word (Grant r.stamp)) ∷ []) in
     omega (arith, less, long)
 
-pub finish_bounded : (s t : PoolSeat) (p : Pool) (m : ℕ) → MayStepIn s p m → (result : Option Record) → FinishesIn result s t p m → MakesAtMostIn (3 + length (popped_of t m)) s t m
+pub finish_bounded : (s t : PoolSeat) (p : Pool) (m : ℕ) → MayStepIn s p m → (result : Finished) → FinishesIn result s t p m → MakesAtMostIn (3 + length (popped_of t m)) s t m
 finish_bounded s t p m may result did = bounded_by s t p m may 3 did.0 did.1 did.3.0.0 did.2 did.3.0.2.trail (finish_length result s.number (popped_of s m) did.0.popped did.3.0.0 did.3.0.1)
 
 -- Its parts
@@ -163,7 +164,7 @@ module _ (s t : PoolSeat) (p : Pool) (m : ℕ) (same : SameSeat s t) (knows : t.
   pub whole_too : note_of s m ≡ rested (popped_of s m) → note_of t m ≡ rested (popped_of t m)
   whole_too whole = subst (λ (z : Me ℕ PoolView). note z.0 m ≡ rested (part z.0 m).popped) (sym knows) whole
 
-  pub finishes_from : (u : PoolSeat) (result : Option Record) → FinishesIn result t u p m → FinishesIn result s u p m
+  pub finishes_from : (u : PoolSeat) (result : Finished) → FinishesIn result t u p m → FinishesIn result s u p m
   finishes_from u result did =
       subst (λ (y : ℕ × ℕ × Me ℕ PoolView). KnowsMoreOf m (λ w k. ((new : List Seen) × FinishSteps result y.0 (part y.2.0 m).popped w.popped new × Made new (finished result (part y.2.0 m).state) (part y.2.0 m) w) × Sits y.0 y.1 p.limits w.state w × NotesFinished result k w.popped) y.2 u.place.me) (λ i. (same.number i, same.id i, knows i)) did
 
@@ -208,7 +209,7 @@ module _ (s : PoolSeat) (p : Pool) (m : ℕ) (may : MayStepIn s p m) (takes : Ta
   clears_next none = takes ∙ ap (λ (l : List Record). take Carrier.Locker s.number (oldest l)) none
 
   -- it has granted a record that was popped
-  pub granted_other : (n : ℕ) → n ≡ (note_of s m).carried → n ≢ 0 → n ≢ s.number → (t : PoolSeat) (r : Record) → IsOldest r (popped_of s m) → GrantsIn s t p m r → FinishesIn (Some r) s t p m
+  pub granted_other : (n : ℕ) → n ≡ (note_of s m).carried → n ≢ 0 → n ≢ s.number → (t : PoolSeat) (r : Record) → IsOldest r (popped_of s m) → GrantsIn s t p m r → FinishesIn (Finished.Granted r) s t p m
   granted_other n e more other t r first did =
       let x = state_of s m in
       let v = part s.place.me.0 m in
@@ -262,6 +263,13 @@ module _ (s : PoolSeat) (p : Pool) (m : ℕ) (may : MayStepIn s p m) (own : Ente
       let low = first_within max_seats own.3.0 later in
       omega (arith, same, small, low)
 
+  pub enter_stamp : (link : Link) (word : ℕ) → link_word link ≡ word → link.next < seat_field_size → word ≡ first_link (popped_of s m) → AreWithin max_seats (popped_of s m) → own.0.stamp ≡ link.stamp
+  enter_stamp link word packs small finds within =
+      let same : link.stamp * seat_field_size + link.next ≡ own.0.stamp * seat_field_size + first_seat own.3.0 = packs ∙ finds ∙ ap first_link own.3.1 in
+      let later : AreWithin max_seats own.3.0 = λ t has. within t (subst (λ (k : List Record). HasRecord t k) (sym own.3.1) (inr has)) in
+      let low = first_within max_seats own.3.0 later in
+      omega (arith, same, small, low)
+
   module _ (s1 s2 : PoolSeat) (knows : s1.place.me ≡ s.place.me) (same1 : SameSeat s s1) (same2 : SameSeat s1 s2) (next : ℕ) (notes : NotesIn s1 s2 m (record (note_of s1 m) { carried = next })) (next_is : next ≡ first_seat own.3.0) where
     here : m < length s1.place.me.0.parts
     here = let a = same1.parts in let b = may.belongs.parts in let c = may.mutex in omega (arith, a, b, c)
@@ -291,13 +299,13 @@ module _ (s : PoolSeat) (p : Pool) (m : ℕ) (may : MayStepIn s p m) (own : Ente
 
     pub enter_access : (number : ℕ) → number ≡ s.number → IsOwnAccessOf p.limits.seats s2.number (state_of s2 m) (Access.Store 1 number)
     enter_access number e =
-        subst (λ (y : SeatState × ℕ). IsOwnAccessOf p.limits.seats s2.number y.0 (Access.Store 1 y.1)) (λ i. (sym state2 i, (same_both.number ∙ sym e) i)) ((Kind.OwnerStore, refl, refl, (λ n. refl), refl), omega arith)
+        subst (λ (y : SeatState × ℕ). IsOwnAccessOf p.limits.seats s2.number y.0 (Access.Store 1 y.1)) (λ i. (sym state2 i, (same_both.number ∙ sym e) i)) ((Kind.OwnerStore, refl, refl, (λ n. refl), refl), omega arith, λ e. omega (arith, e))
 
     pub enter_keeps : KeepsChain (state_of s2 m) s2.number (part s2.place.me.0 m) (note_of s2 m)
     enter_keeps = keeps_at (state_of s2 m) s2.number (part s2.place.me.0 m) (note_of s2 m) (EnterOwnerStore Entrant.Locker (How.Queued own.0.stamp)) (ap (λ (y : SeatState). y.point) state2) refl refl
 
-    pub entered : (z : PoolSeat) (n : ℕ) → MovesIn s2 z p m n → n ≡ s.number → FinishesIn None s z p m
-    entered z n moved told =
+    pub entered : (stamp : ℕ) → own.0.stamp ≡ stamp → (z : PoolSeat) (n : ℕ) → MovesIn s2 z p m n → n ≡ s.number → FinishesIn (Finished.Held stamp) s z p m
+    entered stamp stamp_is z n moved told =
         let did : MovesIn s2 z p m s.number = subst (λ (k : ℕ). MovesIn s2 z p m k) told moved in
         let list : popped_of s2 m ≡ own.0 ∷ own.3.0 = ap (λ (y : View ⊤). y.popped) part2 ∙ own.3.1 in
         let w = last s2 z p m s.number may_enter entering (made_of 1 (state_of s m).takes (state_of s m).posts Rest) state2 refl refl own.0 own.3.0 list note2 (λ o. refl) (λ l. refl) did in
@@ -314,6 +322,7 @@ module _ (s : PoolSeat) (p : Pool) (m : ℕ) (may : MayStepIn s p m) (own : Ente
                 0,
                 own.0,
                 own.1,
+                stamp_is,
                 subst (λ (l : List Record). AreQueued l 0 (own.0 ∷ w.0.popped)) (sym own.3.1) (ap (λ (l : List Record). own.0 ∷ l) left),
                 subst (λ (l : List Record). seen (EnterOwnerStore Entrant.Locker (How.Queued own.0.stamp)) s.number ∷ [] ≡ collecting Carrier.Locker l 0 (own.0 ∷ w.0.popped) ++ seen (EnterOwnerStore Entrant.Locker (How.Queued own.0.stamp)) s.number ∷ []) (sym own.3.1) refl,
               ),
@@ -423,19 +432,20 @@ module _ (s : PoolSeat) (p : Pool) (m : ℕ) (may : MayStepIn s p m) (clears : C
 
       pub own_access : (number : ℕ) → number ≡ s.number → IsOwnAccessOf p.limits.seats u.number (state_of u m) (Access.Store 1 number)
       own_access number e =
-          subst (λ (y : SeatState × ℕ). IsOwnAccessOf p.limits.seats u.number y.0 (Access.Store 1 y.1)) (λ i. (sym state_own i, (same_all.number ∙ sym e) i)) ((Kind.OwnerStore, refl, refl, (λ n. refl), refl), omega arith)
+          subst (λ (y : SeatState × ℕ). IsOwnAccessOf p.limits.seats u.number y.0 (Access.Store 1 y.1)) (λ i. (sym state_own i, (same_all.number ∙ sym e) i)) ((Kind.OwnerStore, refl, refl, (λ n. refl), refl), omega arith, λ e. omega (arith, e))
 
       pub own_keeps : KeepsChain (state_of u m) u.number (part u.place.me.0 m) (note_of u m)
       own_keeps = keeps_at (state_of u m) u.number (part u.place.me.0 m) (note_of u m) (EnterOwnerStore Entrant.Locker (How.Queued r.stamp)) (ap (λ (y : SeatState). y.point) state_own) refl refl
 
-      pub finished_own : (z : PoolSeat) (k : ℕ) → MovesIn u z p m k → k ≡ s.number → FinishesIn None s z p m
-      finished_own z k moved told =
+      pub finished_own : (stamp : ℕ) → r.stamp ≡ stamp → (z : PoolSeat) (k : ℕ) → MovesIn u z p m k → k ≡ s.number → FinishesIn (Finished.Held stamp) s z p m
+      finished_own stamp stamp_is z k moved told =
           let moves : MovesIn u z p m s.number = subst (λ (i : ℕ). MovesIn u z p m i) told moved in
           finishes u z p m s.number may_collected entering_own (made_of 1 (state_of s m).takes (state_of s m).posts Rest) state_own refl refl r collected.2.3.0.oldest.0 list_u note_u (λ o. refl) (λ l. refl) moves
-          s same_all None (seen (TakeClearHead Carrier.Locker) n ∷ loads_of Carrier.Locker (r ∷ collected.2.3.0.oldest.0) 0) (record (state_of s m) { point = serves Carrier.Locker s.number r }) earlier (reaches z) (
+          s same_all (Finished.Held stamp) (seen (TakeClearHead Carrier.Locker) n ∷ loads_of Carrier.Locker (r ∷ collected.2.3.0.oldest.0) 0) (record (state_of s m) { point = serves Carrier.Locker s.number r }) earlier (reaches z) (
             n,
             r,
             own,
+            stamp_is,
             queued_all,
             subst (λ (l : List Record). (seen (TakeClearHead Carrier.Locker) n ∷ loads_of Carrier.Locker (r ∷ collected.2.3.0.oldest.0) 0) ++ seen (EnterOwnerStore Entrant.Locker (How.Queued r.stamp)) s.number ∷ [] ≡ collecting Carrier.Locker l n (r ∷ collected.2.3.0.oldest.0) ++ seen (EnterOwnerStore Entrant.Locker (How.Queued r.stamp)) s.number ∷ []) (sym none) refl,
           )
@@ -453,10 +463,10 @@ module _ (s : PoolSeat) (p : Pool) (m : ℕ) (may : MayStepIn s p m) (clears : C
       pub other_grants : Grants r (state_of u m)
       other_grants = (Carrier.Locker, ap (λ (y : SeatState). y.point) state_other)
 
-      pub finished_other : (z : PoolSeat) → MovesIn u z p m (wake_word (Grant r.stamp)) → FinishesIn (Some r) s z p m
+      pub finished_other : (z : PoolSeat) → MovesIn u z p m (wake_word (Grant r.stamp)) → FinishesIn (Finished.Granted r) s z p m
       finished_other z moves =
           finishes u z p m (wake_word (Grant r.stamp)) may_collected granting (made_of (state_of s m).depth (state_of s m).takes (state_of s m).posts (Asleep Sleeper.Locker)) state_other refl refl r collected.2.3.0.oldest.0 list_u note_u (λ o. refl) (λ l. refl) moves
-          s same_all (Some r) (seen (TakeClearHead Carrier.Locker) n ∷ loads_of Carrier.Locker (r ∷ collected.2.3.0.oldest.0) 0) (record (state_of s m) { point = serves Carrier.Locker s.number r }) earlier (reaches z) (
+          s same_all (Finished.Granted r) (seen (TakeClearHead Carrier.Locker) n ∷ loads_of Carrier.Locker (r ∷ collected.2.3.0.oldest.0) 0) (record (state_of s m) { point = serves Carrier.Locker s.number r }) earlier (reaches z) (
             n,
             other,
             queued_all,

@@ -6,7 +6,7 @@ use Rattle.std.proofs.lemmas.Bool.{false≢true}
 use Rattle.lfm_words.specs.declared.pop_lists.Record.{Record}
 use Rattle.lfm_protocol.specs.declared.points.Carrier.{Carrier}
 use Rattle.lfm_protocol.specs.declared.points.Point.{Point}
-use Rattle.lfm_protocol.specs.declared.points.Point.TheVariants.{TakeLinkLoad, ReleaseCountSubtract, GrantWakeStore}
+use Rattle.lfm_protocol.specs.declared.points.Point.TheVariants.{TakeLinkLoad, ReleaseCountSubtract, ReleaseHandoffStore, GrantWakeStore}
 use Rattle.lfm_protocol.specs.declared.points.Releaser.{Releaser}
 use Rattle.lfm_protocol.specs.declared.seats.SeatState.{SeatState}
 use Rattle.lfm_protocol.specs.Place.{carries}
@@ -54,6 +54,12 @@ module _ (p : SeatState) (number : ℕ) (v : View ⊤) (note : Note) where
 
   pub keeps_by_subtract : (r : Releaser) → p.point ≡ ReleaseCountSubtract r → note ≡ rested v.popped → KeepsChain p number v note
   keeps_by_subtract r e whole = record {
+    gives = λ n before gone. whole ∙ ap (λ (q : Point). rested (popped_by_step (made_of p.depth p.takes p.posts q) number n v.popped)) (sym e);
+    loads = loads_none (ap is_link_load e);
+  }
+
+  pub keeps_by_post : (r : Releaser) → p.point ≡ ReleaseHandoffStore r → note ≡ rested v.popped → KeepsChain p number v note
+  keeps_by_post r e whole = record {
     gives = λ n before gone. whole ∙ ap (λ (q : Point). rested (popped_by_step (made_of p.depth p.takes p.posts q) number n v.popped)) (sym e);
     loads = loads_none (ap is_link_load e);
   }

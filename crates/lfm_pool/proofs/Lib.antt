@@ -1,5 +1,6 @@
 -- That steps, the opening and the splitting off of a seat keep the rule of a pool, and what a seat knows after them.
 pub use Rattle.atomic_table.proofs.Lists
+pub mod AllAsked
 pub mod Asking
 pub mod CarrierWords
 pub mod ChainLaws
@@ -7,6 +8,8 @@ pub mod Chains
 pub mod CollectedRecords
 pub mod FastPaths
 pub mod Finishing
+pub mod Forgotten
+pub mod HandoffSteps
 pub mod Keeping
 pub mod Lifting
 pub mod Links
@@ -14,11 +17,17 @@ pub mod LoneTables
 pub mod NewSeats
 pub mod Opening
 pub mod Parts
+pub mod PassingOn
 pub mod PoppedRecords
 pub mod PoppedViews
+pub mod PostNumbers
+pub mod PostStates
+pub mod Posting
+pub mod PostsKept
 pub mod Pushing
 pub mod Receiving
 pub mod Resting
+pub mod SameParts
 pub mod SeatWords
 pub mod ServingRecords
 pub mod SeveralSteps

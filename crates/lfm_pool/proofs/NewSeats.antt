@@ -66,17 +66,17 @@ split_may_try id l k allowed most =
 
 -- what a seat of a pool with this many mutexes knows, if it knows the same of each
 abbrev pub same_of_each : ℕ → View ⊤ → PoolView
-same_of_each mutexes v = record { parts = replicate mutexes (unnoted v) }
+same_of_each mutexes v = record { parts = replicate mutexes (unnoted v); posts = 0; found = 0 }
 
 map_same : {A B : Type 0} (f : A → B) (n : ℕ) (x : A) → map f (replicate n x) ≡ replicate n (f x)
 map_same f zero x = refl
 map_same f (suc n) x = ap (λ ys. f x ∷ ys) (map_same f n x)
 
 pub left_same : (mutexes : ℕ) (l : Limits) (k : ℕ) → left_view (same_of_each mutexes (first_after l k)) ≡ same_of_each mutexes (first_after l (k + 1))
-left_same mutexes l k = λ i. record { parts = map_same (λ (x : Known). record x { view = with_split x.view }) mutexes (unnoted (first_after l k)) i }
+left_same mutexes l k = λ i. record { parts = map_same (λ (x : Known). record x { view = with_split x.view }) mutexes (unnoted (first_after l k)) i; posts = 0; found = 0 }
 
 pub right_same : (mutexes : ℕ) (l : Limits) (k : ℕ) → right_view (same_of_each mutexes (first_after l k)) ≡ same_of_each mutexes (split_after l k)
-right_same mutexes l k = λ i. record { parts = map_same (λ (x : Known). unnoted (split_view x.view)) mutexes (unnoted (first_after l k)) i }
+right_same mutexes l k = λ i. record { parts = map_same (λ (x : Known). unnoted (split_view x.view)) mutexes (unnoted (first_after l k)) i; posts = 0; found = 0 }
 
 same_at : {A : Type 0} (n i : ℕ) (x d : A) → i < n → get_or (replicate n x) i d ≡ x
 same_at zero i x d less = absurd (omega (arith, less))
@@ -108,6 +108,7 @@ is_new s p number l v table limits_are named me none rest may =
         number_is = named;
         may_try = λ m less. subst (λ (z : ℕ × Limits × View ⊤). MayTry z.0 s.place.id z.1 z.2) (λ i. (sym named i, sym limits_are i, sym (seen m less) i)) may;
         no_step = λ m less. ap (λ (w : View ⊤). w.trail) (seen m less) ∙ none;
+        no_post = sym s.counted ∙ ap (λ (z : Me ℕ PoolView). z.0.posts) me;
         elsewhere = λ m. subst (λ (z : Me ℕ PoolView). RestsElsewhere z.0 m) (sym me) (same_rests p.mutexes m v rest);
       },
     )

@@ -1,5 +1,5 @@
 -- A pool of free mutexes keeps the rule: each table of a mutex is as it is when it opens.
-use Rattle.std.proofs.Common.{◌≡◌, ℕ, zero, suc, ◌+◌, ◌*◌, ◌<◌, List, [], ◌∷◌, length, replicate, get_or, refl, sym, ap, ◌∙◌, Some}
+use Rattle.std.proofs.Common.{◌≡◌, ℕ, zero, suc, ◌+◌, ◌*◌, ◌<◌, List, [], ◌∷◌, length, replicate, get_or, refl, sym, ap, ◌∙◌, arith, Option, Some, None}
 use Rattle.std.specs.Prelude.{⊤, true, slice_index}
 use Rattle.std.proofs.lemmas.Bool.{false≢true}
 use Rattle.std.proofs.lemmas.List.{length-replicate}
@@ -19,6 +19,8 @@ use Rattle.lfm_table.proofs.tables.Starts.{starts, starts_at}
 use Rattle.lfm_pool.proofs.NewSeats.{part_same_of_each}
 use Rattle.lfm_pool.specs.declared.view.PoolView.{PoolView}
 use Rattle.lfm_pool.specs.Tables.{any_follows, any_fits, MutexTable, IsKept, part, rests, has_link, unnoted}
+use Rattle.lfm_words.specs.declared.handoffs.Handoff.{Handoff}
+use Rattle.lfm_pool.specs.Posts.{HeldPosts, has_posted, loaded_post, named}
 use Rattle.lfm_pool.specs.Rule.{own_at, wake_at, HeldPool, first_pool_view}
 
 zero_at : (n i : ℕ) → ◌≡◌ {A = ℕ} (get_or (replicate n 0) i 0) 0
@@ -78,4 +80,24 @@ module _ (mutexes : ℕ) (l : Limits) (allowed : are_in_limits l.seats l.budget 
         wakes = λ m j z less e busy. absurd (false≢true (sym busy ∙ ap rests (part_at j m z less e)));
         quiet = λ j z e all. zero_word (wake_at mutexes j);
         fresh = λ j far less. zero_word (wake_at mutexes j);
+      }
+
+  pub posts_open : (ws : List ℕ) → ◌≡◌ {A = List ℕ} ws (replicate (mutexes * 8 + l.seats * 2) 0) → HeldPosts (opening ws [] (first_pool_view mutexes l))
+  unfolding pool_opens
+  posts_open ws are =
+      let zero_word : (i : ℕ) → slice_index ws i ≡ 0 = λ i. ap (λ w. get_or w i 0) are ∙ zero_at (mutexes * 8 + l.seats * 2) i in
+      record {
+        own = ws;
+        held = pool_opens ws are;
+        names = λ m t a. a;
+        long = refl;
+        same = λ i off. refl;
+        handed = λ m less. zero_word (own_at m 2) ∙ ap (named (λ t a. a)) (sym (zero_word (own_at m 2)));
+        rising = λ m t a b less. less;
+        first = λ m t. refl;
+        counted = λ m j z less e. let none = ap (λ (y : View ⊤). y.state.posts) (part_at j m z less e) in omega (arith, none);
+        loaded = λ m j z seen less e has.
+            let none : ◌≡◌ {A = Option Handoff} None (Some seen) = ap (λ (y : View ⊤). loaded_post y.state.point) (sym (part_at j m z less e)) ∙ has in absurd (cc);
+        posted = λ m j z less e has. absurd (false≢true (ap (λ (y : View ⊤). has_posted y.state.point) (sym (part_at j m z less e)) ∙ has));
+        unfound = λ j z e none. ap (λ (y : PoolView). y.found) (sym (one_at (first_pool_view mutexes l) z j e).1);
       }

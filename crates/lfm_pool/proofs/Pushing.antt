@@ -5,18 +5,15 @@ use Rattle.atomic_table.specs.Table.{Me}
 use Rattle.lfm_words.specs.declared.links.Link.{Link}
 use Rattle.lfm_words.specs.declared.pop_lists.Record.{Record}
 use Rattle.lfm_words.specs.Popped.{oldest}
-use Rattle.lfm_words.specs.Words.{handoff_of, handoff_word, link_of, link_word}
+use Rattle.lfm_words.specs.Words.{handoff_of, link_of, link_word}
 use Rattle.lfm_model.specs.declared.answers.Asked.TheVariants as Asked
 use Rattle.lfm_protocol.specs.declared.answers.Answer.{Answer}
 use Rattle.lfm_protocol.specs.declared.answers.Turn.{Turn}
 use Rattle.lfm_protocol.specs.declared.answers.Turn.TheVariants.{Open, Ended}
 use Rattle.lfm_protocol.specs.Points.{kind}
 use Rattle.lfm_protocol.specs.declared.points.Sleeper.TheVariants as Sleeper
-use prog.Atomic.{either}
 use Rattle.lfm_words.specs.declared.handoffs.Handoff.{Handoff}
-use Rattle.lfm_protocol.specs.Stores.{expected_handoff_at}
 use Rattle.lfm_protocol.specs.declared.points.Carrier.{Carrier}
-use Rattle.lfm_laws.specs.table.Ready.{IsReady, PacksHandoff}
 use Rattle.lfm_protocol.specs.After.{same_handoff, same_link, take}
 use Rattle.lfm_protocol.specs.Begin.{Stepped}
 use Rattle.lfm_protocol.specs.declared.kinds.Kind.{Kind}
@@ -38,7 +35,7 @@ use Rattle.lfm_pool.specs.declared.view.Note.{Note}
 use Rattle.lfm_pool.specs.declared.view.PoolView.{PoolView}
 use Rattle.lfm_pool.specs.Chain.{note_after, note_by, note_since, rested}
 use Rattle.lfm_pool.specs.FastPaths.{KnowsMoreOf}
-use Rattle.lfm_pool.specs.Push.{LoadsHandoff, LoadsPush, Pushes, Steps, TakesOver, TakesPost}
+use Rattle.lfm_pool.specs.Push.{LoadsPush, Pushes, Steps, TakesOver, TakesPost}
 use Rattle.lfm_pool.specs.SeatWords.{StoresLink}
 use Rattle.lfm_pool.specs.Steps.{IsOwnAccessOf, Sits, StepsIn}
 use Rattle.lfm_pool.specs.Tables.{note, part}
@@ -77,7 +74,7 @@ module _ (number id m : ℕ) (l : Limits) (me me1 me2 : Me ℕ PoolView) (here :
       → IsOwnAccessOf seats s (part me1.0 m).state (Access.CompareExchange 3 expected new)
   exchanges_push seats s expected new same is_expected is_new =
       subst (λ (y : SeatState × ℕ × ℕ). IsOwnAccessOf seats s y.0 (Access.CompareExchange 3 y.1 y.2)) (λ i. (sym linked_now i, sym is_expected i, sym is_new i))
-      ((Kind.PushExchange, refl, refl, (λ j. refl), refl), omega arith)
+      ((Kind.PushExchange, refl, refl, (λ j. refl), refl), omega arith, λ e. omega (arith, e))
 
   pub pushed : n ≡ link_word (record { stamp = loaded.stamp + 1; next = loaded.next }) → Sits number id l (part me.0 m).state (part me.0 m) → StepsIn number id m l (part me1.0 m).state me1 k me2
       → KnowsMoreOf m (λ w i. Pushes loaded k (part me.0 m) w × Sits number id l w.state w × (i ≡ note_since w (note me.0 m))) me me2
@@ -146,10 +143,7 @@ after_handoff s n d t ps o = seat_if (nat_eq (handoff_of n).seat 0) d t ps (Asle
 
 -- what the loads require
 pub loads_push : (seats number : ℕ) (p : SeatState) → LoadsPush p → IsOwnAccessOf seats number p (Access.Load 3)
-loads_push seats number p at = ((Kind.PushLoad, ap kind at, refl, (λ n. refl), refl), omega arith)
-
-pub loads_handoff : (seats number : ℕ) (p : SeatState) → LoadsHandoff p → IsOwnAccessOf seats number p (Access.Load 2)
-loads_handoff seats number p at = ((Kind.HandoffLoad, ap kind at, refl, (λ n. refl), refl), omega arith)
+loads_push seats number p at = ((Kind.PushLoad, ap kind at, refl, (λ n. refl), refl), omega arith, λ e. omega (arith, e))
 
 -- The exchange of the handoff word
 
@@ -159,22 +153,6 @@ took_chain p w k q posted at flat takes now =
     let before : carries_value p ≡ false = λ i. carries_value (made_of (flat i) p.takes p.posts (at i)) in
     let after : carries_value w.state ≡ true = ap carries_value now ∙ carrying (made_of p.depth p.takes p.posts q) takes in
     λ i. note_by (before i) (after i) p.point k w.popped
-
-module _ (number : ℕ) (p : SeatState) (posted : Handoff) (at : TakesPost posted p) where
-  pub exchanges_handoff : (seats expected : ℕ) → expected ≡ handoff_word posted → IsOwnAccessOf seats number p (Access.CompareExchange 2 expected 0)
-  exchanges_handoff seats expected is_expected = (
-    (
-      Kind.HandoffExchange,
-      ap kind at,
-      refl,
-      (λ j. ap (λ (e : ℕ). either (nat_eq j e) 0 j) (is_expected ∙ ap (λ (q : Point). handoff_word (expected_handoff_at p number q)) (sym at))),
-      refl,
-    ),
-    omega arith,
-  )
-
-  pub packs_post : (seats : ℕ) → IsReady seats number p → PacksHandoff posted
-  packs_post seats ready = subst (λ (q : Point). PacksHandoff (expected_handoff_at p number q)) at ready.expected_handoff
 
 module _ (number id m : ℕ) (l : Limits) (me me1 : Me ℕ PoolView) (n : ℕ) (posted : Handoff) (at : TakesPost posted (part me.0 m).state) where
   pub took_over : Sits number id l (part me.0 m).state (part me.0 m) → StepsIn number id m l (part me.0 m).state me n me1

@@ -62,43 +62,58 @@ module _ (mutexes seats m number index word : ℕ) (p : SeatState) (ready : IsRe
       → IsStepAt mutexes seats m number p (record { index = index; access = Access.Store word link })
   stores_link seen e link stored at_word at_index =
       let own = own_number (LinkStore Pusher.Locker seen) e refl in (
-        (Kind.LinkStore, ap kind e, at_word ∙ ap (λ (q : Point). 3 + target q number) (sym e), (λ n. stored ∙ ap (λ (q : Point). link_word (stored_link_at q)) (sym e)), refl),
-        at_link mutexes seats m index word number own.0 own.1 at_word at_index,
-        inr (ap is_at_seat_word e),
+        (
+          (Kind.LinkStore, ap kind e, at_word ∙ ap (λ (q : Point). 3 + target q number) (sym e), (λ n. stored ∙ ap (λ (q : Point). link_word (stored_link_at q)) (sym e)), refl),
+          at_link mutexes seats m index word number own.0 own.1 at_word at_index,
+          inr (ap is_at_seat_word e),
+        ),
+        λ two. omega (arith, two, at_word),
       )
 
   pub loads_link : (t : ℕ) → LoadsLink t p → word ≡ 3 + t → index + 2 ≡ mutexes * 8 + t * 2 → IsStepAt mutexes seats m number p (record { index = index; access = Access.Load word })
   loads_link t at at_word at_index =
       let there = target_of_load t at in (
-        (Kind.LinkLoad, ap kind at.1, at_word ∙ ap (λ (q : Point). 3 + target q number) (sym at.1), (λ n. refl), refl),
-        at_link mutexes seats m index word t there.0 there.1 at_word at_index,
-        inr (ap is_at_seat_word at.1),
+        (
+          (Kind.LinkLoad, ap kind at.1, at_word ∙ ap (λ (q : Point). 3 + target q number) (sym at.1), (λ n. refl), refl),
+          at_link mutexes seats m index word t there.0 there.1 at_word at_index,
+          inr (ap is_at_seat_word at.1),
+        ),
+        λ two. omega (arith, two, at_word),
       )
 
   pub grants : (first : Record) → Grants first p → (wake : ℕ) → wake ≡ wake_word (Grant first.stamp) → word ≡ 3 + seats + first.seat → index + 1 ≡ mutexes * 8 + first.seat * 2
       → IsStepAt mutexes seats m number p (record { index = index; access = Access.Store word wake })
   grants first at wake stored at_word at_index =
       let there = target_of_grant first at in (
-        (Kind.WakeStore, ap kind at.1, at_word ∙ ap (λ (q : Point). 3 + seats + target q number) (sym at.1), (λ n. stored ∙ ap (λ (q : Point). wake_word (stored_wake_at q)) (sym at.1)), refl),
-        at_wake mutexes seats m index word first.seat there.0 there.1 at_word at_index,
-        inr (ap is_at_seat_word at.1),
+        (
+          (Kind.WakeStore, ap kind at.1, at_word ∙ ap (λ (q : Point). 3 + seats + target q number) (sym at.1), (λ n. stored ∙ ap (λ (q : Point). wake_word (stored_wake_at q)) (sym at.1)), refl),
+          at_wake mutexes seats m index word first.seat there.0 there.1 at_word at_index,
+          inr (ap is_at_seat_word at.1),
+        ),
+        λ two. omega (arith, two, at_word),
       )
 
   pub takes_grant : TakesGrant p → (wake : ℕ) → wake ≡ wake_word Quiet → word ≡ 3 + seats + number → index + 1 ≡ mutexes * 8 + number * 2
       → IsStepAt mutexes seats m number p (record { index = index; access = Access.Store word wake })
   takes_grant at wake stored at_word at_index =
       let own = own_number (ReceiveWakeStore at.0) at.1 refl in (
-        (Kind.WakeStore, ap kind at.1, at_word ∙ ap (λ (q : Point). 3 + seats + target q number) (sym at.1), (λ n. stored ∙ ap (λ (q : Point). wake_word (stored_wake_at q)) (sym at.1)), refl),
-        at_wake mutexes seats m index word number own.0 own.1 at_word at_index,
-        inr (ap is_at_seat_word at.1),
+        (
+          (Kind.WakeStore, ap kind at.1, at_word ∙ ap (λ (q : Point). 3 + seats + target q number) (sym at.1), (λ n. stored ∙ ap (λ (q : Point). wake_word (stored_wake_at q)) (sym at.1)), refl),
+          at_wake mutexes seats m index word number own.0 own.1 at_word at_index,
+          inr (ap is_at_seat_word at.1),
+        ),
+        λ two. omega (arith, two, at_word),
       )
 
   pub loads_wake : (sleeper : Sleeper) → p.point ≡ ReceiveWakeLoad sleeper → word ≡ 3 + seats + number → index + 1 ≡ mutexes * 8 + number * 2 → IsStepAt mutexes seats m number p (record { index = index; access = Access.Load word })
   loads_wake sleeper e at_word at_index =
       let own = own_number (ReceiveWakeLoad sleeper) e refl in (
-        (Kind.WakeLoad, ap kind e, at_word ∙ ap (λ (q : Point). 3 + seats + target q number) (sym e), (λ n. refl), refl),
-        at_wake mutexes seats m index word number own.0 own.1 at_word at_index,
-        inr (ap is_at_seat_word e),
+        (
+          (Kind.WakeLoad, ap kind e, at_word ∙ ap (λ (q : Point). 3 + seats + target q number) (sym e), (λ n. refl), refl),
+          at_wake mutexes seats m index word number own.0 own.1 at_word at_index,
+          inr (ap is_at_seat_word e),
+        ),
+        λ two. omega (arith, two, at_word),
       )
 
 -- the start of a receive

@@ -117,7 +117,7 @@ module _ (s t : PoolSeat) (p : Pool) (m : ℕ) where
 -- Steps after steps
 
 module _ (s t u : PoolSeat) (p : Pool) (m : ℕ) (may : MayStepIn s p m) (new : List Seen) (x : SeatState) (first : MakesIn s t m new x) where
-  both_made : (more : List Seen) (y : SeatState) (w : View ⊤) → Made more y (part t.place.me.0 m) w → Made (new ++ more) y (part s.place.me.0 m) w
+  pub both_made : (more : List Seen) (y : SeatState) (w : View ⊤) → Made more y (part t.place.me.0 m) w → Made (new ++ more) y (part s.place.me.0 m) w
   both_made more y w second =
       let now = part_after s t p m new x may first in record {
         trail = second.trail ∙ (ap (λ (v : View ⊤). v.trail ++ more) now ∙ (ap (λ (l : List Seen). l ++ more) first.3.0.trail ∙ append_assoc (part s.place.me.0 m).trail new more));
@@ -193,7 +193,7 @@ at_point x q at = λ i. record { depth = x.depth; takes = x.takes; posts = x.pos
 -- Accesses that several calls make
 
 pub enters_by : (seats number d t ps : ℕ) (entrant : Entrant) (how : How) → IsPlainAccessOf seats number (made_of d t ps (EnterOwnerStore entrant how)) (Access.Store 1 number)
-enters_by seats number d t ps entrant how = (((Kind.OwnerStore, refl, refl, (λ n. refl), refl), omega arith), refl)
+enters_by seats number d t ps entrant how = (((Kind.OwnerStore, refl, refl, (λ n. refl), refl), omega arith, λ e. omega (arith, e)), refl)
 
 -- a handoff word packs what it holds
 pub packs_handoff : (n : ℕ) → handoff_word (handoff_of n) ≡ n

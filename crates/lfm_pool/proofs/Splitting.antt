@@ -1,5 +1,5 @@
 -- A seat that is split off the first one keeps the rule: it is split off at each table of a mutex.
-use Rattle.std.proofs.Common.{◌≡◌, ◌≢◌, ◌⊎◌, ℕ, zero, suc, ◌+◌, ◌<◌, List, [], ◌∷◌, ◌++◌, length, set, refl, sym, ap, ◌∙◌, subst, ⊎_elim, inl, inr, arith, length-set}
+use Rattle.std.proofs.Common.{◌≡◌, ◌≢◌, ◌⊎◌, ℕ, zero, suc, ◌+◌, ◌<◌, ◌≤◌, Option, Some, None, List, [], ◌∷◌, ◌++◌, length, set, refl, sym, ap, ◌∙◌, subst, ⊎_elim, inl, inr, arith, length-set}
 use Rattle.std.specs.Prelude.{⊤, true, slice_index}
 use Rattle.std.proofs.lemmas.Bool.{cases_eq, false≢true}
 use Rattle.std.proofs.lemmas.List.{get_or-map, length-map, length-append}
@@ -22,6 +22,8 @@ use Rattle.lfm_pool.specs.declared.view.Known.{Known}
 use Rattle.lfm_pool.specs.declared.view.PoolView.{PoolView}
 use Rattle.lfm_pool.proofs.LoneTables.{seats_of}
 use Rattle.lfm_pool.specs.Tables.{any_follows, any_fits, MutexTable, IsKept, known, note, part, rests, has_link, unnoted}
+use Rattle.lfm_words.specs.declared.handoffs.Handoff.{Handoff}
+use Rattle.lfm_pool.specs.Posts.{HeldPosts, has_posted, loaded_post}
 use Rattle.lfm_pool.specs.Rule.{wake_at, HeldPool, NobodyCarries, left_view, right_view, MaySplit}
 
 -- Lists with one more element
@@ -192,3 +194,72 @@ module _ (v : PoolView) (may : MaySplit v) (s : State ℕ PoolView) (h : HeldPoo
 
 pub pool_splits : (v : PoolView) → MaySplit v → Splits HeldPool 0 v (left_view v) (right_view v)
 pool_splits v may s h at = held_after v may s h at
+
+-- The numbers of posts
+
+module _ (v : PoolView) (may : MaySplit v) (s : State ℕ PoolView) (h : HeldPosts s) (at : get_elem? s.views 0 ≡ some v) where
+  abbrev own : State ℕ PoolView
+  own = record { words = h.own; homes = s.homes; views = s.views }
+
+  abbrev In : ℕ → PoolView → Type 0
+  In j z = get_elem? (set s.views 0 (left_view v) ++ right_view v ∷ []) j ≡ some z
+
+  counted_split : (m j : ℕ) (z : PoolView) → m < h.held.mutexes → In j z → h.names m (j + 1) (part z m).state.posts ≤ z.posts
+  counted_split m j z less e = ⊎_elim
+      (λ (t : (j ≡ 0) × (left_view v ≡ z)).
+      subst (λ (y : ℕ × View ⊤ × ℕ). h.names m (y.0 + 1) y.1.state.posts ≤ y.2) (λ i. (sym t.0 i, sym (left_is v may own h.held at m z less t.1) i, ap (λ (y : PoolView). y.posts) t.1 i)) (h.counted m 0 v less at))
+      (λ t. ⊎_elim
+      (λ (u : (j ≢ 0) × (get_elem? s.views j ≡ some z)). h.counted m j z less u.1)
+      (λ (u : (j ≡ length (set s.views 0 (left_view v))) × (right_view v ≡ z)).
+      subst (λ (y : View ⊤ × ℕ). h.names m (j + 1) y.0.state.posts ≤ y.1) (λ i. (sym (right_is v may own h.held at m z less u.1) i, ap (λ (y : PoolView). y.posts) u.1 i)) (let none = h.first m (j + 1) in omega (arith, none))) t)
+      (which v may own h.held at j z e)
+
+  loaded_split : (m j : ℕ) (z : PoolView) (seen : Handoff) → m < h.held.mutexes → In j z → loaded_post (part z m).state.point ≡ Some seen → z.found ≡ h.names m seen.seat seen.post
+  loaded_split m j z seen less e has = ⊎_elim
+      (λ (t : (j ≡ 0) × (left_view v ≡ z)).
+      ap (λ (y : PoolView). y.found) (sym t.1) ∙ h.loaded m 0 v seen less at (ap (λ (y : View ⊤). loaded_post y.state.point) (sym (left_is v may own h.held at m z less t.1)) ∙ has))
+      (λ t. ⊎_elim
+      (λ (u : (j ≢ 0) × (get_elem? s.views j ≡ some z)). h.loaded m j z seen less u.1 has)
+      (λ (u : (j ≡ length (set s.views 0 (left_view v))) × (right_view v ≡ z)).
+      let none : ◌≡◌ {A = Option Handoff} None (Some seen) = ap (λ (y : View ⊤). loaded_post y.state.point) (sym (right_is v may own h.held at m z less u.1)) ∙ has in absurd (cc)) t)
+      (which v may own h.held at j z e)
+
+  posted_split : (m j : ℕ) (z : PoolView) → m < h.held.mutexes → In j z → has_posted (part z m).state.point ≡ true → z.posts ≡ h.names m (j + 1) (part z m).state.posts
+  posted_split m j z less e has = ⊎_elim
+      (λ (t : (j ≡ 0) × (left_view v ≡ z)).
+      subst (λ (y : ℕ × View ⊤ × ℕ). y.2 ≡ h.names m (y.0 + 1) y.1.state.posts) (λ i. (sym t.0 i, sym (left_is v may own h.held at m z less t.1) i, ap (λ (y : PoolView). y.posts) t.1 i))
+      (h.posted m 0 v less at (ap (λ (y : View ⊤). has_posted y.state.point) (sym (left_is v may own h.held at m z less t.1)) ∙ has)))
+      (λ t. ⊎_elim
+      (λ (u : (j ≢ 0) × (get_elem? s.views j ≡ some z)). h.posted m j z less u.1 has)
+      (λ (u : (j ≡ length (set s.views 0 (left_view v))) × (right_view v ≡ z)).
+      absurd (false≢true (ap (λ (y : View ⊤). has_posted y.state.point) (sym (right_is v may own h.held at m z less u.1)) ∙ has))) t)
+      (which v may own h.held at j z e)
+
+  unfound_split : (j : ℕ) (z : PoolView) → In j z → ((m : ℕ) → m < h.held.mutexes → loaded_post (part z m).state.point ≡ None) → z.found ≡ 0
+  unfound_split j z e none = ⊎_elim
+      (λ (t : (j ≡ 0) × (left_view v ≡ z)).
+      ap (λ (y : PoolView). y.found) (sym t.1) ∙ h.unfound 0 v at (λ m less. ap (λ (y : View ⊤). loaded_post y.state.point) (sym (left_is v may own h.held at m z less t.1)) ∙ none m less))
+      (λ t. ⊎_elim
+      (λ (u : (j ≢ 0) × (get_elem? s.views j ≡ some z)). h.unfound j z u.1 none)
+      (λ (u : (j ≡ length (set s.views 0 (left_view v))) × (right_view v ≡ z)). ap (λ (y : PoolView). y.found) (sym u.1)) t)
+      (which v may own h.held at j z e)
+
+  posts_after : HeldPosts (record { words = s.words; homes = s.homes; views = set s.views 0 (left_view v) ++ right_view v ∷ [] })
+  unfolding held_after
+  posts_after = record {
+    own = h.own;
+    held = held_after v may own h.held at;
+    names = h.names;
+    long = h.long;
+    same = h.same;
+    handed = h.handed;
+    rising = h.rising;
+    first = h.first;
+    counted = counted_split;
+    loaded = loaded_split;
+    posted = posted_split;
+    unfound = unfound_split;
+  }
+
+pub posts_split : (v : PoolView) → MaySplit v → Splits HeldPosts 0 v (left_view v) (right_view v)
+posts_split v may s h at = posts_after v may s h at

@@ -1,5 +1,5 @@
 -- The next step of a seat in one mutex keeps the rule of the pool.
-use Rattle.std.proofs.Common.{◌≡◌, ◌≢◌, ◌⊎◌, ℕ, ◌+◌, ◌*◌, ◌<◌, ◌≤◌, List, drop, length, set, refl, sym, ap, ◌∙◌, subst, inl, inr, arith, tests, Option, Some}
+use Rattle.std.proofs.Common.{◌≡◌, ◌≢◌, ◌⊎◌, ℕ, ◌+◌, ◌*◌, ◌<◌, ◌≤◌, List, drop, length, set, refl, sym, ap, ◌∙◌, subst, inl, inr, arith, tests, length-set, Option, Some}
 use Rattle.std.specs.Prelude.{⊤, Bool, true, false, slice_index}
 use Rattle.std.proofs.lemmas.List.{get_or-set_other, get_or-set_same}
 use Rattle.std.proofs.lemmas.Bool.{cases_eq, false≢true}
@@ -44,6 +44,7 @@ use Rattle.lfm_table.specs.declared.operations.Access.{Access}
 use Rattle.lfm_table.specs.Accesses.{word_at, becomes, is_store}
 use Rattle.lfm_table.specs.Actions.{told_of}
 use Rattle.lfm_table.specs.Rule.{Advanced}
+use Rattle.lfm_table.specs.Settled.{Became}
 use Rattle.lfm_table.specs.Steps.{CanMake, gives_at, stores}
 use Rattle.lfm_table.proofs.tables.Actions.{run_budget}
 use Rattle.lfm_table.proofs.tables.CoreFacts.{carried_same}
@@ -57,16 +58,19 @@ use Rattle.lfm_pool.specs.declared.view.Note.{Note}
 use Rattle.lfm_pool.specs.declared.view.PoolView.{PoolView}
 use Rattle.lfm_pool.specs.Chain.{HasRecord, IsChain, due_after, first_seat, note_after, note_by, rested}
 use Rattle.lfm_pool.specs.Tables.{any_follows, any_fits, Slot, MutexTable, IsKept, IsUncollected, note, part, with_part, has_link, has_link_at}
+use Rattle.lfm_pool.specs.Posts.{HeldPosts, KeepsPost, KeepsPosts}
 use Rattle.lfm_pool.specs.Rule.{own_at, link_at, wake_at, HeldPool, NobodyCarries}
-use Rattle.lfm_pool.specs.Steps.{KeepsChainIn, RestsElsewhere, TellsOf, IsStepAt, IsWordAt, is_at_seat_word}
+use Rattle.lfm_pool.specs.Steps.{KeepsChainIn, RestsElsewhere, TellsOf, IsStepAt, IsStepOf, IsWordAt, is_at_seat_word}
 use Rattle.lfm_pool.proofs.Chains.{chain_less, first_or_rest}
 use Rattle.lfm_pool.proofs.Lifting.{Chained, IsBusyIn, held_after, mine, own_wake, within}
 use Rattle.lfm_pool.proofs.Links.{gains_link, link_kept, link_of_begun, linked_busy, own_gains_none}
-use Rattle.lfm_pool.proofs.LoneTables.{seats_of}
+use Rattle.lfm_pool.proofs.LoneTables.{part_other, part_same, seats_of}
 use Rattle.lfm_pool.proofs.PoppedRecords.{collected_ungranted, collected_unpopped, popped_linked}
 use Rattle.lfm_pool.proofs.PoppedViews.{HasLinkAt, linked_view, place_of}
+use Rattle.lfm_pool.proofs.PostStates.{is_at_handoff, is_other, keeps_became, keeps_same, keeps_stepped}
+use Rattle.lfm_pool.proofs.PostsKept.{allows_posts}
 use Rattle.lfm_pool.proofs.Targets.{collected_linked, granted_linked}
-use Rattle.lfm_pool.proofs.WordIndexes.{IsOfSeat, index_inside, link_same, link_there, not_link, wake_same, wake_there, word_inside}
+use Rattle.lfm_pool.proofs.WordIndexes.{IsOfSeat, index_inside, link_same, link_there, not_link, own_same, wake_same, wake_there, word_inside}
 
 -- Words of wakes
 
@@ -119,7 +123,7 @@ shorter_at mutexes ws d t ps number n due l (GrantWakeStore carrier first) whole
 shorter_at mutexes ws d t ps number n due l _ whole chain = chain
 
 module _ (id m number mutexes seats : ℕ) (me : Me ℕ PoolView) (p : SeatState) (hand : Option ⊤) (slots : List (ℕ × Slot)) (inside : (m < mutexes) × (length me.0.parts ≡ mutexes))
-    (can : CanMake any_follows any_fits p hand number seats (4 + 2 * seats) (part me.0 m, slots)) (elsewhere : RestsElsewhere me.0 m) (a : PoolAccess) (is : IsStepAt mutexes seats m number p a) (keeps_chain : KeepsChainIn number m p me.0) where
+    (can : CanMake any_follows any_fits p hand number seats (4 + 2 * seats) (part me.0 m, slots)) (elsewhere : RestsElsewhere me.0 m) (a : PoolAccess) (is : IsStepOf mutexes seats m number p a) (keeps_chain : KeepsChainIn number m p me.0) where
   here : m < length me.0.parts
   here = omega (arith, inside.0, inside.1)
 
@@ -606,6 +610,14 @@ module _ (id m number mutexes seats : ℕ) (me : Me ℕ PoolView) (p : SeatState
     held : HeldPool (record { words = set s.words X (f found); homes = s.homes; views = set s.views id (with_part me.0 m goes.0 (note_after p goes.0 (note me.0 m))) })
     held = held_after id m me.0 here elsewhere s h at X Y (f found) slots goes.0 (note_after p goes.0 (note me.0 m)) goes.1 popped_now due_now goes.3 goes.4 is_word lifts.2 chained
 
+  -- the step without what the table tells: the seat's view of the mutex after it
+  pub step_lone : (s : State ℕ PoolView) (h : HeldPool s) → get_elem? s.views id ≡ some me.0
+      → (w : View ⊤) × (slots_now : List (ℕ × Slot))
+      × HeldPool (record { words = set s.words a.index (becomes a.access (slice_index s.words a.index)); homes = s.homes; views = set s.views id (with_part me.0 m w (note_after p w (note me.0 m))) })
+      × Advanced any_follows any_fits p hand (part me.0 m, slots) (told_of (is_store a.access) (becomes a.access (slice_index s.words a.index)) (slice_index s.words a.index)) (w, slots_now)
+  step_lone s h at =
+      let g = goes s h at in (g.0, carried_after slots g.1, held s h at, g.5)
+
   pub step_allowed : Allows HeldPool 0 id me a.index (becomes a.access) (λ n me'. TellsOf m p (λ x. Advanced any_follows any_fits p hand (part me.0 m, slots) x) me (told_of (is_store a.access) (becomes a.access n) n) me')
   step_allowed s h none at small =
       let g = goes s h at in
@@ -613,21 +625,45 @@ module _ (id m number mutexes seats : ℕ) (me : Me ℕ PoolView) (p : SeatState
 
 -- The same with the number of slots and the mutex as the table and the step name them
 pub allowed_at : (slot_count picked_m : ℕ) → slot_count ≡ 0 → (id m number mutexes seats : ℕ) (me : Me ℕ PoolView) (p : SeatState) (hand : Option ⊤) (slots : List (ℕ × Slot)) → picked_m ≡ m → (m < mutexes) × (length me.0.parts ≡ mutexes)
-    → CanMake any_follows any_fits p hand number seats (4 + 2 * seats) (part me.0 m, slots) → RestsElsewhere me.0 m → (a : PoolAccess) → IsStepAt mutexes seats m number p a → KeepsChainIn number m p me.0
+    → CanMake any_follows any_fits p hand number seats (4 + 2 * seats) (part me.0 m, slots) → RestsElsewhere me.0 m → (a : PoolAccess) → IsStepOf mutexes seats m number p a → KeepsChainIn number m p me.0
     → Allows HeldPool slot_count id me a.index (becomes a.access) (λ n me'. TellsOf picked_m p (λ x. Advanced any_follows any_fits p hand (part me.0 picked_m, slots) x) me (told_of (is_store a.access) (becomes a.access n) n) me')
 allowed_at slot_count picked_m none id m number mutexes seats me p hand slots same_m inside can elsewhere a is chained =
     subst (λ (z : ℕ × ℕ). Allows HeldPool z.0 id me a.index (becomes a.access) (λ n me'. TellsOf z.1 p (λ x. Advanced any_follows any_fits p hand (part me.0 z.1, slots) x) me (told_of (is_store a.access) (becomes a.access n) n) me'))
     (λ i. (sym none i, sym same_m i)) (step_allowed id m number mutexes seats me p hand slots inside can elsewhere a is chained)
 
+-- a step on another word than the handoff word leaves what the seat knows of posts
+pub tells_keep : (m : ℕ) (p : SeatState) (hand : Option ⊤) (slots : List (ℕ × Slot)) (me : Me ℕ PoolView) (n : ℕ) (me' : Me ℕ PoolView) → m < length me.0.parts → Became (part me.0 m).state (part me.0 m).limits p → is_at_handoff p.point ≡ false
+    → TellsOf m p (λ x. Advanced any_follows any_fits p hand (part me.0 m, slots) x) me n me' → KeepsPosts me.0 me'.0
+tells_keep m p hand slots me n me' here became other told =
+    let now : me'.0 ≡ with_part me.0 m told.0 (note_after p told.0 (note me.0 m)) = ap (λ (z : Me ℕ PoolView). z.0) told.3 in
+    let adv = told.2 in
+    subst (λ (u : PoolView). KeepsPosts me.0 u) (sym now) (record {
+      parts = length-set me.0.parts m (record { view = told.0; note = note_after p told.0 (note me.0 m) });
+      posts = refl;
+      found = refl;
+      each = λ i. elim (cases_eq i m) [
+        | inl same ↦
+            subst (λ (x : SeatState × SeatState). KeepsPost x.0 x.1)
+            (λ d. (ap (λ (k : ℕ). (part me.0 k).state) (sym same) d, (sym adv.state ∙ ap (λ (y : View ⊤). y.state) (sym (part_same me.0 m told.0 (note_after p told.0 (note me.0 m)) here)) ∙ ap (λ (k : ℕ). (part (with_part me.0 m told.0 (note_after p told.0 (note me.0 m))) k).state) (sym same)) d))
+            (keeps_became (part me.0 m).state (part me.0 m).limits p (stepped_by p (part me.0 m).number n (oldest adv.popped)).seat became (keeps_stepped p (part me.0 m).number n (oldest adv.popped) other))
+        | inr away ↦ subst (λ (y : View ⊤). KeepsPost (part me.0 i).state y.state) (sym (part_other me.0 m i told.0 (note_after p told.0 (note me.0 m)) away)) (keeps_same (part me.0 i).state)
+      ];
+    })
+
 -- What the table requires of an access, which is one of the six
 pub required : (f : Pool) (s : PoolSeat) (m picked_m : ℕ) (p : SeatState) (hand : Option ⊤) (slots : List (ℕ × Slot)) (at : PoolAccess) (a : Access) → at.access ≡ a → picked_m ≡ m → s.place.table_id ≡ f.table.shared.table_id
     → (m < f.mutexes) × (length s.place.me.0.parts ≡ f.mutexes) → CanMake any_follows any_fits p hand s.number f.limits.seats (4 + 2 * f.limits.seats) (part s.place.me.0 m, slots) → RestsElsewhere s.place.me.0 m → IsStepAt f.mutexes f.limits.seats m s.number p at → KeepsChainIn s.number m p s.place.me.0
     → (s.place.table_id ≡ f.table.shared.table_id) × (at.index < f.table.shared.table_id.words)
-    × Allows HeldPool f.table.shared.table_id.slots s.place.id s.place.me at.index (becomes a) (λ n me'. TellsOf picked_m p (λ x. Advanced any_follows any_fits p hand (part s.place.me.0 picked_m, slots) x) s.place.me (told_of (is_store a) (becomes a n) n) me')
+    × Allows HeldPosts f.table.shared.table_id.slots s.place.id s.place.me at.index (becomes a) (λ n me'. TellsOf picked_m p (λ x. Advanced any_follows any_fits p hand (part s.place.me.0 picked_m, slots) x) s.place.me (told_of (is_store a) (becomes a n) n) me')
 required f s m picked_m p hand slots at a e one table inside can elsewhere is chained =
     let is_a = subst (λ (x : Access). IsStepAt f.mutexes f.limits.seats m s.number p (record { index = at.index; access = x })) e is in
-    let low = index_inside f.mutexes f.limits.seats m at.index (word_at a) inside.0 is_a.1 in (
+    let low = index_inside f.mutexes f.limits.seats m at.index (word_at a) inside.0 is_a.0.1 in
+    let other = is_other f.limits.seats s.number p.point is_a.0.0.0 is_a.0.0.1 (λ e'. is_a.1 (is_a.0.0.2 ∙ e')) in (
       table,
       rw f.wide low,
-      allowed_at f.table.shared.table_id.slots picked_m f.no_slots s.place.id m s.number f.mutexes f.limits.seats s.place.me p hand slots one inside can elsewhere (record { index = at.index; access = a }) is_a chained,
+      allows_posts f.table.shared.table_id.slots s.place.id at.index s.place.me (becomes a) (λ n me'. TellsOf picked_m p (λ x. Advanced any_follows any_fits p hand (part s.place.me.0 picked_m, slots) x) s.place.me (told_of (is_store a) (becomes a n) n) me')
+          (allowed_at f.table.shared.table_id.slots picked_m f.no_slots s.place.id m s.number f.mutexes f.limits.seats s.place.me p hand slots one inside can elsewhere (record { index = at.index; access = a }) is_a.0 chained)
+          (λ q k there i less e'. is_a.1 (sym (own_same f.mutexes f.limits.seats m at.index (word_at a) inside.0 is_a.0.1 i 2 (let w = k.wide s.place.id s.place.me.0 there in let all = inside.1 in omega (arith, w, all, less)) (omega arith) (sym e')).1))
+          (λ n me' told. tells_keep picked_m p hand slots s.place.me (told_of (is_store a) (becomes a n) n) me' (subst (λ (i : ℕ). i < length s.place.me.0.parts) (sym one) (let w = inside.1 in let less = inside.0 in omega (arith, w, less)))
+          (subst (λ (i : ℕ). Became (part s.place.me.0 i).state (part s.place.me.0 i).limits p) (sym one) can.became) other told),
     )

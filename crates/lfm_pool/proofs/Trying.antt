@@ -1,8 +1,8 @@
 -- The steps of a try_lock of a seat that does not hold the mutex.
 use Rattle.std.proofs.Common.{◌≡◌, ◌≢◌, ℕ, ◌+◌, ◌-◌, ◌<◌, ◌≤◌, List, [], ◌∷◌, length, nat_eq, refl, sym, ap, ◌∙◌, subst, inl, inr, arith, Option}
-use Rattle.std.specs.Prelude.{Bool, IfOk, true, false, Result, Ok, Err}
-use Rattle.std.proofs.lemmas.Bool.{eq-eqb, ne_eqb, not-false, not-true}
-use prog.Atomic.{either}
+use Rattle.std.specs.Prelude.{Bool, IfOk, not, true, false, Result, Ok, Err}
+use Rattle.std.proofs.lemmas.Bool.{eq-eqb, eqb-true, ne_eqb, not-false, not-true}
+use Rattle.atomic_table.specs.Table.{Me}
 use Rattle.lfm_model.specs.declared.answers.How.{How}
 use Rattle.lfm_model.specs.declared.answers.Locked.{Locked}
 use Rattle.lfm_model.specs.declared.refusals.Refusal.{Refusal}
@@ -24,13 +24,18 @@ use Rattle.lfm_table.specs.Actions.{seen}
 use Rattle.lfm_table.proofs.tables.StepFacts.{carrying, made_of}
 use Rattle.lfm_pool.specs.declared.pool.Pool.{Pool}
 use Rattle.lfm_pool.specs.declared.pool.PoolSeat.{PoolSeat}
+use Rattle.lfm_pool.specs.declared.view.PoolView.{PoolView}
 use Rattle.lfm_pool.specs.Belongs.{IsMutex, OfPool, SameSeat}
 use Rattle.lfm_pool.specs.Finds.{Finds}
-use Rattle.lfm_pool.specs.Moves.{MakesAtMostIn, MakesIn, MayStepIn}
-use Rattle.lfm_pool.specs.Chain.{needs_chain}
+use Rattle.lfm_pool.specs.Moves.{Made, MakesAtMostIn, MakesIn, MayStepIn}
+use Rattle.lfm_pool.specs.Chain.{needs_chain, note_since}
+use Rattle.lfm_pool.specs.FastPaths.{KnowsMoreOf}
+use Rattle.lfm_pool.specs.Handoff.{LoadsWordIn, TriesPostIn, forgotten, loads_handoff, tried_post, tries_post}
 use Rattle.lfm_pool.specs.Seats.{EntersIn, FindsTakenIn, HoldsOnceIn, MayTryIn, MovesIn, RestsInOthers, note_of, state_of}
 use Rattle.lfm_pool.specs.Steps.{IsPlainAccessOf}
-use Rattle.lfm_pool.specs.TryLock.{AcceptsIn, AcceptSteps, EndsTryIn, StepsIfPosted, TakenSteps, TriesIn, TrySteps, ended, tried}
+use Rattle.lfm_pool.specs.Tables.{part}
+use Rattle.lfm_pool.specs.TryLock.{AcceptsIn, AcceptSteps, AcceptsWordIn, EndsTryIn, IsPostWord, StepsIfPosted, TakenSteps, TriesIn, TrySteps, ended, tried}
+use Rattle.lfm_pool.proofs.Forgotten.{forgets_none, may_forgotten}
 use Rattle.lfm_pool.proofs.Keeping.{idle_at, since_carrying, since_idle}
 use Rattle.lfm_pool.proofs.SeveralSteps.{at_most, at_point, enters_by, holds_after, join, may_then, move_made, next_access, packs_handoff, state_after, then_carry, then_move}
 
@@ -74,21 +79,6 @@ module _ (s : PoolSeat) (p : Pool) (m post : ℕ) (may : MayStepIn s p m) (at : 
   abbrev x : SeatState
   x = state_of s m
 
-  pub exchanges_post : IsPlainAccessOf p.limits.seats s.number (state_of s m) (Access.CompareExchange 2 post 0)
-  exchanges_post = (
-    (
-      (
-        Kind.HandoffExchange,
-        ap kind at,
-        refl,
-        (λ j. ap (λ (e : ℕ). either (nat_eq j e) 0 j) (sym (packs_handoff post) ∙ ap (λ (q : Point). handoff_word (expected_handoff_at (state_of s m) s.number q)) (sym at))),
-        refl,
-      ),
-      omega arith,
-    ),
-    ap needs_chain at,
-  )
-
   module _ (t : PoolSeat) (found : ℕ) (did : MovesIn s t p m found) where
     pub loses : found ≢ post → AcceptsIn s t m post (Err Refusal.Busy)
     loses other = (
@@ -106,7 +96,7 @@ module _ (s : PoolSeat) (p : Pool) (m post : ℕ) (may : MayStepIn s p m) (at : 
           (λ deep. idle_at (made_of x.depth x.takes x.posts (TryHandoffExchange (handoff_of post))) deep refl) may (at_point x (TryHandoffExchange (handoff_of post)) at) did)
 
       pub adds : IsPlainAccessOf p.limits.seats t.number (state_of t m) (Access.FetchAdd 0 1)
-      adds = next_access s t p m _ _ p.limits.seats (Access.FetchAdd 0 1) may exchanged (((Kind.CountAdd, refl, refl, (λ n. refl), refl), omega arith), refl)
+      adds = next_access s t p m _ _ p.limits.seats (Access.FetchAdd 0 1) may exchanged (((Kind.CountAdd, refl, refl, (λ n. refl), refl), omega arith, λ e. omega (arith, e)), refl)
 
       module _ (u : PoolSeat) (count : ℕ) (added : MovesIn t u p m count) (may2 : MayStepIn u p m) where
         counted : MakesIn s u m (seen (TryHandoffExchange (handoff_of post)) post ∷ seen TryCountAdd count ∷ []) (made_of x.depth x.takes x.posts (EnterOwnerStore Entrant.Trier How.Free))
@@ -125,6 +115,33 @@ module _ (s : PoolSeat) (p : Pool) (m post : ℕ) (may : MayStepIn s p m) (at : 
               (then_carry s u v p m may _ _ counted stored (made_of 1 x.takes x.posts Rest) (λ o. refl) refl refl refl (λ l. refl) may2 entered),
         )
 
+-- The same by the handoff word of the mutex
+
+-- a seat that tries to accept a post makes an exchange that expects it
+pub tries_word : (s : PoolSeat) (m word l : ℕ) → IsPostWord word s m l → (tries_post (state_of s m).point ≡ true) × (word ≡ handoff_word (tried_post s.number s.place.me.0 (state_of s m).point))
+tries_word s m word l is = (ap tries_post is.0, is.1 ∙ ap (λ (q : Point). handoff_word (tried_post s.number s.place.me.0 q)) (sym is.0))
+
+module _ (s : PoolSeat) (p : Pool) (m word : ℕ) (may : MayStepIn s p m) (at : (l : ℕ) × IsPostWord word s m l) (t : PoolSeat) (n : ℕ) (did : TriesPostIn s t p m word n) where
+  expects_it : handoff_word (expected_handoff_at (state_of s m) s.number (state_of s m).point) ≡ at.0
+  expects_it = ap (λ (q : Point). handoff_word (expected_handoff_at (state_of s m) s.number q)) at.1.0 ∙ packs_handoff at.0
+
+  pub loses_word : n ≢ word → AcceptsWordIn s t m word (Err Refusal.Busy)
+  loses_word other = (at.0, at.1, loses (forgotten s) p m at.0 (may_forgotten s p m may) at.1.0 t did.0 did.1 (λ e. did.2.misses other (e ∙ sym expects_it)))
+
+  module _ (same : n ≡ word) (may1 : MayStepIn t p m) where
+    hit : did.0 ≡ at.0
+    hit = did.2.hits same ∙ expects_it
+
+    pub adds_word : IsPlainAccessOf p.limits.seats t.number (state_of t m) (Access.FetchAdd 0 1)
+    adds_word = adds (forgotten s) p m at.0 (may_forgotten s p m may) at.1.0 t did.0 did.1 hit may1
+
+    module _ (u : PoolSeat) (count : ℕ) (added : MovesIn t u p m count) (may2 : MayStepIn u p m) where
+      pub enters_word : IsPlainAccessOf p.limits.seats u.number (state_of u m) (Access.Store 1 u.number)
+      enters_word = enters (forgotten s) p m at.0 (may_forgotten s p m may) at.1.0 t did.0 did.1 hit may1 u count added may2
+
+      pub accepts_word : (v : PoolSeat) (stored : ℕ) → MovesIn u v p m stored → stored ≡ s.number → AcceptsWordIn s v m word (Ok (Locked.Held How.Free))
+      accepts_word v stored entered told = (at.0, at.1, accepts (forgotten s) p m at.0 (may_forgotten s p m may) at.1.0 t did.0 did.1 hit may1 u count added may2 v stored entered told)
+
 -- The loads of the owner and of the handoff word
 
 -- the end of a try_lock does not depend on the point
@@ -137,7 +154,7 @@ module _ (s : PoolSeat) (p : Pool) (m : ℕ) (may : MayStepIn s p m) (at : (stat
   y = state_of s m
 
   pub loads_owner : IsPlainAccessOf p.limits.seats s.number (state_of s m) (Access.Load 1)
-  loads_owner = (((Kind.OwnerLoad, ap kind at, refl, (λ n. refl), refl), omega arith), ap needs_chain at)
+  loads_owner = (((Kind.OwnerLoad, ap kind at, refl, (λ n. refl), refl), omega arith, λ e. omega (arith, e)), ap needs_chain at)
 
   module _ (t : PoolSeat) (owner : ℕ) (did : MovesIn s t p m owner) (finds : Finds s.number (state_of s m) owner) (may1 : MayStepIn t p m) where
     other_owner : owner ≢ s.number
@@ -147,8 +164,8 @@ module _ (s : PoolSeat) (p : Pool) (m : ℕ) (may : MayStepIn s p m) (at : (stat
     loaded = move_made s t p m owner (made_of y.depth y.takes y.posts TryOwnerLoad) (made_of y.depth y.takes y.posts TryHandoffLoad) (λ o. owner_loaded y.depth y.takes y.posts s.number owner o other_owner)
         (λ deep. idle_at (made_of y.depth y.takes y.posts TryOwnerLoad) flat refl) may (at_point y TryOwnerLoad at) did
 
-    pub loads_post : IsPlainAccessOf p.limits.seats t.number (state_of t m) (Access.Load 2)
-    loads_post = next_access s t p m _ _ p.limits.seats (Access.Load 2) may loaded (((Kind.HandoffLoad, refl, refl, (λ n. refl), refl), omega arith), refl)
+    pub at_load : loads_handoff (state_of t m).point ≡ true
+    at_load = ap (λ (z : SeatState). loads_handoff z.point) (state_after s t p m _ _ may loaded)
 
     module _ (u : PoolSeat) (word : ℕ) (read : MovesIn t u p m word) where
       pub ends_without : is_posted_word word ≡ false → EndsTryIn s u m (Err Refusal.Busy)
@@ -178,6 +195,39 @@ module _ (s : PoolSeat) (p : Pool) (m : ℕ) (may : MayStepIn s p m) (at : (stat
           ),
           join s u v p m may _ _ found (idle_at (made_of y.depth y.takes y.posts (TryHandoffExchange (handoff_of word))) flat refl) accepts.0 (ended result y) (subst (λ (z : SeatState). MakesIn u v m accepts.0 z) (ap (ended result) (state_after s u p m _ _ may found) ∙ ended_anywhere result y.depth y.takes y.posts (TryHandoffExchange (handoff_of word)) y.point) accepts.2),
         )
+
+-- a seat that remembers no number knows all that it knows without it
+ends_remember : (s u : PoolSeat) (m : ℕ) (result : Result Locked Refusal) → u.place.me.0.found ≡ 0 → EndsTryIn s (forgotten u) m result → EndsTryIn s u m result
+ends_remember s u m result none ends =
+    subst
+    (λ (z : Me ℕ PoolView).
+    (new : List Seen) × TakenSteps s.number result new
+    × KnowsMoreOf m (λ w k. Made new (ended result (state_of s m)) (part s.place.me.0 m) w × (k ≡ note_since w (note_of s m))) s.place.me z)
+    (forgets_none u.place.me none) ends
+
+module _ (s : PoolSeat) (p : Pool) (m : ℕ) (may : MayStepIn s p m) (at : (state_of s m).point ≡ TryOwnerLoad) (flat : (state_of s m).depth ≡ 0) (t : PoolSeat) (owner : ℕ) (did : MovesIn s t p m owner) (finds : Finds s.number (state_of s m) owner)
+    (may1 : MayStepIn t p m) (u : PoolSeat) (n : ℕ) (read : LoadsWordIn t u p m n) where
+  posted_there : is_posted_word read.0 ≡ is_posted_word n
+  posted_there = ap (λ (k : ℕ). not (nat_eq k 0)) read.2.seat
+
+  pub ends_at_none : is_posted_word n ≡ false → EndsTryIn s u m (Err Refusal.Busy)
+  ends_at_none none =
+      let zero : (handoff_of n).seat ≡ 0 = eqb-true (handoff_of n).seat 0 (not-false (nat_eq (handoff_of n).seat 0) none) in
+      ends_remember s u m (Err Refusal.Busy) (read.3 ∙ read.2.none zero) (ends_without s p m may at flat t owner did finds may1 (forgotten u) read.0 read.1 (posted_there ∙ none))
+
+  module _ (some : is_posted_word n ≡ true) where
+    there : (state_of u m).point ≡ TryHandoffExchange (handoff_of read.0)
+    there = at_post s p m may at flat t owner did finds may1 (forgotten u) read.0 read.1 (posted_there ∙ some)
+
+    pub at_word : (l : ℕ) × IsPostWord n u m l
+    at_word = (read.0, (there, sym (packs_handoff n) ∙ (λ i. handoff_word (record { seat = sym read.2.seat i; post = sym read.3 i }))))
+
+    pub ends_by_word : (v : PoolSeat) (result : Result Locked Refusal) → u.number ≡ s.number → AcceptsWordIn u v m n result → EndsTryIn s v m result
+    ends_by_word v result named accepted =
+        let e : TryHandoffExchange (handoff_of accepted.0) ≡ TryHandoffExchange (handoff_of read.0) = sym accepted.1.0 ∙ there in
+        let one : handoff_of accepted.0 ≡ handoff_of read.0 = cc in
+        let same : accepted.0 ≡ read.0 = sym (packs_handoff accepted.0) ∙ ap handoff_word one ∙ packs_handoff read.0 in
+        ends_by s p m may at flat t owner did finds may1 (forgotten u) read.0 read.1 (posted_there ∙ some) v result named (subst (λ (k : ℕ). AcceptsIn (forgotten u) v m k result) same accepted.2)
 
 -- The whole call
 

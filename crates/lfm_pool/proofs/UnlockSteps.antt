@@ -52,7 +52,7 @@ module _ (s t : PoolSeat) (p : Pool) (m count : ℕ) (may : MayStepIn s p m) (sa
   state_now : state_of t m ≡ record (state_of s m) { depth = 0; point = take (Carrier.Releaser Unlocker) s.number (oldest (popped_of s m)) }
   state_now = ap (λ (y : View ⊤). y.state) now ∙ did.3.0.state
 
-  pub is_serving : IsServing t m
+  pub is_serving : IsServing (Carrier.Releaser Unlocker) t m
   is_serving = ap (λ (x : SeatState). x.point) state_now ∙ (λ i. take (Carrier.Releaser Unlocker) (sym same.number i) (oldest (sym list_now i)))
 
   pub whole_to_serve : note_of t m ≡ rested (popped_of t m)
@@ -71,7 +71,7 @@ module _ (s t : PoolSeat) (p : Pool) (m count : ℕ) (may : MayStepIn s p m) (sa
     sits_on : (w : View ⊤) → Sits t.number t.place.id p.limits w.state w → Sits s.number s.place.id p.limits w.state w
     sits_on w sits = subst (λ (z : ℕ × ℕ). Sits z.0 z.1 p.limits w.state w) (λ i. (same.number i, same.id i)) sits
 
-    pub hands : (r : Record) → GrantsNextIn t u p m r → UnlocksIn (Unlocking.Granted r) s u p m
+    pub hands : (r : Record) → GrantsNextIn (Carrier.Releaser Unlocker) t u p m r → UnlocksIn (Unlocking.Granted r) s u p m
     hands r last = (
       last.0,
       last.1,
@@ -90,8 +90,8 @@ module _ (s t : PoolSeat) (p : Pool) (m count : ℕ) (may : MayStepIn s p m) (sa
       ),
     )
 
-    pub finds_nobody : FindsNoneIn t u p m → UnlocksIn Unlocking.Posts s u p m
-    finds_nobody last = (
+    pub finds_nobody : FindsNoneIn (Carrier.Releaser Unlocker) t u p m → UnlocksIn Unlocking.Posts s u p m
+    finds_nobody found = let last = found.1 in (
       last.0,
       last.1,
       both s.number s.place.id m p.limits s.place.me t.place.me u.place.me (inside s t p m may) did.0 last.0 did.1 last.1 did.2 last.2,

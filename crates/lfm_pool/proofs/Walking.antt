@@ -63,7 +63,7 @@ same_seat s = record { table = refl; id = refl; number = refl; parts = refl }
 pub walk_starts : (p : Pool) (s : PoolSeat) (m head : ℕ) → SitsIn s p m → (at : LoadsLink head (state_of s m)) → popped_of s m ≡ [] → (note_of s m).due ≡ 0 → head < 2 ^ 16 → Walking p s s m at.0 head head 0
 walk_starts p s m head sits at none whole narrow = record {
   same = same_seat s;
-  only = λ i. (record { parts = sym (set-get_or s.place.me.0.parts m (unnoted no_view)) i }, s.place.me.1);
+  only = λ i. (record s.place.me.0 { parts = sym (set-get_or s.place.me.0.parts m (unnoted no_view)) i }, s.place.me.1);
   sits = sits;
   state = λ i. record (state_of s m) { point = at.1 i };
   trail = sym (append-nil (part s.place.me.0 m).trail) ∙ ap (λ (l : List Record). (part s.place.me.0 m).trail ++ loads_of at.0 l head) (sym none);

@@ -21,9 +21,11 @@ pub record SameSeat (s t : PoolSeat) : Type 0 where
   pub number : t.number ≡ s.number
   pub parts : length t.place.me.0.parts ≡ length s.place.me.0.parts
 
--- a seat that has made no call: it has this number, rests in every mutex of the pool, holds none and has made no step
+-- a seat that has made no call: it has this number, rests in every mutex of the pool, holds none, and has made no step and
+-- no post
 pub record IsNew (number : ℕ) (p : Pool) (s : PoolSeat) : Type 0 where
   pub number_is : s.number ≡ number
   pub may_try : (m : ℕ) → IsMutex m p → MayTryIn s p m
   pub no_step : (m : ℕ) → IsMutex m p → (part s.place.me.0 m).trail ≡ []
+  pub no_post : s.posts ≡ 0
   pub elsewhere : (m : ℕ) → RestsInOthers s m

@@ -8,7 +8,7 @@ use Rattle.lfm_pool.specs.declared.pool.PoolSeat.{PoolSeat}
 use Rattle.lfm_pool.specs.declared.view.Note.{Note}
 use Rattle.lfm_pool.specs.declared.view.PoolView.{PoolView}
 use Rattle.lfm_pool.specs.Chain.{AreWithin}
-use Rattle.lfm_pool.specs.Rule.{HeldPool}
+use Rattle.lfm_pool.specs.Posts.{HeldPosts}
 use Rattle.lfm_pool.specs.Seats.{state_of}
 use Rattle.lfm_pool.specs.Tables.{part, with_part}
 
@@ -24,4 +24,4 @@ NotesIn s t m k = t.place.me ≡ (with_part s.place.me.0 m (part s.place.me.0 m)
 -- seat knows `after` then, and the access tells that these records are of seats.
 abbrev pub MayAccess : ℕ → ℕ → Me ℕ PoolView → ℕ → (ℕ → ℕ) → ℕ → PoolView → List Record → Type 0
 MayAccess slots id me index f number after within =
-    Allows HeldPool slots id me index f (λ n me'. (f n ≡ number) × (me' ≡ (after, me.1)) × AreWithin max_seats within)
+    Allows HeldPosts slots id me index f (λ n me'. (f n ≡ number) × (me' ≡ (after, me.1)) × AreWithin max_seats within)

@@ -1,6 +1,6 @@
 -- The steps by which a lock that has taken a post over serves the oldest queued seat, which may be its own, and what they
 -- leave.
-use Rattle.std.specs.Prelude.{◌≡◌, ◌≢◌, ⊤, ℕ, List, [], ◌∷◌, ◌++◌, Option, Some, None}
+use Rattle.std.specs.Prelude.{◌≡◌, ◌≢◌, ⊤, ℕ, List, [], ◌∷◌, ◌++◌}
 use Rattle.lfm_model.specs.declared.answers.How.{How}
 use Rattle.lfm_words.specs.declared.pop_lists.Record.{Record}
 use Rattle.lfm_words.specs.declared.wakes.Wake.TheVariants.{Grant}
@@ -14,6 +14,7 @@ use Rattle.lfm_protocol.specs.declared.points.Sleeper.TheVariants as Sleeper
 use Rattle.lfm_protocol.specs.declared.seats.SeatState.{SeatState}
 use Rattle.lfm_table.specs.declared.seat_view.Seen.{Seen}
 use Rattle.lfm_table.specs.Actions.{seen}
+use Rattle.lfm_pool.specs.declared.finish_ask.Finished.{Finished}
 use Rattle.lfm_pool.specs.declared.pool.Pool.{Pool}
 use Rattle.lfm_pool.specs.declared.pool.PoolSeat.{PoolSeat}
 use Rattle.lfm_pool.specs.declared.view.Note.{Note}
@@ -43,28 +44,29 @@ ClearsForLock p = p.point ≡ TakeClearHead Carrier.Locker
 
 -- The steps by which the lock of the seat with this number has served the record r, the oldest: the first list of records
 -- was popped before it, and the second is popped after it. If none was, it has collected the push list from this push word
--- on. None: the record is its own, and it has stored its number as the owner. Some: it has granted this record.
-abbrev pub FinishSteps : Option Record → ℕ → List Record → List Record → List Seen → Type 0
-FinishSteps None number before after new =
-    (found : ℕ) × (r : Record) × (r.seat ≡ number) × AreQueued before found (r ∷ after)
+-- on. Held: the record is its own, with this stamp, and it has stored its number as the owner. Granted: it has granted this
+-- record.
+abbrev pub FinishSteps : Finished → ℕ → List Record → List Record → List Seen → Type 0
+FinishSteps (Finished.Held stamp) number before after new =
+    (found : ℕ) × (r : Record) × (r.seat ≡ number) × (r.stamp ≡ stamp) × AreQueued before found (r ∷ after)
     × (new ≡ collecting Carrier.Locker before found (r ∷ after) ++ seen (EnterOwnerStore Entrant.Locker (How.Queued r.stamp)) number ∷ [])
-FinishSteps (Some r) number before after new =
+FinishSteps (Finished.Granted r) number before after new =
     (found : ℕ) × (r.seat ≢ number) × AreQueued before found (r ∷ after)
     × (new ≡ collecting Carrier.Locker before found (r ∷ after) ++ seen (GrantWakeStore Carrier.Locker r) (wake_word (Grant r.stamp)) ∷ [])
 
 -- what this makes of the seat's data: the seat holds the mutex once, or sleeps
-abbrev pub finished : Option Record → SeatState → SeatState
-finished None x = record x { depth = 1; point = Rest }
-finished (Some r) x = record x { point = Asleep Sleeper.Locker }
+abbrev pub finished : Finished → SeatState → SeatState
+finished (Finished.Held stamp) x = record x { depth = 1; point = Rest }
+finished (Finished.Granted r) x = record x { point = Asleep Sleeper.Locker }
 
 -- a seat that holds the mutex notes that all records that are left are in the chain, and that the carried word names the
 -- oldest of them
-abbrev pub NotesFinished : Option Record → Note → List Record → Type 0
-NotesFinished None k popped = k ≡ rested popped
-NotesFinished (Some r) k popped = ⊤
+abbrev pub NotesFinished : Finished → Note → List Record → Type 0
+NotesFinished (Finished.Held stamp) k popped = k ≡ rested popped
+NotesFinished (Finished.Granted r) k popped = ⊤
 
 -- from s to t the seat has done so in mutex m
-abbrev pub FinishesIn : Option Record → PoolSeat → PoolSeat → Pool → ℕ → Type 0
+abbrev pub FinishesIn : Finished → PoolSeat → PoolSeat → Pool → ℕ → Type 0
 FinishesIn result s t p m =
     KnowsMoreOf m
     (λ w k.
@@ -74,6 +76,6 @@ FinishesIn result s t p m =
     s.place.me t.place.me
 
 -- the seat may release the mutex then, or receive a grant
-abbrev pub IsReadyFinished : Option Record → PoolSeat → Pool → ℕ → Type 0
-IsReadyFinished None t p m = HoldsOnceIn t p m
-IsReadyFinished (Some r) t p m = Sleeps (state_of t m)
+abbrev pub IsReadyFinished : Finished → PoolSeat → Pool → ℕ → Type 0
+IsReadyFinished (Finished.Held stamp) t p m = HoldsOnceIn t p m
+IsReadyFinished (Finished.Granted r) t p m = Sleeps (state_of t m)

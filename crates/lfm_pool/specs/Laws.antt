@@ -5,7 +5,8 @@ use Rattle.lfm_words.specs.declared.pop_lists.Record.{Record}
 use Rattle.lfm_words.specs.Words.{link_of}
 use Rattle.lfm_pool.specs.declared.view.PoolView.{PoolView}
 use Rattle.lfm_pool.specs.Chain.{HasRecord, first_seat}
-use Rattle.lfm_pool.specs.Rule.{HeldPool, link_at}
+use Rattle.lfm_pool.specs.Posts.{HeldPosts}
+use Rattle.lfm_pool.specs.Rule.{link_at}
 
 -- the seats that a walk finds which begins at seat t, loads the link word of each seat, and goes on with the seat that the
 -- link names; it ends at 0, or after this number of seats
@@ -28,7 +29,7 @@ AreOfDifferentSeats (r ∷ rest) = (HasRecord r.seat rest → ⊥) × AreOfDiffe
 -- record finds the seats of the popped records, the oldest first, each once and no other.
 abbrev pub ChainsAreWalked : Type 0
 ChainsAreWalked =
-    (s : State ℕ PoolView) (h : HeldPool s) (m : ℕ) → m < h.mutexes → h.dues m ≡ 0
-    → ((most : ℕ) → length (h.popped m) ≤ most
-    → walked h.mutexes s.words most (first_seat (h.popped m)) ≡ seats_of_records (h.popped m))
-    × AreOfDifferentSeats (h.popped m)
+    (s : State ℕ PoolView) (h : HeldPosts s) (m : ℕ) → m < h.held.mutexes → h.held.dues m ≡ 0
+    → ((most : ℕ) → length (h.held.popped m) ≤ most
+    → walked h.held.mutexes s.words most (first_seat (h.held.popped m)) ≡ seats_of_records (h.held.popped m))
+    × AreOfDifferentSeats (h.held.popped m)

@@ -1,5 +1,6 @@
 -- What contracts say of a pool.
 pub mod Ask
+pub mod AskAll
 pub mod Belongs
 pub mod Carrying
 pub mod Chain
@@ -7,9 +8,11 @@ pub mod Collecting
 pub mod FastPaths
 pub mod Finds
 pub mod FinishAsk
+pub mod Handoff
 pub mod Laws
 pub mod Layout
 pub mod Moves
+pub mod Posts
 pub mod Push
 pub mod Receive
 pub mod Releasing

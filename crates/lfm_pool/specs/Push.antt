@@ -1,7 +1,7 @@
 -- What the steps leave by which a lock puts its record into the queue.
 use Rattle.std.specs.Prelude.{◌≡◌, ⊤, ℕ, ◌++◌, ◌+◌, [], ◌∷◌, true, nat_eq, if◌then◌else◌}
 use Rattle.lfm_words.specs.declared.links.Link.{Link}
-use Rattle.lfm_words.specs.Words.{handoff_of, link_of, link_word}
+use Rattle.lfm_words.specs.Words.{handoff_of, handoff_word, link_of, link_word}
 use Rattle.lfm_words.specs.declared.handoffs.Handoff.{Handoff}
 use Rattle.lfm_words.specs.Popped.{oldest}
 use Rattle.lfm_protocol.specs.After.{same_handoff, same_link, take}
@@ -17,6 +17,8 @@ use Rattle.lfm_pool.specs.declared.pool.Pool.{Pool}
 use Rattle.lfm_pool.specs.declared.pool.PoolSeat.{PoolSeat}
 use Rattle.lfm_pool.specs.Chain.{note_since, rested}
 use Rattle.lfm_pool.specs.FastPaths.{KnowsMoreOf}
+use Rattle.lfm_pool.specs.Handoff.{SameLoaded, SameTried, forgotten}
+use Rattle.lfm_pool.specs.Seats.{state_of}
 use Rattle.lfm_pool.specs.Steps.{Sits}
 use Rattle.lfm_pool.specs.Tables.{note, part}
 
@@ -73,9 +75,20 @@ LoadsHandoffIn s t p m n =
     StepsFrom s t p m (PushedHandoffLoad Pusher.Locker) n
     (if nat_eq (handoff_of n).seat 0 then Asleep Sleeper.Locker else PushedHandoffExchange Pusher.Locker (handoff_of n))
 
+-- The same by the word n of the mutex: the word of its table names the same seat, or none either. The seat remembers the
+-- number of the post.
+abbrev pub FindsHandoffIn : PoolSeat → PoolSeat → Pool → ℕ → ℕ → Type 0
+FindsHandoffIn s t p m n =
+    (l : ℕ) × LoadsHandoffIn s (forgotten t) p m l × SameLoaded s.place.me.0 n l × (t.place.me.0.found ≡ (handoff_of n).post)
+
 -- a lock has found this post after its push, and tries to take it over next
 abbrev pub TakesPost : Handoff → SeatState → Type 0
 TakesPost posted p = p.point ≡ PushedHandoffExchange Pusher.Locker posted
+
+-- the same, and the handoff word of the mutex has this number for it
+abbrev pub TakesWord : ℕ → PoolSeat → ℕ → Type 0
+TakesWord word s m =
+    (posted : Handoff) × TakesPost posted (state_of s m) × (word ≡ handoff_word (record { seat = posted.seat; post = s.place.me.0.found }))
 
 -- The seat with this number, which does not hold the mutex, has found n by its exchange of the handoff word. If that is the
 -- post that was loaded, the seat has the responsibility: it serves the oldest record of the pop list, or collects the push
@@ -95,3 +108,9 @@ TakesOverIn s t p m posted n =
     TakesOver s.number posted n (part s.place.me.0 m) w × Sits s.number s.place.id p.limits w.state w
     × (same_handoff (handoff_of n) posted ≡ true → k ≡ rested w.popped) × (k ≡ note_since w (note s.place.me.0 m)))
     s.place.me t.place.me
+
+-- the same, by the number in the handoff word of the mutex, where the exchange found n
+abbrev pub TakesWordIn : PoolSeat → PoolSeat → Pool → ℕ → ℕ → ℕ → Type 0
+TakesWordIn s t p m word n =
+    (posted : Handoff) × (l : ℕ) × TakesPost posted (state_of s m) × TakesOverIn (forgotten s) t p m posted l
+    × SameTried (PushedHandoffExchange Pusher.Locker posted) s.place.me.0 word (handoff_word posted) n l × (t.place.me.0.found ≡ 0)

@@ -1,5 +1,5 @@
 -- What the contracts say of an unlock that serves the oldest queued seat.
-use Rattle.std.specs.Prelude.{◌≡◌, ⊤, ℕ, List, [], ◌∷◌, ◌++◌}
+use Rattle.std.specs.Prelude.{◌≡◌, ⊤, ℕ, Bool, true, false, List, [], ◌∷◌, ◌++◌}
 use Rattle.lfm_words.specs.declared.pop_lists.Record.{Record}
 use Rattle.lfm_words.specs.declared.wakes.Wake.TheVariants.{Grant}
 use Rattle.lfm_words.specs.Popped.{oldest}
@@ -20,9 +20,15 @@ use Rattle.lfm_pool.specs.Seats.{popped_of, state_of}
 use Rattle.lfm_pool.specs.Steps.{Sits}
 use Rattle.lfm_pool.specs.Tables.{part}
 
--- an unlock of the seat with this number has found others in the count, and serves the oldest of them next
-abbrev pub IsServing : PoolSeat → ℕ → Type 0
-IsServing s m = (state_of s m).point ≡ take (Carrier.Releaser Unlocker) s.number (oldest (popped_of s m))
+-- this carrier is an unlock: one that has released the mutex, or has taken its post back
+abbrev pub is_unlock : Carrier → Bool
+is_unlock (Carrier.Releaser Unlocker) = true
+is_unlock (Carrier.Reclaimer Unlocker) = true
+is_unlock _ = false
+
+-- this carrier serves the oldest of the seats that are counted next
+abbrev pub IsServing : Carrier → PoolSeat → ℕ → Type 0
+IsServing carrier s m = (state_of s m).point ≡ take carrier s.number (oldest (popped_of s m))
 
 -- the steps by which a call collects the push list, if no record is popped: it finds this push word, and these records
 abbrev pub collecting : Carrier → List Record → ℕ → List Record → List Seen
@@ -34,22 +40,22 @@ abbrev pub AreQueued : List Record → ℕ → List Record → Type 0
 AreQueued [] found records = walk_head records 0 ≡ (link_of found).next
 AreQueued (x ∷ rest) found records = records ≡ x ∷ rest
 
--- The unlock has granted the record r, the oldest, and has ended. If no record was popped, it has found this push word, and
--- has collected the push list first.
-pub record GrantsNext (r : Record) (v w : View ⊤) : Type 0 where
+-- The unlock, as this carrier, has granted the record r, the oldest, and has ended. If no record was popped, it has found
+-- this push word, and has collected the push list first.
+pub record GrantsNext (carrier : Carrier) (r : Record) (v w : View ⊤) : Type 0 where
   pub found : ℕ
   pub queued : AreQueued v.popped found (r ∷ w.popped)
   pub trail : w.trail
-      ≡ v.trail ++ (collecting (Carrier.Releaser Unlocker) v.popped found (r ∷ w.popped) ++ seen (GrantWakeStore (Carrier.Releaser Unlocker) r) (wake_word (Grant r.stamp)) ∷ [])
+      ≡ v.trail ++ (collecting carrier v.popped found (r ∷ w.popped) ++ seen (GrantWakeStore carrier r) (wake_word (Grant r.stamp)) ∷ [])
   pub state : w.state ≡ record v.state { point = Rest }
   pub run : RunGoesOn v w
 
-abbrev pub GrantsNextIn : PoolSeat → PoolSeat → Pool → ℕ → Record → Type 0
-GrantsNextIn s t p m r =
-    KnowsMoreOf m (λ w k. GrantsNext r (part s.place.me.0 m) w × Sits s.number s.place.id p.limits w.state w) s.place.me t.place.me
+abbrev pub GrantsNextIn : Carrier → PoolSeat → PoolSeat → Pool → ℕ → Record → Type 0
+GrantsNextIn carrier s t p m r =
+    KnowsMoreOf m (λ w k. GrantsNext carrier r (part s.place.me.0 m) w × Sits s.number s.place.id p.limits w.state w) s.place.me t.place.me
 
 -- No record was popped, and the push list was empty, as this push word tells: the seats that are counted have not pushed
--- their records yet. The unlock posts next.
+-- their records yet. The unlock posts next. One that has taken its post back finds a record.
 pub record FindsNone (v w : View ⊤) : Type 0 where
   pub found : ℕ
   pub none : (link_of found).next ≡ 0
@@ -57,8 +63,8 @@ pub record FindsNone (v w : View ⊤) : Type 0 where
   pub state : w.state ≡ record v.state { point = ReleaseHandoffStore Unlocker }
   pub run : RunGoesOn v w
 
-abbrev pub FindsNoneIn : PoolSeat → PoolSeat → Pool → ℕ → Type 0
-FindsNoneIn s t p m =
-    KnowsMoreOf m
+abbrev pub FindsNoneIn : Carrier → PoolSeat → PoolSeat → Pool → ℕ → Type 0
+FindsNoneIn carrier s t p m =
+    (carrier ≡ Carrier.Releaser Unlocker) × KnowsMoreOf m
     (λ w k. FindsNone (part s.place.me.0 m) w × Sits s.number s.place.id p.limits w.state w × (k ≡ rested w.popped))
     s.place.me t.place.me

@@ -26,7 +26,8 @@ NobodyCarries m views = (j : ℕ) (v : PoolView) → get_elem? views j ≡ some 
 -- - tables, kept, sized: the table of each mutex, its rule and the number of its words
 -- - long, wide, counted: the number of the pool's words, of the mutexes that a seat knows, and of the seats that a table has
 -- - parts: what a seat knows of a mutex is its view at the table of that mutex
--- - own: the words of a mutex are those of its table
+-- - own: the words of a mutex are those of its table. The handoff words of a pool are not: `HeldPosts` in Posts says which
+--   it has, and that this rule holds with the handoff words of the tables in their places.
 -- - elsewhere: a seat that does not rest in a mutex rests in all others
 -- - popped, listed: the popped records of each mutex, oldest first, as the core of its table has them
 -- - linked: from its link store until its record is collected, the link word of a seat is that of the mutex in which it does
@@ -74,7 +75,7 @@ pub record HeldPool (s : State ℕ PoolView) : Type 0 where
 
 -- what the first seat of a pool of free mutexes knows
 abbrev pub first_pool_view : ℕ → Limits → PoolView
-first_pool_view mutexes l = record { parts = replicate mutexes (unnoted (first_view l tt)) }
+first_pool_view mutexes l = record { parts = replicate mutexes (unnoted (first_view l tt)); posts = 0; found = 0 }
 
 -- Seats that are split off the first one
 
@@ -83,7 +84,7 @@ abbrev pub left_view : PoolView → PoolView
 left_view v = record v { parts = map (λ (k : Known). record k { view = with_split k.view }) v.parts }
 
 abbrev pub right_view : PoolView → PoolView
-right_view v = record v { parts = map (λ (k : Known). unnoted (split_view k.view)) v.parts }
+right_view v = record { parts = map (λ (k : Known). unnoted (split_view k.view)) v.parts; posts = 0; found = 0 }
 
 -- the first seat may split one more seat off
 abbrev pub MaySplit : PoolView → Type 0

@@ -47,9 +47,9 @@ IsAccessOf seats number p a =
     (k : Kind) × (kind p.point ≡ Some k) × (word_at a ≡ index_by seats (target p.point number) (Some k))
     × ((n : ℕ) → becomes a n ≡ written_by p number n (Some k)) × (is_store a ≡ stores (Some k))
 
--- the same, and it is an access to one of the four words of the mutex
+-- the same, and it is an access to one of the four words of the mutex, but not to the handoff word
 abbrev pub IsOwnAccessOf : ℕ → ℕ → SeatState → Access → Type 0
-IsOwnAccessOf seats number p a = IsAccessOf seats number p a × (word_at a < 4)
+IsOwnAccessOf seats number p a = IsAccessOf seats number p a × (word_at a < 4) × (word_at a ≢ 2)
 
 -- the same, and the step needs nothing of the chain
 abbrev pub IsPlainAccessOf : ℕ → ℕ → SeatState → Access → Type 0
@@ -73,10 +73,14 @@ is_at_seat_word _ = false
 
 -- the access is the next step in mutex m of the seat with this number, whose data there are p, in a pool of this many
 -- mutexes and seats
-abbrev pub IsStepAt : ℕ → ℕ → ℕ → ℕ → SeatState → PoolAccess → Type 0
-IsStepAt mutexes seats m number p a =
+abbrev pub IsStepOf : ℕ → ℕ → ℕ → ℕ → SeatState → PoolAccess → Type 0
+IsStepOf mutexes seats m number p a =
     IsAccessOf seats number p a.access × IsWordAt mutexes seats m a.index (word_at a.access)
     × ((word_at a.access < 4) ⊎ (is_at_seat_word p.point ≡ true))
+
+-- the same, and it is not an access to the handoff word
+abbrev pub IsStepAt : ℕ → ℕ → ℕ → ℕ → SeatState → PoolAccess → Type 0
+IsStepAt mutexes seats m number p a = IsStepOf mutexes seats m number p a × (word_at a.access ≢ 2)
 
 -- a store tells the number that it stores
 abbrev pub IsTold : Access → ℕ → Type 0

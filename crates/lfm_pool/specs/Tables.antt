@@ -49,7 +49,7 @@ unnoted v = record { view = v; note = no_note }
 
 -- what a seat of a pool without mutexes knows
 abbrev pub no_pool_view : PoolView
-no_pool_view = record { parts = [] }
+no_pool_view = record { parts = []; posts = 0; found = 0 }
 
 -- what the seat knows of mutex m
 abbrev pub known : PoolView → ℕ → Known

@@ -3,13 +3,14 @@ use Rattle.std.specs.Prelude.{◌≡◌, ◌≢◌, ◌⊎◌, ℕ, ◌+◌, ◌
 use Rattle.lfm_model.specs.declared.answers.How.{How}
 use Rattle.lfm_model.specs.declared.answers.Locked.{Locked}
 use Rattle.lfm_model.specs.declared.refusals.Refusal.{Refusal}
-use Rattle.lfm_words.specs.Words.{handoff_of, is_posted_word}
+use Rattle.lfm_words.specs.Words.{handoff_of, handoff_word, is_posted_word}
 use Rattle.lfm_protocol.specs.declared.points.Entrant.{Entrant}
 use Rattle.lfm_protocol.specs.declared.points.Point.TheVariants.{Rest, TryCountExchange, TryOwnerLoad, TryHandoffLoad, TryHandoffExchange, TryCountAdd, EnterOwnerStore}
 use Rattle.lfm_protocol.specs.declared.seats.SeatState.{SeatState}
 use Rattle.lfm_table.specs.declared.seat_view.Seen.{Seen}
 use Rattle.lfm_table.specs.Actions.{seen}
 use Rattle.lfm_pool.specs.declared.pool.PoolSeat.{PoolSeat}
+use Rattle.lfm_pool.specs.Handoff.{forgotten}
 use Rattle.lfm_pool.specs.Moves.{MakesIn}
 use Rattle.lfm_pool.specs.Seats.{state_of}
 
@@ -51,6 +52,17 @@ TrySteps number result new =
 -- from s to t the seat has tried to accept this post in mutex m
 abbrev pub AcceptsIn : PoolSeat → PoolSeat → ℕ → ℕ → Result Locked Refusal → Type 0
 AcceptsIn s t m post result = (new : List Seen) × AcceptSteps s.number post result new × MakesIn s t m new (ended result (state_of s m))
+
+-- a try_lock has found the post l at the table of the mutex, and tries to accept it next: the handoff word of the mutex has
+-- this number for it
+abbrev pub IsPostWord : ℕ → PoolSeat → ℕ → ℕ → Type 0
+IsPostWord word s m l =
+    ((state_of s m).point ≡ TryHandoffExchange (handoff_of l))
+    × (word ≡ handoff_word (record { seat = (handoff_of l).seat; post = s.place.me.0.found }))
+
+-- from s to t the seat has tried to accept this post in mutex m
+abbrev pub AcceptsWordIn : PoolSeat → PoolSeat → ℕ → ℕ → Result Locked Refusal → Type 0
+AcceptsWordIn s t m word result = (l : ℕ) × IsPostWord word s m l × AcceptsIn (forgotten s) t m l result
 
 -- from s to t the seat has made the rest of a try_lock that has found mutex m taken
 abbrev pub EndsTryIn : PoolSeat → PoolSeat → ℕ → Result Locked Refusal → Type 0

@@ -1,21 +1,24 @@
--- The steps of an unlock up to the point at which it has ended or posts, by its answer, and what they leave.
-use Rattle.std.specs.Prelude.{◌≡◌, ◌≢◌, ⊤, ℕ, List, [], ◌∷◌, ◌++◌}
+-- The steps of an unlock, by its answer, and what they leave.
+use Rattle.std.specs.Prelude.{◌≡◌, ◌≢◌, ◌⊎◌, ⊤, ℕ, ◌+◌, List, [], ◌∷◌, ◌++◌}
 use Rattle.lfm_words.specs.declared.pop_lists.Record.{Record}
 use Rattle.lfm_words.specs.declared.wakes.Wake.TheVariants.{Grant}
-use Rattle.lfm_words.specs.Words.{link_of, wake_word}
+use Rattle.lfm_words.specs.Words.{handoff_word, link_of, wake_word}
 use Rattle.lfm_protocol.specs.declared.points.Carrier.{Carrier}
-use Rattle.lfm_protocol.specs.declared.points.Point.TheVariants.{Rest, ReleaseOwnerStore, ReleaseCountSubtract, ReleaseHandoffStore, TakeClearHead, GrantWakeStore}
+use Rattle.lfm_protocol.specs.declared.points.Point.TheVariants.{Rest, ReleaseOwnerStore, ReleaseCountSubtract, ReleaseHandoffStore, ReleasePushRecheck, ReleaseHandoffExchange, TakeClearHead, GrantWakeStore}
 use Rattle.lfm_protocol.specs.declared.points.Releaser.TheVariants.{Unlocker}
 use Rattle.lfm_table.specs.declared.seat_view.Seen.{Seen}
 use Rattle.lfm_table.specs.declared.seat_view.View.{View}
 use Rattle.lfm_table.specs.Actions.{RunGoesOn, seen}
 use Rattle.lfm_pool.specs.declared.pool.Pool.{Pool}
 use Rattle.lfm_pool.specs.declared.pool.PoolSeat.{PoolSeat}
+use Rattle.lfm_pool.specs.declared.unlock.Released.{Released}
 use Rattle.lfm_pool.specs.declared.unlock.Unlocking.{Unlocking}
 use Rattle.lfm_pool.specs.Chain.{rested}
 use Rattle.lfm_pool.specs.FastPaths.{KnowsMoreOf}
+use Rattle.lfm_pool.specs.Handoff.{recounted}
+use Rattle.lfm_pool.specs.Moves.{Made}
 use Rattle.lfm_pool.specs.Releasing.{AreQueued, collecting}
-use Rattle.lfm_pool.specs.Seats.{LeavesIn}
+use Rattle.lfm_pool.specs.Seats.{LeavesIn, state_of}
 use Rattle.lfm_pool.specs.Steps.{Sits}
 use Rattle.lfm_pool.specs.Tables.{part}
 
@@ -57,3 +60,63 @@ UnlocksIn Unlocking.Posts s t p m =
     KnowsMoreOf m
     (λ w k. FindsNobody (part s.place.me.0 m) w × Sits s.number s.place.id p.limits w.state w × (k ≡ rested w.popped))
     s.place.me t.place.me
+
+-- Posts
+
+-- the word of the mutex's table for this post of the seat with this number
+abbrev pub post_word : ℕ → ℕ → ℕ
+post_word number post = handoff_word (record { seat = number; post = post })
+
+-- the store of a post, and the load of the push word after it
+abbrev pub posting : ℕ → ℕ → ℕ → List Seen
+posting number post look = seen (ReleaseHandoffStore Unlocker) (post_word number post) ∷ seen (ReleasePushRecheck Unlocker) look ∷ []
+
+-- The steps of an unlock of the seat with this number from this post on; these records are popped after them.
+-- - Posted: the push word that it has loaded has no record
+-- - TakenOver: it has one, and the exchange has found the post gone
+-- - Granted: it has one, the exchange has found the post, and the call has granted the record r, as an unlock that finds a
+--   record at once does
+abbrev pub PostSteps : Released → ℕ → ℕ → List Record → List Seen → Type 0
+PostSteps Released.Posted number post popped new = (look : ℕ) × ((link_of look).next ≡ 0) × (new ≡ posting number post look)
+PostSteps Released.TakenOver number post popped new =
+    (look found : ℕ) × ((link_of look).next ≢ 0) × (found ≢ post_word number post)
+    × (new ≡ posting number post look ++ seen (ReleaseHandoffExchange Unlocker) found ∷ [])
+PostSteps (Released.Granted r) number post popped new =
+    (look found : ℕ) × (before : List Record) × ((link_of look).next ≢ 0) × AreQueued before found (r ∷ popped)
+    × (new ≡ posting number post look ++ (seen (ReleaseHandoffExchange Unlocker) (post_word number post) ∷ (collecting (Carrier.Reclaimer Unlocker) before found (r ∷ popped) ++ seen (GrantWakeStore (Carrier.Reclaimer Unlocker) r) (wake_word (Grant r.stamp)) ∷ [])))
+PostSteps Released.Free number post popped new = ⊥
+
+-- from s to t the seat has posted mutex m and has ended its unlock with this answer: it has counted one post more
+abbrev pub PostsIn : Released → PoolSeat → PoolSeat → Pool → ℕ → Type 0
+PostsIn result s t p m =
+    KnowsMoreOf m
+    (λ w k.
+    ((new : List Seen) × PostSteps result s.number ((state_of s m).posts + 1) w.popped new
+    × Made new (record (state_of s m) { posts = (state_of s m).posts + 1; point = Rest }) (part s.place.me.0 m) w)
+    × Sits s.number s.place.id p.limits w.state w)
+    (recounted s (s.posts + 1)).place.me t.place.me
+
+-- The unlock of the seat with this number has found others in the count, but none in the queue. It has posted, and has ended
+-- with this answer.
+pub record PassesOn (result : Released) (number : ℕ) (v w : View ⊤) : Type 0 where
+  pub count : ℕ
+  pub others : count ≢ 1
+  pub found : ℕ
+  pub none : (link_of found).next ≡ 0
+  pub later : List Seen
+  pub steps : PostSteps result number (v.state.posts + 1) w.popped later
+  pub trail : w.trail ≡ v.trail ++ (release count ++ (seen (TakeClearHead (Carrier.Releaser Unlocker)) found ∷ later))
+  pub state : w.state ≡ record v.state { depth = 0; posts = v.state.posts + 1; point = Rest }
+  pub run : RunGoesOn v w
+
+abbrev pub PassesOnIn : Released → PoolSeat → PoolSeat → Pool → ℕ → Type 0
+PassesOnIn result s t p m =
+    KnowsMoreOf m (λ w k. PassesOn result s.number (part s.place.me.0 m) w × Sits s.number s.place.id p.limits w.state w)
+    (recounted s (s.posts + 1)).place.me t.place.me
+
+-- From s to t the seat, which held mutex m once, has made an unlock of it that has ended with this answer.
+abbrev pub ReleasesIn : Released → PoolSeat → PoolSeat → Pool → ℕ → Type 0
+ReleasesIn Released.Free s t p m = LeavesIn s t p m
+ReleasesIn (Released.Granted r) s t p m = UnlocksIn (Unlocking.Granted r) s t p m ⊎ PassesOnIn (Released.Granted r) s t p m
+ReleasesIn Released.Posted s t p m = PassesOnIn Released.Posted s t p m
+ReleasesIn Released.TakenOver s t p m = PassesOnIn Released.TakenOver s t p m

@@ -15,7 +15,7 @@ use crate::moves::{go_on, start};
 use crate::pool::{Pool, PoolSeat};
 use crate::push::{load_handoff, load_push, push, take_over};
 use lfm_table::operations::Access;
-use lfm_words::{Handoff, unpack_handoff, unpack_link};
+use lfm_words::{Handoff, unpack_link};
 
 /// How far a `lock` has come.
 #[derive(Clone, Copy, Debug, PartialEq, Eq)]
@@ -77,7 +77,7 @@ fn queue(pool: &Pool, seat: &mut PoolSeat, mutex: usize) -> Asking
     if !Handoff::is_posted_in(post) {
         return Asking::Asleep;
     }
-    let found = take_over(pool, seat, mutex, unpack_handoff(post));
+    let found = take_over(pool, seat, mutex, post);
     if found == post {
         return Asking::Carries;
     }

@@ -62,6 +62,7 @@ fn load_word<B: OneAccess>(pool: &Pool, seat: &mut PoolSeat, word: WordOf) -> u6
     requires table { seat.old.place.table_id ≡ pool.now.table.shared.table_id }
     requires inside { word.index < pool.now.table.shared.table_id.words }
     requires may { MayAccess pool.now.table.shared.table_id.slots seat.old.place.id seat.old.place.me word.index (λ n. n) B.number B.after B.within }
+    requires counts { B.after.posts ≡ seat.old.place.me.0.posts }
     ensures same { (seat.new.place.table_id ≡ seat.old.place.table_id) × (seat.new.place.id ≡ seat.old.place.id) × (seat.new.number ≡ seat.old.number) }
     ensures found { result ≡ B.number }
     ensures within { AreWithin max_seats B.within }
@@ -78,6 +79,7 @@ fn store_word<B: OneAccess>(pool: &Pool, seat: &mut PoolSeat, word: WordOf, numb
     requires table { seat.old.place.table_id ≡ pool.now.table.shared.table_id }
     requires inside { word.index < pool.now.table.shared.table_id.words }
     requires may { MayAccess pool.now.table.shared.table_id.slots seat.old.place.id seat.old.place.me word.index (λ _. number) B.number B.after B.within }
+    requires counts { B.after.posts ≡ seat.old.place.me.0.posts }
     ensures same { (seat.new.place.table_id ≡ seat.old.place.table_id) × (seat.new.place.id ≡ seat.old.place.id) × (seat.new.number ≡ seat.old.number) }
     ensures knows { seat.new.place.me ≡ (B.after, seat.old.place.me.1) }
 {

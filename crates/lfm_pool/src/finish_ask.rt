@@ -1,8 +1,9 @@
 //! The end of an `ask` that has taken a post over: it serves the oldest queued seat. That seat may be its own, which then
 //! holds the mutex; else it sleeps.
-ghost use Rattle.std.specs.Prelude.{◌≡◌, ◌+◌, [], None, length};
+ghost use Rattle.std.specs.Prelude.{◌≡◌, ◌+◌, [], length};
 ghost use Rattle.lfm_pool.specs.Belongs.{SameSeat};
 ghost use Rattle.lfm_pool.specs.Chain.{rested};
+ghost use Rattle.lfm_pool.specs.declared.finish_ask.Finished.{Finished as FinishedNow};
 ghost use Rattle.lfm_pool.specs.FinishAsk.{ClearsForLock, EntersByOwn, FinishesIn, IsReadyFinished, TakesOldest};
 ghost use Rattle.lfm_pool.specs.Moves.{MakesAtMostIn, MayStepIn};
 ghost use Rattle.lfm_pool.specs.Seats.{note_of, popped_of, state_of};
@@ -17,15 +18,23 @@ use crate::step::next_step;
 use lfm_table::operations::Access;
 use lfm_words::{Record, unpack_link};
 
+/// How a `lock` that has taken a post over has ended.
+pub enum Finished {
+    /// The oldest record was its own, and had this stamp. The seat holds the mutex once.
+    Held(u64),
+    /// The mutex is granted to the seat of this record, the oldest one, and this seat sleeps until a receive finds its
+    /// grant. The caller has to wake the thread of the seat of the record.
+    Granted(Record),
+}
+
 /// Ends a `lock` of this mutex that has taken a post over: `begin_ask` has returned Carries. If no record is popped, the
-/// call collects the push list. Then it serves the oldest record. If that is its own, the seat acquires the mutex, holds it
-/// once, and None is returned. Else the call grants the mutex to the seat of that record, and returns the record: the caller
-/// has to wake the thread of that seat, and this seat sleeps until a receive finds its grant. It wakes no thread itself.
+/// call collects the push list. Then it serves the oldest record: it acquires the mutex if the record is its own, and else
+/// grants the mutex to the seat of the record. Returns which of the two. It wakes no thread.
 ///
 /// The call has to be open there, so that there is no refusal. The seat may hold other mutexes. Nothing changes in them, nor
 /// in what the seat knows of them. The call makes at most 3 atomic steps, and one more for each record that is popped when
 /// it has ended. It allocates nothing and never waits.
-pub fn finish_ask(pool: &Pool, seat: &mut PoolSeat, mutex: usize) -> Option<Record>
+pub fn finish_ask(pool: &Pool, seat: &mut PoolSeat, mutex: usize) -> Finished
     requires may { MayStepIn seat.old pool.now mutex }
     requires takes { TakesOldest seat.old mutex }
     requires whole { note_of seat.old mutex ≡ rested (popped_of seat.old mutex) }
@@ -41,30 +50,31 @@ pub fn finish_ask(pool: &Pool, seat: &mut PoolSeat, mutex: usize) -> Option<Reco
     }
     let number = seat.number;
     if oldest == number {
-        enter_popped(pool, seat, mutex);
-        return None;
+        let stamp = enter_popped(pool, seat, mutex);
+        return Finished::Held(stamp);
     }
-    Some(serve_oldest(pool, seat, mutex, oldest))
+    Finished::Granted(serve_oldest(pool, seat, mutex, oldest))
 }
 
 /// Acquires the mutex for the seat, whose record is the oldest popped one: takes the record out of the chain, and stores the
-/// number of the seat as the owner.
-fn enter_popped(pool: &Pool, seat: &mut PoolSeat, mutex: usize)
+/// number of the seat as the owner. Returns the stamp of the record.
+fn enter_popped(pool: &Pool, seat: &mut PoolSeat, mutex: usize) -> u64
     requires may { MayStepIn seat.old pool.now mutex }
     requires own { EntersByOwn seat.old mutex }
     requires whole { note_of seat.old mutex ≡ rested (popped_of seat.old mutex) }
     ensures belongs { SameSeat seat.old seat.new }
-    ensures finishes { FinishesIn None seat.old seat.new pool.now mutex }
+    ensures finishes { FinishesIn (FinishedNow.Held result) seat.old seat.new pool.now mutex }
 {
     let number = seat.number;
     let word = chain_load(pool, seat, mutex, number);
     let link = unpack_link(word);
     carried_store(pool, seat, mutex, link.next);
     next_step(pool, seat, mutex, Access::Store(OWNER, number));
+    link.stamp
 }
 
 /// Collects the push list, and serves its oldest record as `finish_ask`.
-fn serve_pushed(pool: &Pool, seat: &mut PoolSeat, mutex: usize) -> Option<Record>
+fn serve_pushed(pool: &Pool, seat: &mut PoolSeat, mutex: usize) -> Finished
     requires may { MayStepIn seat.old pool.now mutex }
     requires clears { ClearsForLock (state_of seat.old mutex) }
     requires none { popped_of seat.old mutex ≡ [] }
@@ -81,8 +91,8 @@ fn serve_pushed(pool: &Pool, seat: &mut PoolSeat, mutex: usize) -> Option<Record
     let number = seat.number;
     if own == number {
         next_step(pool, seat, mutex, Access::Store(OWNER, number));
-        return None;
+        return Finished::Held(stamp);
     }
     grant(pool, seat, mutex, Record { seat: next, stamp });
-    Some(Record { seat: next, stamp })
+    Finished::Granted(Record { seat: next, stamp })
 }

@@ -1,25 +1,30 @@
 //! A pool of mutexes: many mutexes in one table of words, and seats that belong to all of them. A thread needs one seat for
-//! all mutexes of a pool, and a seat has one link word and one wake word, whatever their number. A mutex of a pool guards
-//! no value.
+//! all mutexes of a pool, and a seat has one link word and one wake word, whatever their number. A mutex of a pool guards no
+//! value.
 //!
 //! The crate has the rule that the words of a pool keep, the opening of a pool with its seats, and each step on the words of
-//! a mutex and on the link and wake words of seats. Of the calls it has a `try_lock`; a `lock` without its sleep, in two
-//! parts (`begin_ask`, and `finish_ask` if that has taken a post over); the receive of a seat that sleeps; and an `unlock`
-//! up to the point at which the mutex is free, granted or has to be posted. The calls need a seat that does not hold the
-//! mutex, or, to unlock, holds it once.
+//! a mutex and on the link and wake words of seats. Of the calls it has a `try_lock`; a `lock` without its sleep
+//! (`ask_without_waking`, and its two parts: `begin_ask`, and `finish_ask` if that has taken a post over); the receive of a
+//! seat that sleeps; and an `unlock`. The calls need a seat that does not hold the mutex, or, to unlock, holds it once.
 //!
 //! The popped records of a mutex are a chain in the link words of their seats, and its carried word names the oldest. A call
 //! that carries a mutex collects the queued records into that chain, and serves the oldest: an `unlock` does so if other
-//! seats want the mutex, and a `lock` that has taken a post over. Not here yet are the posts of an `unlock`, and holds of a
-//! mutex that its seat holds already.
+//! seats want the mutex, and a `lock` that has taken a post over.
+//!
+//! A seat counts the posts of its unlocks in all mutexes by one counter, from which each post takes its number. So a seat
+//! needs no counter for each mutex.
+//!
+//! Not here yet are holds of a mutex that its seat holds already.
 #![tactic(auto)]
 
 mod accesses;
 pub mod ask;
+pub mod ask_all;
 mod chain;
 mod collect;
 pub mod fast_paths;
 pub mod finish_ask;
+mod handoff;
 pub mod laws;
 pub mod layout;
 mod moves;

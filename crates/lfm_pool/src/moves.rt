@@ -1,7 +1,7 @@
 //! One step of a seat on a word of a mutex, with all that the seat needs for its next step. The calls are made of these two
-//! functions, and of the steps of a push and on the words of seats. Neither is for a step that gives the mutex away or loads
-//! a link, which need something of the chain. In both nothing changes in other mutexes, nor in what the seat knows of them.
-//! Neither allocates or waits.
+//! functions, and of the steps of a push, on the handoff word and on the words of seats. Neither is for a step that gives
+//! the mutex away or loads a link, which need something of the chain. In both nothing changes in other mutexes, nor in what
+//! the seat knows of them. Neither allocates or waits.
 ghost use Rattle.lfm_pool.specs.Belongs.{SameSeat};
 ghost use Rattle.lfm_pool.specs.Finds.{Finds};
 ghost use Rattle.lfm_pool.specs.Moves.{MayStepIn, StartsIn};

@@ -1,5 +1,5 @@
 //! A pool and its seats, and how a pool is opened.
-ghost use Rattle.std.specs.Prelude.{◌≡◌, ◌+◌, ◌*◌, ◌^◌, ◌<◌, ◌≤◌, ℕ, [], length, true, IfOk, vec_len};
+ghost use Rattle.std.specs.Prelude.{◌≡◌, ◌↔◌, ◌+◌, ◌*◌, ◌^◌, ◌<◌, ◌≤◌, ℕ, [], length, true, IfOk, IsTrue, vec_len};
 ghost use mathlib.Core.Option.{some};
 ghost use lib.ListN.{get_elem?};
 ghost use Rattle.lfm_protocol.specs.Limits.{are_in_limits, max_seats};
@@ -23,12 +23,24 @@ pub struct Pool {
     pub ghost few: { (limits.seats ≤ max_seats) × (mutexes < 2 ^ 32) },
 }
 
-/// A seat of a pool: a thread's handle of all its mutexes. It is a number, and a token without bytes by which the rule of
-/// the table knows what the seat may do. It may hold any number of mutexes at once.
+/// A seat of a pool: a thread's handle of all its mutexes. It is a number, the count of the posts that it has made in all
+/// mutexes, and a token without bytes by which the rule of the table knows what the seat may do. It may hold any number of
+/// mutexes at once.
 #[derive(Drop)]
 pub struct PoolSeat {
     pub(crate) place: Seat<u64, PoolView>,
     pub(crate) number: u64,
+    pub(crate) posts: u64,
+    pub ghost counted: { place.me.0.posts ≡ posts },
+}
+
+impl PoolSeat {
+    /// Whether the seat has a number left for one more post, as `unlock` requires: it has made fewer than 2^48 - 1.
+    pub fn has_post_left(&self) -> bool
+        ensures { IsTrue result ↔ (self.now.posts + 1 < 2 ^ 48) }
+    {
+        self.posts < 0xffff_ffff_ffff
+    }
 }
 
 impl Pool {
@@ -89,7 +101,12 @@ impl Pool {
             mutexes,
             limits,
         };
-        Ok((pool, PoolSeat { place, number: 1 }))
+        let first = PoolSeat {
+            place,
+            number: 1,
+            posts: 0,
+        };
+        Ok((pool, first))
     }
 
     /// Splits one more seat off the first one, and gives it this number.
@@ -103,6 +120,7 @@ impl Pool {
         PoolSeat {
             place: self.table.shared.split_seat::<PoolSplit>(&mut first.place),
             number,
+            posts: 0,
         }
     }
 }

@@ -5,16 +5,18 @@
 ghost use Rattle.lfm_words.specs.Words.{link_of};
 ghost use Rattle.lfm_laws.specs.steady.Steady.{IsSeen};
 ghost use Rattle.lfm_pool.specs.Belongs.{IsMutex, OfPool, SameSeat};
-ghost use Rattle.lfm_pool.specs.Push.{LoadsHandoff, LoadsHandoffIn, LoadsPush, LoadsPushIn, PushesIn, TakesOverIn, TakesPost};
+ghost use Rattle.lfm_pool.specs.Moves.{MayStepIn};
+ghost use Rattle.lfm_pool.specs.Push.{FindsHandoffIn, LoadsHandoff, LoadsPush, LoadsPushIn, PushesIn, TakesWord, TakesWordIn};
 ghost use Rattle.lfm_pool.specs.SeatWords.{StoresLink};
 ghost use Rattle.lfm_pool.specs.Seats.{state_of, RestsInOthers, SitsIn};
 
-use crate::layout::{HANDOFF, PUSH};
+use crate::handoff::{handoff_exchange, handoff_load};
+use crate::layout::PUSH;
 use crate::pool::{Pool, PoolSeat};
 use crate::seat_words::link_store;
 use crate::step::next_step;
 use lfm_table::operations::Access;
-use lfm_words::{Handoff, Link, pack_handoff, pack_link};
+use lfm_words::{Link, pack_link};
 
 /// Loads the push word. Returns the word; the next step stores the seat's link after it.
 #[inline(always)]
@@ -40,9 +42,10 @@ pub fn load_handoff(pool: &Pool, seat: &mut PoolSeat, mutex: usize) -> u64
     requires elsewhere { RestsInOthers seat.old mutex }
     requires at { LoadsHandoff (state_of seat.old mutex) }
     ensures belongs { SameSeat seat.old seat.new }
-    ensures loads { LoadsHandoffIn seat.old seat.new pool.now mutex result }
+    ensures may { MayStepIn seat.new pool.now mutex }
+    ensures loads { FindsHandoffIn seat.old seat.new pool.now mutex result }
 {
-    next_step(pool, seat, mutex, Access::Load(HANDOFF))
+    handoff_load(pool, seat, mutex)
 }
 
 /// Stores the seat's link after this push word, which it has loaded, and makes the exchange by which its record becomes the
@@ -68,22 +71,21 @@ pub fn push(pool: &Pool, seat: &mut PoolSeat, mutex: usize, loaded: Link) -> u64
     next_step(pool, seat, mutex, access)
 }
 
-/// Tries to take over this post, which the seat has found after its push: the exchange of the handoff word from it to 0.
-/// Returns the handoff word that it found. If that is the post, the call has the responsibility, and its next step grants
-/// the oldest record of the pop list, makes the seat the owner if that record is its own, or clears the head of the push
-/// word if there is none. Else another seat was faster: the call has ended, and the seat sleeps until a receive finds a
-/// grant.
+/// Tries to take over the post in this handoff word, which the seat has found after its push: the exchange of the handoff
+/// word from it to 0. Returns the handoff word that it found. If that is the post, the call has the responsibility, and its
+/// next step grants the oldest record of the pop list, makes the seat the owner if that record is its own, or clears the
+/// head of the push word if there is none. Else another seat was faster: the call has ended, and the seat sleeps until a
+/// receive finds a grant.
 #[inline(always)]
-pub fn take_over(pool: &Pool, seat: &mut PoolSeat, mutex: usize, posted: Handoff) -> u64
+pub fn take_over(pool: &Pool, seat: &mut PoolSeat, mutex: usize, post: u64) -> u64
     requires belongs { OfPool seat.old pool.now }
     requires mutex { IsMutex mutex pool.now }
     requires sits { SitsIn seat.old pool.now mutex }
     requires elsewhere { RestsInOthers seat.old mutex }
-    requires at { TakesPost posted (state_of seat.old mutex) }
+    requires at { TakesWord post seat.old mutex }
     ensures belongs { SameSeat seat.old seat.new }
-    ensures takes { TakesOverIn seat.old seat.new pool.now mutex posted result }
+    ensures may { MayStepIn seat.new pool.now mutex }
+    ensures takes { TakesWordIn seat.old seat.new pool.now mutex post result }
 {
-    let expected = pack_handoff(posted.seat, posted.post);
-    let access = Access::CompareExchange(HANDOFF, expected, 0);
-    next_step(pool, seat, mutex, access)
+    handoff_exchange(pool, seat, mutex, post)
 }

@@ -1,5 +1,6 @@
 //! The rule of a pool's table, and how a seat is split off.
-ghost use Rattle.lfm_pool.specs.Rule.{HeldPool, first_pool_view, left_view, right_view};
+ghost use Rattle.lfm_pool.specs.Posts.{HeldPosts};
+ghost use Rattle.lfm_pool.specs.Rule.{first_pool_view, left_view, right_view};
 
 use crate::view::PoolView;
 use atomic_table::{Split, TableRule};
@@ -16,7 +17,7 @@ pub struct PoolKey {
 pub struct PoolRule;
 
 impl TableRule<u64, PoolView, PoolKey> for PoolRule {
-    ghost holds = { λ _. HeldPool };
+    ghost holds = { λ _. HeldPosts };
 
     ghost first = { λ key. first_pool_view key.mutexes key.limits };
 }

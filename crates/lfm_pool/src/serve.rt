@@ -1,9 +1,9 @@
 //! How a call that carries a mutex serves the oldest queued seat: whose record is popped, or else, in an `unlock`, is found
 //! by collecting the push list.
-ghost use Rattle.std.specs.Prelude.{◌≡◌, None, IfSome};
+ghost use Rattle.std.specs.Prelude.{◌≡◌, None, IfSome, true};
 ghost use Rattle.lfm_pool.specs.Belongs.{IsMutex, OfPool, SameSeat};
 ghost use Rattle.lfm_pool.specs.Chain.{first_seat, rested};
-ghost use Rattle.lfm_pool.specs.Releasing.{FindsNoneIn, GrantsNextIn, IsServing};
+ghost use Rattle.lfm_pool.specs.Releasing.{FindsNoneIn, GrantsNextIn, IsServing, is_unlock};
 ghost use Rattle.lfm_pool.specs.Seats.{note_of, popped_of, RestsInOthers, SitsIn};
 ghost use Rattle.lfm_pool.specs.Serving.{GrantsIn, IsOldest, ServesOldest};
 
@@ -12,6 +12,7 @@ use crate::collect::{clear_head, collect};
 use crate::pool::{Pool, PoolSeat};
 use crate::seat_words::grant;
 use lfm_model::SeatNo;
+use lfm_protocol::points::Carrier;
 use lfm_words::{Record, unpack_link};
 
 /// Takes the oldest popped record out of the chain, and stores a grant for its seat. Returns the record. `oldest` is the
@@ -54,24 +55,27 @@ pub fn serve_oldest(pool: &Pool, seat: &mut PoolSeat, mutex: usize, oldest: u64)
     }
 }
 
-/// Serves the oldest queued seat for an `unlock` that has found others in the count. If records are popped, it grants the
-/// oldest. Else it collects the push list, and grants the oldest record of that. Returns the record that it granted: the
-/// call has ended, and the caller has to wake the thread of that seat. Returns None if the push list was empty too: the
-/// seats that are counted have not pushed their records yet, and the next step of the call posts.
+/// Serves the oldest queued seat for an `unlock` that has found others in the count, or has taken its post back: `carrier`
+/// says which of the two. If records are popped, it grants the oldest. Else it collects the push list, and grants the oldest
+/// record of that. Returns the record that it granted: the call has ended, and the caller has to wake the thread of that
+/// seat. Returns None if the push list was empty too: the seats that are counted have not pushed their records yet, and the
+/// next step of the call posts. A call that has taken its post back finds a record.
 ///
 /// The seat has to rest in all other mutexes. Nothing changes in them, nor in what the seat knows of them. It allocates
 /// nothing and does not wait.
-pub fn serve(pool: &Pool, seat: &mut PoolSeat, mutex: usize) -> Option<Record>
+pub fn serve(pool: &Pool, seat: &mut PoolSeat, mutex: usize, carrier: Carrier) -> Option<Record>
     requires belongs { OfPool seat.old pool.now }
     requires mutex { IsMutex mutex pool.now }
     requires sits { SitsIn seat.old pool.now mutex }
     requires elsewhere { RestsInOthers seat.old mutex }
-    requires at { IsServing seat.old mutex }
+    requires unlocks { is_unlock carrier ≡ true }
+    requires at { IsServing carrier seat.old mutex }
     requires whole { note_of seat.old mutex ≡ rested (popped_of seat.old mutex) }
     ensures belongs { SameSeat seat.old seat.new }
-    ensures grants { IfSome result (λ r. GrantsNextIn seat.old seat.new pool.now mutex r) }
-    ensures none { result ≡ None → FindsNoneIn seat.old seat.new pool.now mutex }
+    ensures grants { IfSome result (λ r. GrantsNextIn carrier seat.old seat.new pool.now mutex r) }
+    ensures none { result ≡ None → FindsNoneIn carrier seat.old seat.new pool.now mutex }
 {
+    let _carrier = carrier;
     let oldest = carried_load(pool, seat, mutex);
     if oldest != 0 {
         return Some(serve_oldest(pool, seat, mutex, oldest));

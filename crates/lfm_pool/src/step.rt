@@ -1,4 +1,4 @@
-//! The atomic steps of a seat in one mutex of a pool.
+//! The atomic steps of a seat in one mutex of a pool, except those on the handoff word, which are in `handoff`.
 ghost use Rattle.std.specs.Prelude.{◌≡◌, ◌+◌, ◌*◌, ◌<◌, ⊤, ℕ, List, [], Option, None, length};
 ghost use Rattle.lfm_protocol.specs.declared.seats.SeatState.{SeatState as StateNow};
 ghost use Rattle.lfm_protocol.specs.Seats.{absent};
@@ -17,9 +17,14 @@ use lfm_table::operations::Access;
 use std::marker::{Brand, PhantomData};
 
 /// For the proof alone: a step of one mutex, as a step at the table that the mutex would have by itself: the mutex, the
-/// seat's plain data before the step, the value that the seat has, and the slots.
+/// seat's plain data before the step, the value that the seat has, and the slots; for a step on the handoff word also the
+/// number of the seat, and the word that an exchange expects.
 pub trait OneMutex {
     ghost mutex: { ℕ };
+
+    ghost number: { ℕ };
+
+    ghost expected: { ℕ };
 
     ghost state: { StateNow };
 
@@ -30,6 +35,10 @@ pub trait OneMutex {
 
 impl OneMutex for Brand {
     ghost mutex = { 0 };
+
+    ghost number = { 0 };
+
+    ghost expected = { 0 };
 
     ghost state = { absent };
 
@@ -115,7 +124,7 @@ pub fn next_at(pool: &Pool, seat: &mut PoolSeat, mutex: usize, access: PoolAcces
     step_at::<Brand>(pool, seat, mutex, access)
 }
 
-/// `first_at`, for an access to one of the four words of the mutex.
+/// `first_at`, for an access to the count, the owner or the push word of the mutex.
 #[inline(always)]
 pub fn first_step(pool: &Pool, seat: &mut PoolSeat, mutex: usize, access: Access) -> u64
     requires table { seat.old.place.table_id ≡ pool.now.table.shared.table_id }
@@ -132,7 +141,7 @@ pub fn first_step(pool: &Pool, seat: &mut PoolSeat, mutex: usize, access: Access
     first_at(pool, seat, mutex, PoolAccess { index, access })
 }
 
-/// `next_at`, for an access to one of the four words of the mutex.
+/// `next_at`, for an access to the count, the owner or the push word of the mutex.
 #[inline(always)]
 pub fn next_step(pool: &Pool, seat: &mut PoolSeat, mutex: usize, access: Access) -> u64
     requires table { seat.old.place.table_id ≡ pool.now.table.shared.table_id }

@@ -1,15 +1,15 @@
 //! `try_lock` of a seat that does not hold the mutex. If the mutex is free, the call has two steps (`enter_if_free`). Else
 //! it loads the owner and the handoff word, and accepts a post that it finds there.
-ghost use Rattle.std.specs.Prelude.{◌≡◌, IfOk};
-ghost use Rattle.lfm_words.specs.Words.{handoff_of};
-ghost use Rattle.lfm_protocol.specs.declared.points.Point.TheVariants.{TryOwnerLoad, TryHandoffExchange};
+ghost use Rattle.std.specs.Prelude.{◌≡◌, ℕ, IfOk};
+ghost use Rattle.lfm_protocol.specs.declared.points.Point.TheVariants.{TryOwnerLoad};
 ghost use Rattle.lfm_pool.specs.Belongs.{IsMutex, OfPool, SameSeat};
 ghost use Rattle.lfm_pool.specs.Moves.{MakesAtMostIn, MayStepIn};
 ghost use Rattle.lfm_pool.specs.Seats.{state_of, HoldsOnceIn, MayTryIn, RestsInOthers};
-ghost use Rattle.lfm_pool.specs.TryLock.{AcceptsIn, EndsTryIn, TriesIn};
+ghost use Rattle.lfm_pool.specs.TryLock.{AcceptsWordIn, EndsTryIn, IsPostWord, TriesIn};
 
 use crate::fast_paths::enter_if_free;
-use crate::layout::{COUNT, HANDOFF, OWNER};
+use crate::handoff::{handoff_exchange, handoff_load};
+use crate::layout::{COUNT, OWNER};
 use crate::moves::go_on;
 use crate::pool::{Pool, PoolSeat};
 use lfm_model::{How, Locked, Refusal};
@@ -56,7 +56,7 @@ fn try_taken(pool: &Pool, seat: &mut PoolSeat, mutex: usize) -> Result<Locked, R
     ensures ends { EndsTryIn seat.old seat.new mutex result }
 {
     go_on(pool, seat, mutex, Access::Load(OWNER));
-    let post = go_on(pool, seat, mutex, Access::Load(HANDOFF));
+    let post = handoff_load(pool, seat, mutex);
     if Handoff::is_posted_in(post) {
         return accept(pool, seat, mutex, post);
     }
@@ -67,12 +67,12 @@ fn try_taken(pool: &Pool, seat: &mut PoolSeat, mutex: usize) -> Result<Locked, R
 /// If it succeeds, the call adds itself to the count and stores the owner. Refuses as Busy if the post had gone.
 fn accept(pool: &Pool, seat: &mut PoolSeat, mutex: usize, post: u64) -> Result<Locked, Refusal>
     requires may { MayStepIn seat.old pool.now mutex }
-    requires at { (state_of seat.old mutex).point ≡ TryHandoffExchange (handoff_of post) }
+    requires at { (l : ℕ) × IsPostWord post seat.old mutex l }
     ensures belongs { SameSeat seat.old seat.new }
     ensures may { MayStepIn seat.new pool.now mutex }
-    ensures accepts { AcceptsIn seat.old seat.new mutex post result }
+    ensures accepts { AcceptsWordIn seat.old seat.new mutex post result }
 {
-    let found = go_on(pool, seat, mutex, Access::CompareExchange(HANDOFF, post, 0));
+    let found = handoff_exchange(pool, seat, mutex, post);
     if found != post {
         return Err(Refusal::Busy);
     }

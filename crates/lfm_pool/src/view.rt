@@ -20,7 +20,15 @@ pub struct Known {
     pub note: Note,
 }
 
-/// What a seat of a pool knows of each mutex. No value of this type is ever made: it is for proofs alone.
+/// What a seat of a pool knows. No value of this type is ever made: it is for proofs alone.
 pub struct PoolView {
+    /// What it knows of each mutex.
     pub parts: LinkedList<Known>,
+
+    /// How many posts it has made, in all mutexes.
+    pub posts: u64,
+
+    /// If its open call has loaded a post and not tried for it yet, the number of that post among all posts of the seat that
+    /// made it; else 0.
+    pub found: u64,
 }

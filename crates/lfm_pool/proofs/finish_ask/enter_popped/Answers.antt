@@ -4,7 +4,7 @@ use Rattle.lfm_laws.specs.table.Carried.{carries_value}
 use Rattle.lfm_pool.specs.declared.view.Note.{Note}
 use Rattle.lfm_pool.specs.declared.view.PoolView.{PoolView}
 use Rattle.lfm_pool.specs.Tables.{part}
-use Rattle.lfm_pool.proofs.Finishing.{enter_access, enter_carries, enter_keeps, enter_next, enter_oldest, entered, may_enter, may_too, same_both}
+use Rattle.lfm_pool.proofs.Finishing.{enter_access, enter_carries, enter_keeps, enter_next, enter_oldest, enter_stamp, entered, may_enter, may_too, same_both}
 use Rattle.lfm_pool.specs.Seats.{state_of}
 use Rattle.lfm_pool.proofs.SeatWords.{same_after}
 use Rattle.lfm_pool.proofs.SeveralSteps.{same_then}
@@ -50,4 +50,4 @@ pub returns-clause-belongs : goal.returns-clause-belongs
 returns-clause-belongs c = let s = c.args.seat.now in let p = c.args.pool.now in let m = c.args.mutex in let may = c.requires.may in let own = c.requires.own in let whole = c.requires.whole in let f = c.chain_load-word in let g = c.carried_store in let l = c.unpack_link-link in let h = c.next_step in same_then s g.new.seat h.new.seat (same_both s p m may own whole f.new.seat g.new.seat f.ensures.knows f.ensures.belongs g.ensures.belongs l.result.next g.ensures.notes (enter_next s p m may own whole l.result f.result l.ensures.packs l.ensures.next f.ensures.finds f.ensures.within)) (same_after g.new.seat h.new.seat p.limits m h.result (state_of g.new.seat m) h.ensures.table h.ensures.step)
 
 pub returns-clause-finishes : goal.returns-clause-finishes
-returns-clause-finishes c = let s = c.args.seat.now in let p = c.args.pool.now in let m = c.args.mutex in let may = c.requires.may in let own = c.requires.own in let whole = c.requires.whole in let f = c.chain_load-word in let g = c.carried_store in let l = c.unpack_link-link in let h = c.next_step in entered s p m may own whole f.new.seat g.new.seat f.ensures.knows f.ensures.belongs g.ensures.belongs l.result.next g.ensures.notes (enter_next s p m may own whole l.result f.result l.ensures.packs l.ensures.next f.ensures.finds f.ensures.within) h.new.seat h.result h.ensures.step h.ensures.told
+returns-clause-finishes c = let s = c.args.seat.now in let p = c.args.pool.now in let m = c.args.mutex in let may = c.requires.may in let own = c.requires.own in let whole = c.requires.whole in let f = c.chain_load-word in let g = c.carried_store in let l = c.unpack_link-link in let h = c.next_step in entered s p m may own whole f.new.seat g.new.seat f.ensures.knows f.ensures.belongs g.ensures.belongs l.result.next g.ensures.notes (enter_next s p m may own whole l.result f.result l.ensures.packs l.ensures.next f.ensures.finds f.ensures.within) l.result.stamp (enter_stamp s p m may own whole l.result f.result l.ensures.packs l.ensures.next f.ensures.finds f.ensures.within) h.new.seat h.result h.ensures.step h.ensures.told

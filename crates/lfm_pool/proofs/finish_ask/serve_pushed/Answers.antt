@@ -1,4 +1,4 @@
-use Rattle.std.proofs.Common.{ap, sym, ◌∙◌}
+use Rattle.std.proofs.Common.{refl, ap, sym, ◌∙◌}
 use Rattle.lfm_words.specs.declared.links.Link.{Link}
 use Rattle.lfm_protocol.specs.declared.points.Carrier.{Carrier}
 use Rattle.lfm_pool.specs.Seats.{state_of}
@@ -50,7 +50,7 @@ pub returns-then-own-number-clause-belongs : goal.returns-then-own-number-clause
 returns-then-own-number-clause-belongs c = let s = c.args.seat.now in let p = c.args.pool.now in let m = c.args.mutex in let r = c.requires in let f = c.clear_head-word in let l = c.unpack_link-cleared in let is = ap (λ (x : Link). x.next) l.ensures.holds in let k = c.collect-record in let h = c.next_step in same_then s k.new.seat h.new.seat (same_all s p m r.may r.clears r.none r.whole f.new.seat f.result f.ensures.belongs f.ensures.step l.result.next is k.new.seat k.result k.ensures.belongs k.ensures.collects) (same_after k.new.seat h.new.seat p.limits m h.result (state_of k.new.seat m) h.ensures.table h.ensures.step)
 
 pub returns-then-own-number-clause-finishes : goal.returns-then-own-number-clause-finishes
-returns-then-own-number-clause-finishes c = let s = c.args.seat.now in let p = c.args.pool.now in let m = c.args.mutex in let r = c.requires in let f = c.clear_head-word in let l = c.unpack_link-cleared in let is = ap (λ (x : Link). x.next) l.ensures.holds in let k = c.collect-record in let h = c.next_step in finished_own s p m r.may r.clears r.none r.whole f.new.seat f.result f.ensures.belongs f.ensures.step l.result.next is k.new.seat k.result k.ensures.belongs k.ensures.collects (sym c.get-own.ensures.value ∙ c.if-own-number.true ∙ (same_all s p m r.may r.clears r.none r.whole f.new.seat f.result f.ensures.belongs f.ensures.step l.result.next is k.new.seat k.result k.ensures.belongs k.ensures.collects).number) h.new.seat h.result h.ensures.step (h.ensures.told ∙ (same_all s p m r.may r.clears r.none r.whole f.new.seat f.result f.ensures.belongs f.ensures.step l.result.next is k.new.seat k.result k.ensures.belongs k.ensures.collects).number)
+returns-then-own-number-clause-finishes c = let s = c.args.seat.now in let p = c.args.pool.now in let m = c.args.mutex in let r = c.requires in let f = c.clear_head-word in let l = c.unpack_link-cleared in let is = ap (λ (x : Link). x.next) l.ensures.holds in let k = c.collect-record in let h = c.next_step in finished_own s p m r.may r.clears r.none r.whole f.new.seat f.result f.ensures.belongs f.ensures.step l.result.next is k.new.seat k.result k.ensures.belongs k.ensures.collects (sym c.get-own.ensures.value ∙ c.if-own-number.true ∙ (same_all s p m r.may r.clears r.none r.whole f.new.seat f.result f.ensures.belongs f.ensures.step l.result.next is k.new.seat k.result k.ensures.belongs k.ensures.collects).number) k.result.stamp refl h.new.seat h.result h.ensures.step (h.ensures.told ∙ (same_all s p m r.may r.clears r.none r.whole f.new.seat f.result f.ensures.belongs f.ensures.step l.result.next is k.new.seat k.result k.ensures.belongs k.ensures.collects).number)
 
 pub grant-requires-clause-belongs : goal.grant-requires-clause-belongs
 grant-requires-clause-belongs c = let s = c.args.seat.now in let p = c.args.pool.now in let m = c.args.mutex in let r = c.requires in let f = c.clear_head-word in let l = c.unpack_link-cleared in let is = ap (λ (x : Link). x.next) l.ensures.holds in let k = c.collect-record in (may_collected s p m r.may r.clears r.none r.whole f.new.seat f.result f.ensures.belongs f.ensures.step l.result.next is k.new.seat k.result k.ensures.belongs k.ensures.collects).belongs

@@ -1,35 +1,24 @@
-use Rattle.std.proofs.Common.{nat_eq, if◌then◌else◌}
+use Rattle.std.proofs.Common.{nat_eq, if◌then◌else◌, refl, ap}
 use Rattle.lfm_words.specs.Words.{handoff_of}
 use Rattle.lfm_protocol.specs.declared.points.Point.TheVariants.{Asleep, PushedHandoffLoad, PushedHandoffExchange}
-use Rattle.lfm_protocol.specs.declared.points.Sleeper.TheVariants as Sleeper
-use Rattle.lfm_pool.proofs.Pushing.{after_handoff, loads_handoff, one_step}
 use Rattle.lfm_protocol.specs.declared.points.Pusher.{Pusher}
-use Rattle.lfm_pool.specs.Seats.{state_of}
-use Rattle.lfm_pool.proofs.SeatWords.{same_after}
-use Rattle.std.proofs.Common.{refl}
-use Rattle.lfm_pool.proofs.Keeping.{keeps_at}
-use Rattle.lfm_pool.specs.Seats.{note_of}
-use Rattle.lfm_pool.specs.Tables.{part}
+use Rattle.lfm_protocol.specs.declared.points.Sleeper.TheVariants as Sleeper
+use Rattle.lfm_pool.specs.Handoff.{forgetting, loads_handoff}
+use Rattle.lfm_pool.proofs.Pushing.{after_handoff, one_step}
 use Rattle.lfm_pool.proofs.push.load_handoff.Goals as goal
 
-pub next_step-requires-clause-table : goal.next_step-requires-clause-table
-next_step-requires-clause-table c = c.requires.belongs.table
+pub handoff_load-requires-clause-may : goal.handoff_load-requires-clause-may
+handoff_load-requires-clause-may c = record { belongs = c.requires.belongs; mutex = c.requires.mutex; sits = c.requires.sits; elsewhere = c.requires.elsewhere }
 
-pub next_step-requires-clause-inside : goal.next_step-requires-clause-inside
-next_step-requires-clause-inside c = (c.requires.mutex, c.requires.belongs.parts)
-
-pub next_step-requires-clause-is_next : goal.next_step-requires-clause-is_next
-next_step-requires-clause-is_next c = loads_handoff c.args.pool.now.limits.seats c.args.seat.now.number (state_of c.args.seat.now c.args.mutex) c.requires.at
-
-pub returns-clause-belongs : goal.returns-clause-belongs
-returns-clause-belongs c = same_after c.args.seat.now c.next_step.new.seat c.args.pool.now.limits c.args.mutex c.next_step.result (state_of c.args.seat.now c.args.mutex) c.next_step.ensures.table c.next_step.ensures.step
+pub handoff_load-requires-clause-at : goal.handoff_load-requires-clause-at
+handoff_load-requires-clause-at c = ap loads_handoff c.requires.at
 
 pub returns-clause-loads : goal.returns-clause-loads
 returns-clause-loads c =
-    let s = c.args.seat.now in
-    one_step s.number s.place.id c.args.mutex c.args.pool.now.limits s.place.me c.next_step.new.seat.place.me c.next_step.result (PushedHandoffLoad Pusher.Locker)
-    (if nat_eq (handoff_of c.next_step.result).seat 0 then Asleep Sleeper.Locker else PushedHandoffExchange Pusher.Locker (handoff_of c.next_step.result)) c.requires.at (after_handoff c.args.seat.now.number c.next_step.result) (λ d deep. deep) refl c.requires.sits c.next_step.ensures.step
-
-pub next_step-requires-clause-chained : goal.next_step-requires-clause-chained
-next_step-requires-clause-chained c =
-    let s = c.args.seat.now in keeps_at (state_of s c.args.mutex) s.number (part s.place.me.0 c.args.mutex) (note_of s c.args.mutex) (PushedHandoffLoad Pusher.Locker) c.requires.at refl refl
+    let s = c.args.seat.now in let d = c.handoff_load.ensures.step in (
+      d.0,
+      one_step s.number s.place.id c.args.mutex c.args.pool.now.limits s.place.me (forgetting c.handoff_load.new.seat.place.me) d.0 (PushedHandoffLoad Pusher.Locker)
+          (if nat_eq (handoff_of d.0).seat 0 then Asleep Sleeper.Locker else PushedHandoffExchange Pusher.Locker (handoff_of d.0)) c.requires.at (after_handoff s.number d.0) (λ e deep. deep) refl c.requires.sits d.1,
+      d.2,
+      d.3,
+    )

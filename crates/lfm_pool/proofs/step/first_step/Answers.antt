@@ -8,4 +8,4 @@ own_at-index-requires c =
 pub first_at-requires-clause-is_next : goal.first_at-requires-clause-is_next
 first_at-requires-clause-is_next c =
     let is = c.requires.is_next in let word = c.word_of.ensures in let index = c.own_at-index.ensures in
-    (is.0, inl (is.1, omega (arith, word, index)), inl is.1)
+    ((is.0, inl (is.1, omega (arith, word, index)), inl is.1), is.2)

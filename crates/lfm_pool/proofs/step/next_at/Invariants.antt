@@ -5,6 +5,8 @@ use Rattle.lfm_pool.proofs.step.next_at.Given as goal
 abbrev pub ghosts-step_at : goal.ghosts-step_at
 ghosts-step_at a = record {
   mutex = a.mutex;
+  number = 0;
+  expected = 0;
   state = state_in a.seat.now.place.me.0 a.mutex;
   hand = hand_out a.pool.now.limits.seats (state_in a.seat.now.place.me.0 a.mutex) (part a.seat.now.place.me.0 a.mutex);
   slots = slots_out a.pool.now.limits.seats (state_in a.seat.now.place.me.0 a.mutex) (part a.seat.now.place.me.0 a.mutex);

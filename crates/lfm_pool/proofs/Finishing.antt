@@ -127,7 +127,7 @@ module _ (s t : PoolSeat) (p : Pool) (m : ℕ) (may : MayStepIn s p m) (same : S
   ready_finished None did = record {
     sits = (may_finished None did).sits;
     rests = ap (λ (y : SeatState). y.point) (state_now None did);
-    once = ap (λ (y : SeatState). y.depth) (state_now None did);
+    now = subst (λ (d : ℕ). Sits t.number t.place.id p.limits (record (state_of t m) { depth = d }) (part t.place.me.0 m)) (ap (λ (y : SeatState). y.depth) (state_now None did)) (may_finished None did).sits;
     noted = whole_now None did did.3.2;
   }
   ready_finished (Some r) did = (Sleeper.Locker, ap (λ (y : SeatState). y.point) (state_now (Some r) did))

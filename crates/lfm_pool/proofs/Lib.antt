@@ -6,6 +6,8 @@ pub mod ChainLaws
 pub mod Chains
 pub mod CollectedRecords
 pub mod FastPaths
+pub mod DeepCalls
+pub mod Deepening
 pub mod Finishing
 pub mod Keeping
 pub mod Lifting
@@ -13,6 +15,7 @@ pub mod Links
 pub mod LoneTables
 pub mod NewSeats
 pub mod Opening
+pub mod Owners
 pub mod Parts
 pub mod PoppedRecords
 pub mod PoppedViews

@@ -4,6 +4,7 @@ pub mod Belongs
 pub mod Carrying
 pub mod Chain
 pub mod Collecting
+pub mod Depths
 pub mod FastPaths
 pub mod Finds
 pub mod FinishAsk

@@ -18,6 +18,8 @@ mod accesses;
 pub mod ask;
 mod chain;
 mod collect;
+pub mod deepen;
+pub mod depth;
 pub mod fast_paths;
 pub mod finish_ask;
 pub mod laws;

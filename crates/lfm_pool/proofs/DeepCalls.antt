@@ -1,6 +1,6 @@
 -- The calls of a seat that holds the mutex already, each as its steps.
-use Rattle.std.proofs.Common.{◌≡◌, ◌≢◌, ℕ, ◌+◌, ◌-◌, ◌*◌, ◌<◌, ◌≤◌, List, [], ◌∷◌, ◌++◌, length, refl, sym, ap, ◌∙◌, subst, inl, inr, arith}
-use Rattle.std.specs.Prelude.{⊤, true, ◌/◌, ◌%◌}
+use Rattle.std.proofs.Common.{◌≡◌, ◌≢◌, ℕ, ◌+◌, ◌-◌, ◌*◌, ◌<◌, List, [], ◌∷◌, length, refl, sym, ap, ◌∙◌, subst, inl, inr, arith}
+use Rattle.std.specs.Prelude.{true, ◌/◌, ◌%◌}
 use Rattle.std.proofs.lemmas.Bool.{cases_eq}
 use Rattle.atomic_table.specs.Table.{Me}
 use Rattle.lfm_words.specs.declared.pop_lists.Record.{Record}
@@ -12,10 +12,8 @@ use Rattle.lfm_protocol.specs.declared.seats.SeatState.{SeatState}
 use Rattle.lfm_protocol.specs.Limits.{max_depth, max_seats}
 use Rattle.lfm_laws.specs.table.Carried.{carries_value}
 use Rattle.lfm_table.specs.declared.operations.Access.{Access}
-use Rattle.lfm_table.specs.declared.seat_view.View.{View}
 use Rattle.lfm_table.specs.declared.seat_view.Seen.{Seen}
 use Rattle.lfm_table.specs.Actions.{seen}
-use Rattle.lfm_table.specs.Settled.{Became}
 use Rattle.lfm_table.proofs.tables.StepFacts.{became_depth, made_of}
 use Rattle.lfm_pool.specs.declared.pool.Pool.{Pool}
 use Rattle.lfm_pool.specs.declared.pool.PoolSeat.{PoolSeat}
@@ -29,7 +27,7 @@ use Rattle.lfm_pool.specs.Moves.{MayStepIn, StartsAtIn}
 use Rattle.lfm_pool.specs.Seats.{MovesIn, note_of, popped_of, state_of}
 use Rattle.lfm_pool.specs.Steps.{IsPlainAccessOf, Sits, StepsIn, begun_at, state_at, state_in}
 use Rattle.lfm_pool.specs.Tables.{note, part, with_part}
-use Rattle.lfm_pool.proofs.Deepening.{GoesTo, StaysBy, access_goes, ask_begun_deep, asked_finds, asked_leads, asks_owner, carries_deep, count_finds, count_leads, counts_deep, deepened, exchange_finds, exchange_leads, exchanges_deep, list_goes, may_noted, moved, note_goes, start_goes, state_goes, stored, subtracts_deep, told_depth, tried_finds, tried_leads, tries_owner, try_begun_deep, unlock_begun_deep}
+use Rattle.lfm_pool.proofs.Deepening.{GoesTo, access_goes, ask_begun_deep, asked_finds, asked_leads, asks_owner, carries_deep, count_finds, count_leads, counts_deep, deepened, exchange_finds, exchange_leads, exchanges_deep, list_goes, moved, note_goes, start_goes, state_goes, stored, subtracts_deep, told_depth, tried_finds, tried_leads, tries_owner, try_begun_deep, unlock_begun_deep}
 use Rattle.lfm_pool.proofs.FastPaths.{sits_after_begin}
 use Rattle.lfm_pool.proofs.SeveralSteps.{inside, same_then}
 

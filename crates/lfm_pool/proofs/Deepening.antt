@@ -1,6 +1,6 @@
 -- Steps of a seat that holds the mutex and goes on to hold it, and what its note is then.
-use Rattle.std.proofs.Common.{◌≡◌, ◌≢◌, ℕ, ◌+◌, ◌-◌, ◌*◌, ◌<◌, ◌≤◌, List, [], ◌∷◌, ◌++◌, length, nat_eq, nat_lt, refl, sym, ap, ◌∙◌, subst, inl, inr, arith, tests, append_assoc, Option}
-use Rattle.std.specs.Prelude.{⊤, Bool, true, false}
+use Rattle.std.proofs.Common.{◌≡◌, ◌≢◌, ℕ, ◌+◌, ◌-◌, ◌<◌, ◌≤◌, List, [], ◌∷◌, ◌++◌, length, nat_eq, nat_lt, refl, sym, ap, ◌∙◌, subst, inl, inr, arith, tests, append_assoc, Option}
+use Rattle.std.specs.Prelude.{⊤, true, false}
 use Rattle.std.proofs.lemmas.Bool.{cases_eq, eq-eqb, ne_eqb}
 use Rattle.lfm_words.specs.declared.pop_lists.Record.{Record}
 use Rattle.lfm_words.specs.Popped.{oldest}
@@ -26,7 +26,7 @@ use Rattle.lfm_pool.specs.declared.view.Note.{Note}
 use Rattle.lfm_pool.specs.Belongs.{SameSeat}
 use Rattle.lfm_pool.specs.Carrying.{NotesIn}
 use Rattle.lfm_pool.specs.Chain.{deep, needs_chain, note_after}
-use Rattle.lfm_pool.specs.Depths.{DeepensBy, HasDepth}
+use Rattle.lfm_pool.specs.Depths.{DeepensBy}
 use Rattle.lfm_pool.specs.FastPaths.{KnowsMoreOf}
 use Rattle.lfm_pool.specs.Moves.{Made, MayStepIn, StartsAtIn}
 use Rattle.lfm_pool.specs.Seats.{MovesIn, SitsIn, note_of, popped_of, state_of}
@@ -142,8 +142,8 @@ pub record StaysBy (x y : SeatState) (number n : ℕ) : Type 0 where
   pub list : (l : List Record) → popped_by_step x number n l ≡ l
   pub leads : (o : Option Record) → DepthAt (stepped_by x number n o).seat.depth (stepped_by x number n o).seat.point → (stepped_by x number n o).seat ≡ y
 
--- From s to t the seat has made these steps in mutex m, its data are x now, its note is k, and the popped records are as they
--- were.
+-- From s to t the seat has made these steps in mutex m, its data are x now, its note is k, and the popped records are as
+-- they were.
 abbrev pub GoesTo : PoolSeat → PoolSeat → Pool → ℕ → List Seen → SeatState → Note → Type 0
 GoesTo s t p m new x k =
     KnowsMoreOf m

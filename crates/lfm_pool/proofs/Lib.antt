@@ -1,5 +1,6 @@
 -- That steps, the opening and the splitting off of a seat keep the rule of a pool, and what a seat knows after them.
 pub use Rattle.atomic_table.proofs.Lists
+pub mod AnyDepth
 pub mod Asking
 pub mod CarrierWords
 pub mod ChainLaws

@@ -1,10 +1,10 @@
 -- A load of the owner word keeps the rule of the pool, and tells the seat whether it holds the mutex.
-use Rattle.std.proofs.Common.{◌≡◌, ℕ, ◌+◌, ◌*◌, ◌<◌, List, set, sym, refl, ap, ◌∙◌, subst, arith}
+use Rattle.std.proofs.Common.{◌≡◌, ℕ, ◌<◌, List, sym, refl, ap, ◌∙◌, subst, arith}
 use Rattle.std.specs.Prelude.{⊤, slice_index}
 use Rattle.std.proofs.lemmas.List.{set-get_or}
 use mathlib.Core.Option.{some}
 use lib.ListN.{get_elem?}
-use Rattle.atomic_table.specs.Table.{State, Me, keeps, Allows}
+use Rattle.atomic_table.specs.Table.{State, keeps, Allows}
 use Rattle.atomic_table.proofs.Lists.{set_again}
 use Rattle.lfm_protocol.specs.declared.seats.SeatState.{SeatState}
 use Rattle.lfm_protocol.specs.Seats.{seat, IsSeat}
@@ -17,7 +17,7 @@ use Rattle.lfm_pool.specs.declared.view.PoolView.{PoolView}
 use Rattle.lfm_pool.specs.Belongs.{IsMutex, OfPool}
 use Rattle.lfm_pool.specs.Depths.{TellsOwner}
 use Rattle.lfm_pool.specs.Rule.{own_at, HeldPool}
-use Rattle.lfm_pool.specs.Tables.{IsKept, part}
+use Rattle.lfm_pool.specs.Tables.{part}
 
 module _ (p : Pool) (t : PoolSeat) (m : ℕ) (belongs : OfPool t p) (mutex : IsMutex m p) where
   abbrev v : View ⊤

@@ -1,5 +1,5 @@
 -- How many times a seat holds a mutex of its pool when no call of it is open there, and what changes that.
-use Rattle.std.specs.Prelude.{◌≡◌, ◌≢◌, ⊤, ℕ, ◌+◌, ◌-◌, ◌<◌, ◌≤◌, List, [], ◌∷◌}
+use Rattle.std.specs.Prelude.{◌≡◌, ◌≢◌, ⊤, ℕ, ◌-◌, ◌<◌, ◌≤◌, List, [], ◌∷◌}
 use Rattle.lfm_protocol.specs.Limits.{max_depth}
 use Rattle.lfm_protocol.specs.declared.limits.Limits.{Limits}
 use Rattle.lfm_protocol.specs.declared.points.Point.TheVariants.{Rest, LockCountAdd, LockOwnerLoad, LockCountSubtract, TryCountExchange, TryOwnerLoad}
@@ -35,8 +35,8 @@ TellsOwner v n = (n ≡ v.number → 0 < v.state.depth) × (0 < v.state.depth �
 
 -- Deeper holds
 
--- The steps of a try_lock of the seat with this number, which holds the mutex: the count is not 0, since the seat is counted,
--- and the owner is the seat.
+-- The steps of a try_lock of the seat with this number, which holds the mutex: the count is not 0, since the seat is
+-- counted, and the owner is the seat.
 abbrev pub TryAgainSteps : ℕ → List Seen → Type 0
 TryAgainSteps number new = (count : ℕ) × (count ≢ 0) × (new ≡ seen TryCountExchange count ∷ seen TryOwnerLoad number ∷ [])
 

@@ -1,4 +1,5 @@
 -- What contracts say of a pool.
+pub mod AnyDepth
 pub mod Ask
 pub mod Belongs
 pub mod Carrying

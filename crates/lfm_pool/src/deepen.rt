@@ -1,8 +1,8 @@
 //! Holds of a mutex beyond the first: a `try_lock` and a `lock` of a seat that holds the mutex already, and an `unlock` of a
 //! seat that holds it more than once. The upper bits of the carried word have the number of holds beyond the first.
 //!
-//! In each of these functions the seat has to rest in all other mutexes, or it makes no step. Nothing changes in other
-//! mutexes, nor in what the seat knows of them. None allocates, waits or wakes a thread.
+//! A call that makes a step needs a seat that rests in all other mutexes. Nothing changes in other mutexes, nor in what the
+//! seat knows of them. None of these functions allocates, waits or wakes a thread.
 ghost use Rattle.std.specs.Prelude.{◌≡◌, ◌+◌, ◌-◌, ◌<◌, ◌≤◌, ℕ};
 ghost use Rattle.lfm_protocol.specs.Limits.{max_depth};
 ghost use Rattle.lfm_pool.specs.Belongs.{IsMutex, OfPool, SameSeat};
@@ -77,8 +77,8 @@ pub fn ask_again<C: OneCall>(pool: &Pool, seat: &mut PoolSeat, mutex: usize, dep
     depth + 1
 }
 
-/// An `unlock` of a seat that holds the mutex this many times, more than once: it gives one hold up, which is no step. Returns
-/// the new depth. It makes a load and a store of the carried word.
+/// An `unlock` of a seat that holds the mutex this many times, more than once: it gives one hold up, which is no step.
+/// Returns the new depth. It makes a load and a store of the carried word.
 pub fn give_up_one(pool: &Pool, seat: &mut PoolSeat, mutex: usize, depth: u32) -> u32
     requires belongs { OfPool seat.old pool.now }
     requires mutex { IsMutex mutex pool.now }

@@ -51,9 +51,9 @@ fn load_owner<B: OneOwner>(pool: &Pool, seat: &mut PoolSeat, _mutex: usize, inde
         .load::<OwnerLoad<B>>(&mut seat.place, index)
 }
 
-/// Loads the owner word of this mutex. Returns the number of the seat that owns it, or 0 if none does. It is the caller's own
-/// number exactly if the caller holds the mutex. Another seat's number may be out of date when the caller reads it. The call
-/// refuses nothing, not even for a seat that sleeps or has an open call.
+/// Loads the owner word of this mutex. Returns the number of the seat that owns it, or 0 if none does. It is the caller's
+/// own number exactly if the caller holds the mutex. Another seat's number may be out of date when the caller reads it. The
+/// call refuses nothing, not even for a seat that sleeps or has an open call.
 #[inline(always)]
 pub fn read_owner(pool: &Pool, seat: &mut PoolSeat, mutex: usize) -> u64
     requires belongs { OfPool seat.old pool.now }
@@ -66,8 +66,8 @@ pub fn read_owner(pool: &Pool, seat: &mut PoolSeat, mutex: usize) -> u64
     load_owner::<Brand>(pool, seat, mutex, index)
 }
 
-/// How many times the seat holds this mutex: 0 to 65,535. It loads the owner word, and the carried word if the seat holds the
-/// mutex. The seat has to rest in this mutex.
+/// How many times the seat holds this mutex: 0 to 65,535. It loads the owner word, and the carried word if the seat holds
+/// the mutex. The seat has to rest in this mutex.
 #[inline(always)]
 pub fn depth(pool: &Pool, seat: &mut PoolSeat, mutex: usize) -> u32
     requires belongs { OfPool seat.old pool.now }

@@ -1,7 +1,7 @@
 //! One step of a seat on a word of a mutex, with all that the seat needs for its next step. The calls are made of these
 //! functions, and of the steps of a push and on the words of seats. None is for a step that gives the mutex away or loads
-//! a link, which need something of the chain. In each of them nothing changes in other mutexes, nor in what the seat knows of them.
-//! None allocates or waits.
+//! a link, which need something of the chain. In each of them nothing changes in other mutexes, nor in what the seat knows
+//! of them. None allocates or waits.
 ghost use Rattle.lfm_pool.specs.Belongs.{SameSeat};
 ghost use Rattle.lfm_pool.specs.Finds.{Finds};
 ghost use Rattle.lfm_pool.specs.Moves.{MayStepIn, StartsAtIn, StartsIn};

@@ -1,4 +1,4 @@
-use Rattle.std.proofs.Common.{ℕ, sym, refl, ◌∙◌, subst, arith}
+use Rattle.std.proofs.Common.{ℕ, sym, refl, subst}
 use Rattle.lfm_protocol.specs.declared.answers.Call.{Call}
 use Rattle.lfm_table.specs.declared.operations.Access.{Access}
 use Rattle.lfm_pool.specs.Moves.{StartsAtIn}

@@ -1,4 +1,4 @@
-use Rattle.std.proofs.Common.{sym, ap, ◌∙◌, subst, arith}
+use Rattle.std.proofs.Common.{sym, ap, ◌∙◌, subst}
 use Rattle.atomic_table.specs.Table.{Me}
 use Rattle.lfm_laws.specs.table.Carried.{carries_value}
 use Rattle.lfm_pool.specs.declared.view.PoolView.{PoolView}

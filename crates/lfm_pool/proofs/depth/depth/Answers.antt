@@ -1,4 +1,4 @@
-use Rattle.std.proofs.Common.{ℕ, sym, ap, ◌∙◌, ◌+◌, ◌/◌, ◌≡◌, subst, arith}
+use Rattle.std.proofs.Common.{ℕ, sym, ap, ◌∙◌, ◌+◌, subst, arith}
 use Rattle.lfm_words.specs.declared.links.Link.{Link}
 use Rattle.lfm_pool.specs.Depths.{HasDepthIn}
 use Rattle.lfm_pool.proofs.DeepCalls.{carries_then, depth_none, depth_then}

@@ -335,8 +335,11 @@ module _ (p : Pool) (t : PoolSeat) (m : ℕ) (belongs : OfPool t p) (mutex : IsM
       → MayAccess p.table.shared.table_id.slots t.place.id t.place.me index (λ n. number) x (with_part t.place.me.0 m (part t.place.me.0 m) k) []
   writes index number x k same off held = may_access index (λ n. number) x (with_part t.place.me.0 m (part t.place.me.0 m) k) [] off (notes_keep t.place.me.0 m k here) (λ s h none at small. (with_part t.place.me.0 m (part t.place.me.0 m) k, keeps, tt, held s h at, (same, refl, λ r has. absurd has)))
 
-  pub loads_carried : (index : ℕ) → index ≡ own_at m 4 → MayAccess p.table.shared.table_id.slots t.place.id t.place.me index (λ n. n) (note_of t m).carried t.place.me.0 []
-  loads_carried index e = loads index (note_of t m).carried [] (λ s h at i less hit. omega (arith, e, hit)) (λ s h at. (ap (λ (i : ℕ). slice_index s.words i) e ∙ carried_is t.place.id m t.place.me.0 here carries s h at, λ r has. absurd has))
+  pub loads_carried : (index : ℕ) → index ≡ own_at m 4 → MayAccess p.table.shared.table_id.slots t.place.id t.place.me index (λ n. n) (note_of t m).carried t.place.me.0 (popped_of t m)
+  loads_carried index e = loads index (note_of t m).carried (popped_of t m) (λ s h at i less hit. omega (arith, e, hit)) (λ s h at. (
+    ap (λ (i : ℕ). slice_index s.words i) e ∙ carried_is t.place.id m t.place.me.0 here carries s h at,
+    are_within t.place.id m t.place.me.0 here carries s h at,
+  ))
 
   pub writes_carried : (index number : ℕ) → index ≡ own_at m 4
       → MayAccess p.table.shared.table_id.slots t.place.id t.place.me index (λ n. number) number (with_part t.place.me.0 m (part t.place.me.0 m) (record (note_of t m) { carried = number })) []

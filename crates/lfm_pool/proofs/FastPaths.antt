@@ -49,12 +49,19 @@ elsewhere_with v m w n rest i less other = rw (part_other v m i w n other) (rest
 
 -- The start of a call
 
-pub sits_begun : (number id : ℕ) (l : Limits) (v : View ⊤) → Sits number id l v.state v → (call : Call) → Sits number id l (Begin.begin v.state l call).seat v
-sits_begun number id l v sits call =
-    let b = Started.begun number (4 + 2 * l.seats) id l v.state (Begin.begin v.state l call).seat (v, in_hand (carries_value v.state)) (hand_of l.seats v.state v) sits.seated sits.became sits.ready sits.rooted call refl in
-    let same : carries_value (Begin.begin v.state l call).seat ≡ carries_value v.state = (begin_keeps v.state l call).0 in
-    subst (λ (c : Bool). Fit number (4 + 2 * l.seats) id l (Begin.begin v.state l call).seat (v, in_hand c) (hand_if c l.seats v)) (sym same)
+pub sits_after_begin : (number id : ℕ) (l : Limits) (p : SeatState) (v : View ⊤) → Sits number id l p v → (call : Call) → Sits number id l (Begin.begin p l call).seat v
+sits_after_begin number id l p v sits call =
+    let b = Started.begun number (4 + 2 * l.seats) id l p (Begin.begin p l call).seat (v, in_hand (carries_value p)) (hand_of l.seats p v) sits.seated sits.became sits.ready sits.rooted call refl in
+    let same : carries_value (Begin.begin p l call).seat ≡ carries_value p = (begin_keeps p l call).0 in
+    subst (λ (c : Bool). Fit number (4 + 2 * l.seats) id l (Begin.begin p l call).seat (v, in_hand c) (hand_if c l.seats v)) (sym same)
     (record { seated = b.seated; became = b.became; ready = b.ready; rooted = sits.rooted })
+
+pub sits_begun : (number id : ℕ) (l : Limits) (v : View ⊤) → Sits number id l v.state v → (call : Call) → Sits number id l (Begin.begin v.state l call).seat v
+sits_begun number id l v sits call = sits_after_begin number id l v.state v sits call
+
+-- the data of a seat that holds the mutex once
+abbrev pub at_once : View ⊤ → SeatState
+at_once v = record v.state { depth = 1 }
 
 below : (m n : ℕ) → m < n → nat_lt m n ≡ true
 below m n e = search (tests, arith, e)
@@ -154,8 +161,8 @@ module _ (number id m : ℕ) (l : Limits) (me me1 me2 : Me ℕ PoolView) (here :
           },
           record {
             sits = second.2;
+            now = subst (λ (d : ℕ). Sits number id l (record second.0.state { depth = d }) second.0) (ap (λ (z : SeatState). z.depth) p2) second.2;
             rests = ap (λ (z : SeatState). z.point) p2;
-            once = ap (λ (z : SeatState). z.depth) p2;
             noted = (λ i. note_by (carries_value (p1' i)) (carries_value second.0.state) (p1' i).point (note me1.0 m) second.0.popped)
                 ∙ note_now first.0 _ first.1 ∙ (λ i. note_by (carries_value (p0 i)) (carries_value (p1 i)) (p0 i).point (note me.0 m) first.0.popped)
                 ∙ ap rested (sym (second.3.listed ∙ ap (λ (y : SeatState). popped_by_step y number k second.3.popped) p1' ∙ second.3.had (ap carries_value p1') ∙ ap (λ (y : View ⊤). y.popped) now));
@@ -197,39 +204,39 @@ module _ (number id m : ℕ) (l : Limits) (me me1 me2 : Me ℕ PoolView) (here :
       let x = (part me.0 m).state in
       subst (λ (y : SeatState). IsOwnAccessOf seats number y (Access.CompareExchange 0 0 1)) (sym (try_begun x l may.rests may.flat may.charged)) (exchanges seats number (x.takes + 1) x.posts)
 
-  pub releasing : (seats : ℕ) → HoldsOnce number id l (part me.0 m) (note me.0 m) → IsOwnAccessOf seats number (Begin.begin (part me.0 m).state l Call.Unlock).seat (Access.Store 1 0)
+  pub releasing : (seats : ℕ) → HoldsOnce number id l (part me.0 m) (note me.0 m) → IsOwnAccessOf seats number (Begin.begin (at_once (part me.0 m)) l Call.Unlock).seat (Access.Store 1 0)
   releasing seats holds =
-      let x = (part me.0 m).state in
-      subst (λ (y : SeatState). IsOwnAccessOf seats number y (Access.Store 1 0)) (sym (unlock_begun x l holds.rests holds.once)) (gives_up seats number x.takes x.posts)
+      let x = at_once (part me.0 m) in
+      subst (λ (y : SeatState). IsOwnAccessOf seats number y (Access.Store 1 0)) (sym (unlock_begun x l holds.rests refl)) (gives_up seats number x.takes x.posts)
 
-  pub released : (n : ℕ) → HoldsOnce number id l (part me.0 m) (note me.0 m) → StepsIn number id m l (Begin.begin (part me.0 m).state l Call.Unlock).seat me n me1
+  pub released : (n : ℕ) → HoldsOnce number id l (part me.0 m) (note me.0 m) → StepsIn number id m l (Begin.begin (at_once (part me.0 m)) l Call.Unlock).seat me n me1
       → (part me1.0 m).state ≡ made_of 0 (part me.0 m).state.takes (part me.0 m).state.posts (ReleaseCountSubtract Unlocker)
   released n holds first =
-      let x = (part me.0 m).state in
-      ap (λ (y : View ⊤). y.state) (part_now first.0 _ first.1) ∙ first.3.state ∙ ap (λ (y : SeatState). (stepped_by y number n (oldest first.3.popped)).seat) (unlock_begun x l holds.rests holds.once)
+      let x = at_once (part me.0 m) in
+      ap (λ (y : View ⊤). y.state) (part_now first.0 _ first.1) ∙ first.3.state ∙ ap (λ (y : SeatState). (stepped_by y number n (oldest first.3.popped)).seat) (unlock_begun x l holds.rests refl)
 
   -- the chain is as it was
-  pub noted_released : (n : ℕ) → (holds : HoldsOnce number id l (part me.0 m) (note me.0 m)) → StepsIn number id m l (Begin.begin (part me.0 m).state l Call.Unlock).seat me n me1
+  pub noted_released : (n : ℕ) → (holds : HoldsOnce number id l (part me.0 m) (note me.0 m)) → StepsIn number id m l (Begin.begin (at_once (part me.0 m)) l Call.Unlock).seat me n me1
       → (note me1.0 m ≡ rested (part me.0 m).popped) × ((part me1.0 m).popped ≡ (part me.0 m).popped)
   noted_released n holds first =
-      let x = (part me.0 m).state in
-      let p0 = unlock_begun x l holds.rests holds.once in (
+      let x = at_once (part me.0 m) in
+      let p0 = unlock_begun x l holds.rests refl in (
         note_now first.0 _ first.1 ∙ (λ i. note_by (carries_value (p0 i)) (carries_value first.0.state) (p0 i).point (note me.0 m) first.0.popped) ∙ holds.noted,
         ap (λ (y : View ⊤). y.popped) (part_now first.0 _ first.1) ∙ first.3.listed ∙ ap (λ (y : SeatState). popped_by_step y number n first.3.popped) p0 ∙ first.3.had (ap carries_value p0),
       )
 
-  pub subtracting : (seats n : ℕ) → HoldsOnce number id l (part me.0 m) (note me.0 m) → StepsIn number id m l (Begin.begin (part me.0 m).state l Call.Unlock).seat me n me1
+  pub subtracting : (seats n : ℕ) → HoldsOnce number id l (part me.0 m) (note me.0 m) → StepsIn number id m l (Begin.begin (at_once (part me.0 m)) l Call.Unlock).seat me n me1
       → IsOwnAccessOf seats number (part me1.0 m).state (Access.FetchSub 0 1)
   subtracting seats n holds first =
       subst (λ (y : SeatState). IsOwnAccessOf seats number y (Access.FetchSub 0 1)) (sym (released n holds first)) (subtracts seats number (part me.0 m).state.takes (part me.0 m).state.posts)
 
   -- unlock that leaves the mutex free
-  pub left_free : (n k : ℕ) → n ≡ 0 → k ≡ 1 → (holds : HoldsOnce number id l (part me.0 m) (note me.0 m)) → StepsIn number id m l (Begin.begin (part me.0 m).state l Call.Unlock).seat me n me1 → StepsIn number id m l (part me1.0 m).state me1 k me2
+  pub left_free : (n k : ℕ) → n ≡ 0 → k ≡ 1 → (holds : HoldsOnce number id l (part me.0 m) (note me.0 m)) → StepsIn number id m l (Begin.begin (at_once (part me.0 m)) l Call.Unlock).seat me n me1 → StepsIn number id m l (part me1.0 m).state me1 k me2
       → KnowsMoreOf m (λ w i. Leaves (part me.0 m) w × Sits number id l w.state w) me me2
   left_free n k told last holds first second =
-      let x = (part me.0 m).state in
+      let x = at_once (part me.0 m) in
       let now = part_now first.0 _ first.1 in
-      let p0 = unlock_begun x l holds.rests holds.once in
+      let p0 = unlock_begun x l holds.rests refl in
       let p1 = released n holds first in
       let p2 : second.0.state ≡ made_of 0 x.takes x.posts Rest = second.3.state ∙ ap (λ (y : SeatState). (stepped_by y number k (oldest second.3.popped)).seat) p1 ∙ subtracted_last x.takes x.posts number k (oldest second.3.popped) last in
       let trail1 : first.0.trail ≡ (part me.0 m).trail ++ seen (ReleaseOwnerStore Unlocker) n ∷ [] = first.3.trail ∙ ap (λ (y : Point). (part me.0 m).trail ++ seen y n ∷ []) (ap (λ (z : SeatState). z.point) p0) in
@@ -244,7 +251,7 @@ module _ (number id m : ℕ) (l : Limits) (me me1 me2 : Me ℕ PoolView) (here :
             trail = subst (λ (i : ℕ). second.0.trail ≡ (part me.0 m).trail ++ (seen (ReleaseOwnerStore Unlocker) i ∷ seen (ReleaseCountSubtract Unlocker) 1 ∷ [])) told (trail2 ∙ ap (λ ts. ts ++ seen (ReleaseCountSubtract Unlocker) 1 ∷ []) trail1 ∙ append_assoc (part me.0 m).trail (seen (ReleaseOwnerStore Unlocker) n ∷ []) (seen (ReleaseCountSubtract Unlocker) 1 ∷ []));
             rests = ap (λ (z : SeatState). z.point) p2;
             flat = ap (λ (z : SeatState). z.depth) p2;
-            run = run_next (goes_on number id l (Begin.begin x l Call.Unlock).seat first.0.state (part me.0 m) first.0 n (sits_begun number id l (part me.0 m) holds.sits Call.Unlock) first.2 first.3)
+            run = run_next (goes_on number id l (Begin.begin x l Call.Unlock).seat first.0.state (part me.0 m) first.0 n (sits_after_begin number id l (at_once (part me.0 m)) (part me.0 m) holds.now Call.Unlock) first.2 first.3)
                 (subst (λ (y : View ⊤). RunGoesOn y second.0) now (goes_on number id l (part me1.0 m).state second.0.state (part me1.0 m) second.0 k (subst (λ (y : View ⊤). Sits number id l y.state y) (sym now) first.2) second.2 second.3));
           },
           second.2,
@@ -252,12 +259,12 @@ module _ (number id m : ℕ) (l : Limits) (me me1 me2 : Me ℕ PoolView) (here :
       )
 
   -- unlock that has to serve another seat
-  pub left_to_serve : (n k : ℕ) → n ≡ 0 → k ≢ 1 → (holds : HoldsOnce number id l (part me.0 m) (note me.0 m)) → StepsIn number id m l (Begin.begin (part me.0 m).state l Call.Unlock).seat me n me1 → StepsIn number id m l (part me1.0 m).state me1 k me2
+  pub left_to_serve : (n k : ℕ) → n ≡ 0 → k ≢ 1 → (holds : HoldsOnce number id l (part me.0 m) (note me.0 m)) → StepsIn number id m l (Begin.begin (at_once (part me.0 m)) l Call.Unlock).seat me n me1 → StepsIn number id m l (part me1.0 m).state me1 k me2
       → KnowsMoreOf m (λ w i. Serves number k (part me.0 m) w × Sits number id l w.state w × (i ≡ rested w.popped)) me me2
   left_to_serve n k told more holds first second =
-      let x = (part me.0 m).state in
+      let x = at_once (part me.0 m) in
       let now = part_now first.0 _ first.1 in
-      let p0 = unlock_begun x l holds.rests holds.once in
+      let p0 = unlock_begun x l holds.rests refl in
       let p1 = released n holds first in
       let listed1 : first.0.popped ≡ (part me.0 m).popped =
       first.3.listed ∙ ap (λ (y : SeatState). popped_by_step y number n first.3.popped) p0 ∙ first.3.had (ap carries_value p0)
@@ -281,7 +288,7 @@ module _ (number id m : ℕ) (l : Limits) (me me1 me2 : Me ℕ PoolView) (here :
             trail = trail2 ∙ ap (λ ts. ts ++ seen (ReleaseCountSubtract Unlocker) k ∷ []) trail1 ∙ append_assoc (part me.0 m).trail (seen (ReleaseOwnerStore Unlocker) 0 ∷ []) (seen (ReleaseCountSubtract Unlocker) k ∷ []);
             state = p2;
             kept = second.3.listed ∙ ap (λ (y : SeatState). popped_by_step y number k second.3.popped) p1 ∙ listed2;
-            run = run_next (goes_on number id l (Begin.begin x l Call.Unlock).seat first.0.state (part me.0 m) first.0 n (sits_begun number id l (part me.0 m) holds.sits Call.Unlock) first.2 first.3)
+            run = run_next (goes_on number id l (Begin.begin x l Call.Unlock).seat first.0.state (part me.0 m) first.0 n (sits_after_begin number id l (at_once (part me.0 m)) (part me.0 m) holds.now Call.Unlock) first.2 first.3)
                 (subst (λ (y : View ⊤). RunGoesOn y second.0) now (goes_on number id l (part me1.0 m).state second.0.state (part me1.0 m) second.0 k (subst (λ (y : View ⊤). Sits number id l y.state y) (sym now) first.2) second.2 second.3));
           },
           second.2,

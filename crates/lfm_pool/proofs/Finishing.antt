@@ -128,7 +128,7 @@ module _ (s t : PoolSeat) (p : Pool) (m : ℕ) (may : MayStepIn s p m) (same : S
   ready_finished (Finished.Held stamp) did = record {
     sits = (may_finished (Finished.Held stamp) did).sits;
     rests = ap (λ (y : SeatState). y.point) (state_now (Finished.Held stamp) did);
-    once = ap (λ (y : SeatState). y.depth) (state_now (Finished.Held stamp) did);
+    now = subst (λ (d : ℕ). Sits t.number t.place.id p.limits (record (state_of t m) { depth = d }) (part t.place.me.0 m)) (ap (λ (y : SeatState). y.depth) (state_now (Finished.Held stamp) did)) (may_finished (Finished.Held stamp) did).sits;
     noted = whole_now (Finished.Held stamp) did did.3.2;
   }
   ready_finished (Finished.Granted r) did = (Sleeper.Locker, ap (λ (y : SeatState). y.point) (state_now (Finished.Granted r) did))

@@ -1,12 +1,15 @@
 -- That steps, the opening and the splitting off of a seat keep the rule of a pool, and what a seat knows after them.
 pub use Rattle.atomic_table.proofs.Lists
 pub mod AllAsked
+pub mod AnyDepth
 pub mod Asking
 pub mod CarrierWords
 pub mod ChainLaws
 pub mod Chains
 pub mod CollectedRecords
 pub mod FastPaths
+pub mod DeepCalls
+pub mod Deepening
 pub mod Finishing
 pub mod Forgotten
 pub mod HandoffSteps
@@ -16,6 +19,7 @@ pub mod Links
 pub mod LoneTables
 pub mod NewSeats
 pub mod Opening
+pub mod Owners
 pub mod Parts
 pub mod PassingOn
 pub mod PoppedRecords

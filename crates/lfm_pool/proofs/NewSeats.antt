@@ -1,7 +1,7 @@
 -- What the first seat of a pool and the seats that are split off it know while the pool opens, and that each may try every
 -- mutex.
 use Rattle.std.proofs.Common.{◌≡◌, ℕ, zero, suc, true, ◌+◌, ◌*◌, ◌<◌, ◌≤◌, [], ◌∷◌, length, map, replicate, get_or, refl, sym, ap, ◌∙◌, subst, arith, tests}
-use Rattle.std.specs.Prelude.{⊤}
+use Rattle.std.specs.Prelude.{⊤, false}
 use Rattle.std.proofs.lemmas.List.{length-replicate}
 use Rattle.lfm_protocol.specs.declared.limits.Limits.{Limits}
 use Rattle.lfm_protocol.specs.declared.seats.SeatState.{SeatState}
@@ -100,8 +100,8 @@ same_rests mutexes m v rest n less other =
 
 -- a seat that knows the same of each mutex, where it rests, has made no step and may try, is new
 pub is_new : (s : PoolSeat) (p : Pool) (number : ℕ) (l : Limits) (v : View ⊤) → s.place.table_id ≡ p.table.shared.table_id → p.limits ≡ l → s.number ≡ number → s.place.me ≡ (same_of_each p.mutexes v, [])
-    → v.trail ≡ [] → rests v ≡ true → MayTry number s.place.id l v → OfPool s p × IsNew number p s
-is_new s p number l v table limits_are named me none rest may =
+    → v.trail ≡ [] → rests v ≡ true → MayTry number s.place.id l v → s.asleep ≡ false → OfPool s p × IsNew number p s
+is_new s p number l v table limits_are named me none rest may awake =
     let seen : (m : ℕ) → IsMutex m p → part s.place.me.0 m ≡ v = λ m less. ap (λ (z : Me ℕ PoolView). part z.0 m) me ∙ part_same_of_each p.mutexes m v less in (
       record { table = table; parts = ap (λ (z : Me ℕ PoolView). length z.0.parts) me ∙ length-replicate p.mutexes (unnoted v) },
       record {
@@ -110,15 +110,16 @@ is_new s p number l v table limits_are named me none rest may =
         no_step = λ m less. ap (λ (w : View ⊤). w.trail) (seen m less) ∙ none;
         no_post = sym s.counted ∙ ap (λ (z : Me ℕ PoolView). z.0.posts) me;
         elsewhere = λ m. subst (λ (z : Me ℕ PoolView). RestsElsewhere z.0 m) (sym me) (same_rests p.mutexes m v rest);
+        awake = awake;
       },
     )
 
 pub first_is_new : (s : PoolSeat) (p : Pool) (l : Limits) (k : ℕ) → are_in_limits l.seats l.budget ≡ true → k + 1 ≡ l.seats → s.place.table_id ≡ p.table.shared.table_id → s.place.id ≡ 0 → p.limits ≡ l
-    → s.number ≡ 1 → s.place.me ≡ (same_of_each p.mutexes (first_after l k), []) → OfPool s p × IsNew 1 p s
-first_is_new s p l k allowed last table id limits_are named me =
-    is_new s p 1 l (first_after l k) table limits_are named me refl refl (subst (λ (i : ℕ). MayTry 1 i l (first_after l k)) (sym id) (first_may_try l k allowed last))
+    → s.number ≡ 1 → s.place.me ≡ (same_of_each p.mutexes (first_after l k), []) → s.asleep ≡ false → OfPool s p × IsNew 1 p s
+first_is_new s p l k allowed last table id limits_are named me awake =
+    is_new s p 1 l (first_after l k) table limits_are named me refl refl (subst (λ (i : ℕ). MayTry 1 i l (first_after l k)) (sym id) (first_may_try l k allowed last)) awake
 
 pub split_is_new : (s : PoolSeat) (p : Pool) (l : Limits) (k : ℕ) → are_in_limits l.seats l.budget ≡ true → k + 2 ≤ l.seats → s.place.table_id ≡ p.table.shared.table_id → p.limits ≡ l
-    → s.number ≡ k + 2 → s.place.me ≡ (same_of_each p.mutexes (split_after l k), []) → OfPool s p × IsNew (k + 2) p s
-split_is_new s p l k allowed most table limits_are named me =
-    is_new s p (k + 2) l (split_after l k) table limits_are named me refl refl (split_may_try s.place.id l k allowed most)
+    → s.number ≡ k + 2 → s.place.me ≡ (same_of_each p.mutexes (split_after l k), []) → s.asleep ≡ false → OfPool s p × IsNew (k + 2) p s
+split_is_new s p l k allowed most table limits_are named me awake =
+    is_new s p (k + 2) l (split_after l k) table limits_are named me refl refl (split_may_try s.place.id l k allowed most) awake

@@ -5,6 +5,7 @@ use Rattle.std.proofs.lemmas.Bool.{false≢true}
 use Rattle.atomic_table.specs.Table.{Me, rest}
 use Rattle.lfm_protocol.specs.declared.limits.Limits.{Limits}
 use Rattle.lfm_protocol.specs.declared.seats.SeatState.{SeatState}
+use Rattle.lfm_laws.specs.steady.Steady.{DepthAt}
 use Rattle.lfm_laws.specs.table.Carried.{carries_value}
 use Rattle.lfm_laws.specs.table.Words.{stepped_by, popped_by_step}
 use Rattle.lfm_words.specs.Popped.{oldest}
@@ -42,7 +43,7 @@ module _ (number id : ℕ) (l : Limits) (p : SeatState) (v : View ⊤) (sits : S
       Kept.can_make any_follows any_fits number (4 + 2 * l.seats) id l p (v, in_hand (carries_value p)) (hand_of l.seats p v) sits.seated sits.became sits.ready sits.rooted
       (kept_out (gives_at p.point) (dropped p (hand_of l.seats p v))) (v, slots_out l.seats p v) refl refl (λ r at x e. (tt, λ y f. tt))
 
-  module _ (n : ℕ) (w : View ⊤) (after : List (ℕ × Slot)) (did : Advanced any_follows any_fits p (hand_out l.seats p v) (v, slots_out l.seats p v) n (w, after)) where
+  module _ (n : ℕ) (w : View ⊤) (after : List (ℕ × Slot)) (did : Advanced any_follows any_fits p (hand_out l.seats p v) (v, slots_out l.seats p v) n (w, after)) (deep_now : DepthAt w.state.depth w.state.point) where
     -- what the seat has after the step, before it takes the value out of the slot
     abbrev a2 : Slot
     a2 = with_record p number n a1
@@ -86,6 +87,7 @@ module _ (number id : ℕ) (l : Limits) (p : SeatState) (v : View ⊤) (sits : S
       popped = did.popped;
       had = did.had;
       deep = did.deep;
+      deep_now = deep_now;
       room = did.room;
       state = did.state ∙ ap (λ (i : ℕ). (stepped_by p i n (oldest did.popped)).seat) sits.seated.named;
       listed = did.listed ∙ ap (λ (i : ℕ). popped_by_step p i n did.popped) sits.seated.named;

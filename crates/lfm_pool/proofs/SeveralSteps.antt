@@ -83,7 +83,7 @@ module _ (s t : PoolSeat) (p : Pool) (m : ℕ) where
       let is = state_after new x may made in record {
         sits = later.sits;
         rests = ap (λ (z : SeatState). z.point) is ∙ rest;
-        once = ap (λ (z : SeatState). z.depth) is ∙ one;
+        now = subst (λ (d : ℕ). Sits t.number t.place.id p.limits (record (state_of t m) { depth = d }) (part t.place.me.0 m)) (ap (λ (z : SeatState). z.depth) is ∙ one) later.sits;
         noted = whole_after new x may made (λ i. carries_value (made_of (one i) x.takes x.posts x.point));
       }
 

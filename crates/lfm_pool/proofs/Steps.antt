@@ -29,7 +29,7 @@ use Rattle.lfm_protocol.specs.Place.{carries}
 use Rattle.lfm_protocol.specs.Seats.{seat, wake, with_entry, IsSeat}
 use Rattle.lfm_protocol.specs.Step.{made}
 use Rattle.lfm_laws.specs.steady.EventOutcome.{abstract}
-use Rattle.lfm_laws.specs.steady.Steady.{Fits}
+use Rattle.lfm_laws.specs.steady.Steady.{DepthAt, Fits}
 use Rattle.lfm_laws.specs.table.Carried.{carries_value}
 use Rattle.lfm_laws.specs.table.Settles.{Settles}
 use Rattle.lfm_laws.specs.table.Words.{words, index, index_by, written_by, stepped_by, popped_by_step}
@@ -607,6 +607,10 @@ module _ (id m number mutexes seats : ℕ) (me : Me ℕ PoolView) (p : SeatState
       idle = idle_by (carries_value p) refl;
     }
 
+    -- its depth is one that a seat has at its point
+    deep_now : DepthAt goes.0.state.depth goes.0.state.point
+    deep_now = subst (λ (x : SeatState). DepthAt x.depth x.point) (goes.3.each id goes.0 own_after).state (goes.3.fits.each (id + 1)).depth
+
     held : HeldPool (record { words = set s.words X (f found); homes = s.homes; views = set s.views id (with_part me.0 m goes.0 (note_after p goes.0 (note me.0 m))) })
     held = held_after id m me.0 here elsewhere s h at X Y (f found) slots goes.0 (note_after p goes.0 (note me.0 m)) goes.1 popped_now due_now goes.3 goes.4 is_word lifts.2 chained
 
@@ -621,7 +625,7 @@ module _ (id m number mutexes seats : ℕ) (me : Me ℕ PoolView) (p : SeatState
   pub step_allowed : Allows HeldPool 0 id me a.index (becomes a.access) (λ n me'. TellsOf m p (λ x. Advanced any_follows any_fits p hand (part me.0 m, slots) x) me (told_of (is_store a.access) (becomes a.access n) n) me')
   step_allowed s h none at small =
       let g = goes s h at in
-      (with_part me.0 m g.0 (note_after p g.0 (note me.0 m)), keeps, tt, held s h at, (g.0, carried_after slots g.1, g.5, refl))
+      (with_part me.0 m g.0 (note_after p g.0 (note me.0 m)), keeps, tt, held s h at, (g.0, carried_after slots g.1, g.5, refl, deep_now s h at))
 
 -- The same with the number of slots and the mutex as the table and the step name them
 pub allowed_at : (slot_count picked_m : ℕ) → slot_count ≡ 0 → (id m number mutexes seats : ℕ) (me : Me ℕ PoolView) (p : SeatState) (hand : Option ⊤) (slots : List (ℕ × Slot)) → picked_m ≡ m → (m < mutexes) × (length me.0.parts ≡ mutexes)

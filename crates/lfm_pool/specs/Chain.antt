@@ -1,9 +1,9 @@
 -- The popped records of a mutex as a chain in the link words of their seats, from the oldest on, and what the seat that
 -- carries the mutex knows of it.
-use Rattle.std.specs.Prelude.{◌≡◌, ◌⊎◌, ⊤, ℕ, ◌-◌, ◌+◌, ◌≤◌, Bool, true, false, List, [], ◌∷◌, slice_index}
+use Rattle.std.specs.Prelude.{◌≡◌, ◌⊎◌, ⊤, ℕ, ◌-◌, ◌+◌, ◌*◌, ◌≤◌, Bool, true, false, List, [], ◌∷◌, slice_index}
 use Rattle.lfm_words.specs.declared.pop_lists.Record.{Record}
 use Rattle.lfm_words.specs.Popped.{oldest}
-use Rattle.lfm_words.specs.Words.{link_word}
+use Rattle.lfm_words.specs.Words.{link_word, seat_field_size}
 use Rattle.lfm_protocol.specs.declared.points.Carrier.{Carrier}
 use Rattle.lfm_protocol.specs.declared.points.Point.{Point}
 use Rattle.lfm_protocol.specs.declared.points.Point.TheVariants.{TakeLinkLoad}
@@ -48,6 +48,11 @@ IsChain mutexes words (r ∷ rest) =
 -- how many holds the owner has beyond its first, are 0.
 abbrev pub rested : List Record → Note
 rested popped = record { due = 0; carried = first_seat popped }
+
+-- The same of a seat that rests, and holds the mutex this many times beyond its first hold: the upper bits of the carried
+-- word have that number.
+abbrev pub deep : ℕ → List Record → Note
+deep more popped = record (rested popped) { carried = more * seat_field_size + first_seat popped }
 
 -- how many records are not in the chain after a step at this point: the load of a link adds a record to the pop list
 abbrev pub due_after : Point → ℕ → ℕ

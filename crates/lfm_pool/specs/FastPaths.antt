@@ -24,11 +24,12 @@ pub record MayTry (number id : ℕ) (l : Limits) (v : View ⊤) : Type 0 where
   pub flat : v.state.depth ≡ 0
   pub charged : v.state.takes < l.budget
 
--- a seat at rest in mutex m that holds it once: the carried word has no further hold
+-- A seat at rest in mutex m that holds it once: the carried word has no further hold. Its depth was greater after its last
+-- step there if it has given up holds since.
 pub record HoldsOnce (number id : ℕ) (l : Limits) (v : View ⊤) (note : Note) : Type 0 where
   pub sits : Sits number id l v.state v
+  pub now : Sits number id l (record v.state { depth = 1 }) v
   pub rests : v.state.point ≡ Rest
-  pub once : v.state.depth ≡ 1
   pub noted : note ≡ rested v.popped
 
 -- the seat with this number has acquired a free mutex by a try_lock: the exchange found the count at 0, and then it stored

@@ -1,10 +1,12 @@
 -- What contracts say of a pool.
+pub mod AnyDepth
 pub mod Ask
 pub mod AskAll
 pub mod Belongs
 pub mod Carrying
 pub mod Chain
 pub mod Collecting
+pub mod Depths
 pub mod FastPaths
 pub mod Finds
 pub mod FinishAsk

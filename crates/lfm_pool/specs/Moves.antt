@@ -11,7 +11,7 @@ use Rattle.lfm_pool.specs.Belongs.{IsMutex, OfPool}
 use Rattle.lfm_pool.specs.Chain.{note_since}
 use Rattle.lfm_pool.specs.FastPaths.{KnowsMoreOf}
 use Rattle.lfm_pool.specs.Seats.{RestsInOthers, SitsIn, note_of}
-use Rattle.lfm_pool.specs.Steps.{StepsIn, begun_in}
+use Rattle.lfm_pool.specs.Steps.{StepsIn, begun_at, begun_in}
 use Rattle.lfm_pool.specs.Tables.{part}
 
 -- The seat may make a step in mutex m: it is a seat of the pool and between two steps there, and it rests in all others.
@@ -36,6 +36,11 @@ MakesIn s t m new x =
 -- from s to t the seat has begun this call in mutex m and made its first step, which found or stored n
 abbrev pub StartsIn : PoolSeat → PoolSeat → Pool → ℕ → Call → ℕ → Type 0
 StartsIn s t p m call n = StepsIn s.number s.place.id m p.limits (begun_in s.place.me.0 m p.limits call) s.place.me n t.place.me
+
+-- the same, if the seat held the mutex this many times when it began the call
+abbrev pub StartsAtIn : PoolSeat → PoolSeat → Pool → ℕ → ℕ → Call → ℕ → Type 0
+StartsAtIn s t p m depth call n =
+    StepsIn s.number s.place.id m p.limits (begun_at s.place.me.0 m depth p.limits call) s.place.me n t.place.me
 
 -- from s to t the seat has made at most this number of steps in mutex m
 abbrev pub MakesAtMostIn : ℕ → PoolSeat → PoolSeat → ℕ → Type 0

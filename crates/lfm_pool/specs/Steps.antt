@@ -35,11 +35,12 @@ use Rattle.lfm_pool.specs.Tables.{Slot, note, part, with_part, rests}
 abbrev pub RestsElsewhere : PoolView → ℕ → Type 0
 RestsElsewhere v m = (n : ℕ) → n < length v.parts → n ≢ m → rests (part v n) ≡ true
 
--- what the step tells of mutex m, as a step at its table: the seat, whose data were p, has the view w and these slots now
+-- What the step tells of mutex m, as a step at its table: the seat, whose data were p, has the view w and these slots now.
+-- Its depth is one that a seat has at its point.
 abbrev pub TellsOf : ℕ → SeatState → (ℕ → Me Slot (View ⊤) → Type 0) → Me ℕ PoolView → ℕ → Me ℕ PoolView → Type 0
 TellsOf m p tells me n me' =
     (w : View ⊤) × (slots : List (ℕ × Slot)) × tells n (w, slots)
-    × (me' ≡ (with_part me.0 m w (note_after p w (note me.0 m)), me.1))
+    × (me' ≡ (with_part me.0 m w (note_after p w (note me.0 m)), me.1)) × DepthAt w.state.depth w.state.point
 
 -- the access is the next step of the seat with this number, whose data are p, at the table of a mutex with this many seats
 abbrev pub IsAccessOf : ℕ → ℕ → SeatState → Access → Type 0
@@ -110,11 +111,12 @@ Sits number id l p v = Fit number (4 + 2 * l.seats) id l p (v, in_hand (carries_
 
 -- The seat's data p in a mutex before a step, and what it knows of the mutex before it and after it. It found or stored n.
 -- The pop list was `popped` before the step; a seat that carries the value knew that. It had room for a record, if the step
--- has added one.
+-- has added one. Before it and after it, its depth is one that a seat has at its point.
 pub record Stepped (number : ℕ) (p : SeatState) (v : View ⊤) (n : ℕ) (w : View ⊤) : Type 0 where
   pub popped : List Record
   pub had : carries_value p ≡ true → popped ≡ v.popped
   pub deep : DepthAt p.depth p.point
+  pub deep_now : DepthAt w.state.depth w.state.point
   pub room : PopFits (length popped) v.limits.seats (kind p.point)
   pub state : w.state ≡ (stepped_by p number n (oldest popped)).seat
   pub listed : w.popped ≡ popped_by_step p number n popped
@@ -137,6 +139,13 @@ state_in v m = (part v m).state
 
 abbrev pub begun_in : PoolView → ℕ → Limits → Call → SeatState
 begun_in v m l call = (Begin.begin (state_in v m) l call).seat
+
+-- The same if the seat, which rests, holds mutex m this many times: it may have given up holds since its last step there.
+abbrev pub state_at : PoolView → ℕ → ℕ → SeatState
+state_at v m depth = record (state_in v m) { depth = depth }
+
+abbrev pub begun_at : PoolView → ℕ → ℕ → Limits → Call → SeatState
+begun_at v m depth l call = (Begin.begin (state_at v m depth) l call).seat
 
 -- the call whose first step is an access of this kind
 abbrev pub call_of : Access → Call

@@ -146,7 +146,7 @@ pub fn carried_store(pool: &Pool, seat: &mut PoolSeat, mutex: usize, number: u64
     store_word::<Brand>(pool, seat, WordOf { mutex, index }, number);
 }
 
-/// Loads the carried word. Returns the number.
+/// Loads the carried word. Returns the number. It tells that all popped records are of seats.
 #[inline(always)]
 pub fn carried_load(pool: &Pool, seat: &mut PoolSeat, mutex: usize) -> u64
     requires belongs { OfPool seat.old pool.now }
@@ -154,6 +154,7 @@ pub fn carried_load(pool: &Pool, seat: &mut PoolSeat, mutex: usize) -> u64
     requires carries { CarriesIn seat.old mutex }
     ensures belongs { SameSeat seat.old seat.new }
     ensures finds { result ≡ (note_of seat.old mutex).carried }
+    ensures within { AreWithin max_seats (popped_of seat.old mutex) }
     ensures knows { seat.new.place.me ≡ seat.old.place.me }
 {
     let index = own_at(mutex, CARRIED);

@@ -7,6 +7,7 @@ use crate::layout::{COUNT, OWNER};
 use crate::pool::{Pool, PoolSeat};
 use crate::step::{first_step, next_step};
 use lfm_table::operations::Access;
+use std::marker::Brand;
 
 /// Begins a `try_lock` of this mutex and makes its first step, the exchange of the count. If the mutex is free, it also
 /// stores the owner, and the seat holds the mutex once. Returns the count that it found: 0 if the mutex was free. If it is
@@ -24,7 +25,7 @@ pub fn enter_if_free(pool: &Pool, seat: &mut PoolSeat, mutex: usize) -> u64
     ensures enters { result ≡ 0 → EntersIn seat.old seat.new pool.now mutex }
     ensures finds { result ≢ 0 → FindsTakenIn seat.old seat.new pool.now mutex result }
 {
-    let found = first_step(pool, seat, mutex, Access::CompareExchange(COUNT, 0, 1));
+    let found = first_step::<Brand>(pool, seat, mutex, Access::CompareExchange(COUNT, 0, 1));
     if found != 0 {
         return found;
     }
@@ -50,6 +51,6 @@ pub fn leave(pool: &Pool, seat: &mut PoolSeat, mutex: usize) -> u64
     ensures leaves { result ≡ 1 → LeavesIn seat.old seat.new pool.now mutex }
     ensures serves { result ≢ 1 → ServesIn seat.old seat.new pool.now mutex result }
 {
-    first_step(pool, seat, mutex, Access::Store(OWNER, 0));
+    first_step::<Brand>(pool, seat, mutex, Access::Store(OWNER, 0));
     next_step(pool, seat, mutex, Access::FetchSub(COUNT, 1))
 }

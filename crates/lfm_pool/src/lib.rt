@@ -5,23 +5,26 @@
 //! The crate has the rule that the words of a pool keep, the opening of a pool with its seats, and each step on the words of
 //! a mutex and on the link and wake words of seats. Of the calls it has a `try_lock`; a `lock` without its sleep
 //! (`ask_without_waking`, and its two parts: `begin_ask`, and `finish_ask` if that has taken a post over); the receive of a
-//! seat that sleeps; and an `unlock`. The calls need a seat that does not hold the mutex, or, to unlock, holds it once.
+//! seat that sleeps; and an `unlock`. These need a seat that does not hold the mutex, or, to unlock, holds it once. The module
+//! `calls` has `try_lock`, `ask` and `unlock` for a seat that holds the mutex any number of times, up to 65,535.
 //!
 //! The popped records of a mutex are a chain in the link words of their seats, and its carried word names the oldest. A call
 //! that carries a mutex collects the queued records into that chain, and serves the oldest: an `unlock` does so if other
-//! seats want the mutex, and a `lock` that has taken a post over.
+//! seats want the mutex, and a `lock` that has taken a post over. The carried word also has how many holds the owner of the
+//! mutex has beyond its first.
 //!
 //! A seat counts the posts of its unlocks in all mutexes by one counter, from which each post takes its number. So a seat
 //! needs no counter for each mutex.
-//!
-//! Not here yet are holds of a mutex that its seat holds already.
 #![tactic(auto)]
 
 mod accesses;
 pub mod ask;
 pub mod ask_all;
+pub mod calls;
 mod chain;
 mod collect;
+mod deepen;
+pub mod depth;
 pub mod fast_paths;
 pub mod finish_ask;
 mod handoff;

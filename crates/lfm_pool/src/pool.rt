@@ -1,5 +1,5 @@
 //! A pool and its seats, and how a pool is opened.
-ghost use Rattle.std.specs.Prelude.{◌≡◌, ◌↔◌, ◌+◌, ◌*◌, ◌^◌, ◌<◌, ◌≤◌, ℕ, [], length, true, IfOk, IsTrue, vec_len};
+ghost use Rattle.std.specs.Prelude.{◌≡◌, ◌↔◌, ◌+◌, ◌*◌, ◌^◌, ◌<◌, ◌≤◌, ℕ, [], length, false, true, IfOk, IsTrue, vec_len};
 ghost use mathlib.Core.Option.{some};
 ghost use lib.ListN.{get_elem?};
 ghost use Rattle.lfm_protocol.specs.Limits.{are_in_limits, max_seats};
@@ -24,13 +24,18 @@ pub struct Pool {
 }
 
 /// A seat of a pool: a thread's handle of all its mutexes. It is a number, the count of the posts that it has made in all
-/// mutexes, and a token without bytes by which the rule of the table knows what the seat may do. It may hold any number of
-/// mutexes at once.
+/// mutexes, whether it sleeps, and a token without bytes by which the rule of the table knows what the seat may do. It may
+/// hold any number of mutexes at once, each up to 65,535 times.
 #[derive(Drop)]
 pub struct PoolSeat {
     pub(crate) place: Seat<u64, PoolView>,
     pub(crate) number: u64,
+
+    /// How many posts it has made in all mutexes.
     pub(crate) posts: u64,
+
+    /// Whether the seat sleeps, in whichever mutex of the pool. The functions of `calls` store it.
+    pub(crate) asleep: bool,
     pub ghost counted: { place.me.0.posts ≡ posts },
 }
 
@@ -45,6 +50,7 @@ impl PoolSeat {
 
 impl Pool {
     ghost use Rattle.lfm_pool.specs.Belongs.{IsNew, OfPool};
+    ghost use Rattle.lfm_pool.specs.AnyDepth.{IsBetweenCalls};
 
     /// A pool of this many free mutexes, numbered from 0, and its seats in order, numbered from 1. Each seat rests in all
     /// mutexes, holds none, and may make `budget` takes of each. It requests memory for the words and for the list of seats,
@@ -59,6 +65,7 @@ impl Pool {
         requires many { mutexes < 2 ^ 32 }
         ensures pool { IfOk result (λ r. (r.0.mutexes ≡ mutexes) × (r.0.limits ≡ limits)) }
         ensures seats { IfOk result (λ r. (vec_len r.1 ≡ limits.seats) × ((j : ℕ) (s : _) → get_elem? r.1.items j ≡ some s → OfPool s r.0 × IsNew (j + 1) r.0 s)) }
+        ensures between { IfOk result (λ r. (j : ℕ) (s : _) → get_elem? r.1.items j ≡ some s → IsBetweenCalls s r.0) }
     {
         let Ok(mut all) = Vec::with_capacity(alloc, limits.seats as usize) else {
             return Err(AllocError);
@@ -86,7 +93,7 @@ impl Pool {
         requires allowed { are_in_limits limits.seats limits.budget ≡ true }
         requires many { mutexes < 2 ^ 32 }
         ensures pool { IfOk result (λ r. (r.0.mutexes ≡ mutexes) × (r.0.limits ≡ limits)) }
-        ensures seat { IfOk result (λ r. (r.1.number ≡ 1) × (r.1.place.table_id ≡ r.0.table.shared.table_id) × (r.1.place.id ≡ 0) × (r.1.place.me ≡ (first_pool_view mutexes limits, []))) }
+        ensures seat { IfOk result (λ r. (r.1.number ≡ 1) × (r.1.place.table_id ≡ r.0.table.shared.table_id) × (r.1.place.id ≡ 0) × (r.1.place.me ≡ (first_pool_view mutexes limits, [])) × (r.1.asleep ≡ false)) }
     {
         let count = mutexes * MUTEX_WORDS + limits.seats as usize * SEAT_WORDS;
         let Ok(words) = Vec::from_elem(alloc, 0u64, count) else {
@@ -105,6 +112,7 @@ impl Pool {
             place,
             number: 1,
             posts: 0,
+            asleep: false,
         };
         Ok((pool, first))
     }
@@ -114,13 +122,14 @@ impl Pool {
         requires table { (first.old.place.table_id ≡ self.now.table.shared.table_id) × (first.old.place.id ≡ 0) }
         requires inside { length first.old.place.me.0.parts ≡ self.now.mutexes }
         requires may { MaySplit first.old.place.me.0 }
-        ensures table { (first.new.place.table_id ≡ first.old.place.table_id) × (first.new.place.id ≡ first.old.place.id) × (first.new.number ≡ first.old.number) }
-        ensures split { (first.new.place.me ≡ (left_view first.old.place.me.0, first.old.place.me.1)) × (result.place.table_id ≡ first.old.place.table_id) × (result.place.me ≡ (right_view first.old.place.me.0, [])) × (result.number ≡ number) }
+        ensures table { (first.new.place.table_id ≡ first.old.place.table_id) × (first.new.place.id ≡ first.old.place.id) × (first.new.number ≡ first.old.number) × (first.new.asleep ≡ first.old.asleep) }
+        ensures split { (first.new.place.me ≡ (left_view first.old.place.me.0, first.old.place.me.1)) × (result.place.table_id ≡ first.old.place.table_id) × (result.place.me ≡ (right_view first.old.place.me.0, [])) × (result.number ≡ number) × (result.asleep ≡ false) }
     {
         PoolSeat {
             place: self.table.shared.split_seat::<PoolSplit>(&mut first.place),
             number,
             posts: 0,
+            asleep: false,
         }
     }
 }

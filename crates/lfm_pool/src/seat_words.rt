@@ -21,6 +21,7 @@ use crate::step::{first_at, next_at};
 use lfm_table::layout as lone;
 use lfm_table::operations::Access;
 use lfm_words::{Link, Record, Wake, pack_link};
+use std::marker::Brand;
 
 /// Stores the seat's link: the stamp of this push word, which the seat has loaded, plus 1, and its head.
 #[inline(always)]
@@ -98,7 +99,7 @@ pub fn wake_load(pool: &Pool, seat: &mut PoolSeat, mutex: usize) -> u64
     let index = wake_at(pool.mutexes, number);
     let word = lone::wake_at(pool.limits.seats, number);
     let access = Access::Load(word);
-    first_at(pool, seat, mutex, PoolAccess { index, access })
+    first_at::<Brand>(pool, seat, mutex, PoolAccess { index, access })
 }
 
 /// Stores QUIET in the wake word of the seat, which has found a grant there.

@@ -6,7 +6,7 @@ ghost use Rattle.lfm_table.specs.Rule.{Advanced};
 ghost use Rattle.lfm_table.specs.Steps.{CanMake};
 ghost use Rattle.lfm_pool.specs.Finds.{Finds};
 ghost use Rattle.lfm_pool.specs.Tables.{Slot, any_follows, any_fits, part};
-ghost use Rattle.lfm_pool.specs.Steps.{state_in, begun_in, call_of, IsOwnAccessOf, IsStepAt, IsTold, KeepsChainIn, RestsElsewhere, Sits, StepsIn, TellsOf};
+ghost use Rattle.lfm_pool.specs.Steps.{state_in, begun_at, call_of, IsOwnAccessOf, IsStepAt, IsTold, KeepsChainIn, RestsElsewhere, Sits, StepsIn, TellsOf};
 
 use crate::accesses::{PoolAccess, word_of};
 use crate::layout::own_at;
@@ -45,6 +45,15 @@ impl OneMutex for Brand {
     ghost hand = { None };
 
     ghost slots = { [] };
+}
+
+/// For the proof alone: how many times the seat holds the mutex at the start of a call.
+pub trait OneCall {
+    ghost depth: { ℕ };
+}
+
+impl OneCall for Brand {
+    ghost depth = { 0 };
 }
 
 /// One step in one mutex.
@@ -93,15 +102,20 @@ fn step_at<B: OneMutex>(pool: &Pool, seat: &mut PoolSeat, mutex: usize, access: 
 /// Starts the call whose first step is this access, and makes that step: `step_at`, with what holds of a seat between two
 /// steps before and after it.
 #[inline(always)]
-pub fn first_at(pool: &Pool, seat: &mut PoolSeat, mutex: usize, access: PoolAccess) -> u64
+pub fn first_at<C: OneCall>(
+    pool: &Pool,
+    seat: &mut PoolSeat,
+    mutex: usize,
+    access: PoolAccess,
+) -> u64
     requires table { seat.old.place.table_id ≡ pool.now.table.shared.table_id }
     requires inside { (mutex < pool.now.mutexes) × (length seat.old.place.me.0.parts ≡ pool.now.mutexes) }
-    requires sits { Sits seat.old.number seat.old.place.id pool.now.limits (begun_in seat.old.place.me.0 mutex pool.now.limits (call_of access.access)) (part seat.old.place.me.0 mutex) }
-    requires is_next { IsStepAt pool.now.mutexes pool.now.limits.seats mutex seat.old.number (begun_in seat.old.place.me.0 mutex pool.now.limits (call_of access.access)) access }
+    requires sits { Sits seat.old.number seat.old.place.id pool.now.limits (begun_at seat.old.place.me.0 mutex C.depth pool.now.limits (call_of access.access)) (part seat.old.place.me.0 mutex) }
+    requires is_next { IsStepAt pool.now.mutexes pool.now.limits.seats mutex seat.old.number (begun_at seat.old.place.me.0 mutex C.depth pool.now.limits (call_of access.access)) access }
     requires elsewhere { RestsElsewhere seat.old.place.me.0 mutex }
-    requires chained { KeepsChainIn seat.old.number mutex (begun_in seat.old.place.me.0 mutex pool.now.limits (call_of access.access)) seat.old.place.me.0 }
+    requires chained { KeepsChainIn seat.old.number mutex (begun_at seat.old.place.me.0 mutex C.depth pool.now.limits (call_of access.access)) seat.old.place.me.0 }
     ensures table { (seat.new.place.table_id ≡ seat.old.place.table_id) × (seat.new.place.id ≡ seat.old.place.id) × (seat.new.number ≡ seat.old.number) }
-    ensures step { StepsIn seat.old.number seat.old.place.id mutex pool.now.limits (begun_in seat.old.place.me.0 mutex pool.now.limits (call_of access.access)) seat.old.place.me result seat.new.place.me }
+    ensures step { StepsIn seat.old.number seat.old.place.id mutex pool.now.limits (begun_at seat.old.place.me.0 mutex C.depth pool.now.limits (call_of access.access)) seat.old.place.me result seat.new.place.me }
     ensures told { IsTold access.access result }
 {
     step_at::<Brand>(pool, seat, mutex, access)
@@ -126,19 +140,19 @@ pub fn next_at(pool: &Pool, seat: &mut PoolSeat, mutex: usize, access: PoolAcces
 
 /// `first_at`, for an access to the count, the owner or the push word of the mutex.
 #[inline(always)]
-pub fn first_step(pool: &Pool, seat: &mut PoolSeat, mutex: usize, access: Access) -> u64
+pub fn first_step<C: OneCall>(pool: &Pool, seat: &mut PoolSeat, mutex: usize, access: Access) -> u64
     requires table { seat.old.place.table_id ≡ pool.now.table.shared.table_id }
     requires inside { (mutex < pool.now.mutexes) × (length seat.old.place.me.0.parts ≡ pool.now.mutexes) }
-    requires sits { Sits seat.old.number seat.old.place.id pool.now.limits (begun_in seat.old.place.me.0 mutex pool.now.limits (call_of access)) (part seat.old.place.me.0 mutex) }
-    requires is_next { IsOwnAccessOf pool.now.limits.seats seat.old.number (begun_in seat.old.place.me.0 mutex pool.now.limits (call_of access)) access }
+    requires sits { Sits seat.old.number seat.old.place.id pool.now.limits (begun_at seat.old.place.me.0 mutex C.depth pool.now.limits (call_of access)) (part seat.old.place.me.0 mutex) }
+    requires is_next { IsOwnAccessOf pool.now.limits.seats seat.old.number (begun_at seat.old.place.me.0 mutex C.depth pool.now.limits (call_of access)) access }
     requires elsewhere { RestsElsewhere seat.old.place.me.0 mutex }
-    requires chained { KeepsChainIn seat.old.number mutex (begun_in seat.old.place.me.0 mutex pool.now.limits (call_of access)) seat.old.place.me.0 }
+    requires chained { KeepsChainIn seat.old.number mutex (begun_at seat.old.place.me.0 mutex C.depth pool.now.limits (call_of access)) seat.old.place.me.0 }
     ensures table { (seat.new.place.table_id ≡ seat.old.place.table_id) × (seat.new.place.id ≡ seat.old.place.id) × (seat.new.number ≡ seat.old.number) }
-    ensures step { StepsIn seat.old.number seat.old.place.id mutex pool.now.limits (begun_in seat.old.place.me.0 mutex pool.now.limits (call_of access)) seat.old.place.me result seat.new.place.me }
+    ensures step { StepsIn seat.old.number seat.old.place.id mutex pool.now.limits (begun_at seat.old.place.me.0 mutex C.depth pool.now.limits (call_of access)) seat.old.place.me result seat.new.place.me }
     ensures told { IsTold access result }
 {
     let index = own_at(mutex, word_of(access));
-    first_at(pool, seat, mutex, PoolAccess { index, access })
+    first_at::<Brand>(pool, seat, mutex, PoolAccess { index, access })
 }
 
 /// `next_at`, for an access to the count, the owner or the push word of the mutex.

@@ -5,7 +5,7 @@ use Rattle.lfm_table.specs.declared.operations.Access.{Access}
 use Rattle.lfm_table.specs.declared.seat_view.View.{View}
 use Rattle.lfm_pool.specs.Tables.{part}
 use Rattle.lfm_pool.specs.Steps.{IsOwnAccessOf, Sits, StepsIn}
-use Rattle.lfm_pool.proofs.FastPaths.{sits_begun, releasing, subtracting, left_free, left_to_serve, part_now, length_now, elsewhere_now}
+use Rattle.lfm_pool.proofs.FastPaths.{at_once, sits_after_begin, releasing, subtracting, left_free, left_to_serve, part_now, length_now, elsewhere_now}
 use Rattle.std.proofs.Common.{ap, refl}
 use Rattle.lfm_protocol.specs.declared.points.Releaser.TheVariants.{Unlocker}
 use Rattle.lfm_protocol.specs.declared.points.Point.TheVariants.{ReleaseOwnerStore}
@@ -13,12 +13,12 @@ use Rattle.lfm_pool.proofs.FastPaths.{noted_released, released, unlock_begun}
 use Rattle.lfm_pool.proofs.Keeping.{keeps_at, keeps_by_subtract}
 use Rattle.lfm_pool.specs.Chain.{rested}
 use Rattle.lfm_pool.specs.Seats.{note_of, state_of}
-use Rattle.lfm_pool.specs.Steps.{begun_in}
+use Rattle.lfm_pool.specs.Steps.{begun_at, state_at}
 use Rattle.lfm_pool.proofs.fast_paths.leave.Goals as goal
 
 pub first_step-requires-clause-sits : goal.first_step-requires-clause-sits
 first_step-requires-clause-sits c =
-    let s = c.args.seat.now in sits_begun s.number s.place.id c.args.pool.now.limits (part s.place.me.0 c.args.mutex) c.requires.holds.sits Call.Unlock
+    let s = c.args.seat.now in let v = part s.place.me.0 c.args.mutex in sits_after_begin s.number s.place.id c.args.pool.now.limits (at_once v) v c.requires.holds.now Call.Unlock
 
 pub first_step-requires-clause-is_next : goal.first_step-requires-clause-is_next
 first_step-requires-clause-is_next c =
@@ -77,8 +77,8 @@ returns-clause-belongs c =
 pub first_step-requires-clause-chained : goal.first_step-requires-clause-chained
 first_step-requires-clause-chained c =
     let s = c.args.seat.now in let l = c.args.pool.now.limits in let holds = c.requires.holds in
-    keeps_at (begun_in s.place.me.0 c.args.mutex l Call.Unlock) s.number (part s.place.me.0 c.args.mutex) (note_of s c.args.mutex) (ReleaseOwnerStore Unlocker)
-    (ap (λ x. x.point) (unlock_begun (state_of s c.args.mutex) l holds.rests holds.once)) refl refl
+    keeps_at (begun_at s.place.me.0 c.args.mutex 1 l Call.Unlock) s.number (part s.place.me.0 c.args.mutex) (note_of s c.args.mutex) (ReleaseOwnerStore Unlocker)
+    (ap (λ x. x.point) (unlock_begun (state_at s.place.me.0 c.args.mutex 1) l holds.rests refl)) refl refl
 
 pub next_step-requires-clause-chained : goal.next_step-requires-clause-chained
 next_step-requires-clause-chained c =

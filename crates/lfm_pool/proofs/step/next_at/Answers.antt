@@ -13,8 +13,8 @@ returns-clause-step c =
     let s = c.args.seat.now in let l = c.args.pool.now.limits in let d = c.step_at.ensures.step in (
       d.0,
       d.3,
-      sits_after s.number s.place.id l (state_in c.args.seat.now.place.me.0 c.args.mutex) (part s.place.me.0 c.args.mutex) c.requires.sits c.step_at.result d.0 d.1 d.2,
-      stepped s.number s.place.id l (state_in c.args.seat.now.place.me.0 c.args.mutex) (part s.place.me.0 c.args.mutex) c.requires.sits c.step_at.result d.0 d.1 d.2,
+      sits_after s.number s.place.id l (state_in c.args.seat.now.place.me.0 c.args.mutex) (part s.place.me.0 c.args.mutex) c.requires.sits c.step_at.result d.0 d.1 d.2 d.4,
+      stepped s.number s.place.id l (state_in c.args.seat.now.place.me.0 c.args.mutex) (part s.place.me.0 c.args.mutex) c.requires.sits c.step_at.result d.0 d.1 d.2 d.4,
     )
 
 pub returns-clause-finds : goal.returns-clause-finds

@@ -1,4 +1,4 @@
-use Rattle.std.proofs.Common.{rules, ◌≡◌, ℕ, ◌+◌, [], length, ap, ◌∙◌, sym, subst, arith}
+use Rattle.std.proofs.Common.{rules, ◌≡◌, ℕ, ◌+◌, [], false, length, ap, ◌∙◌, sym, subst, arith}
 use Rattle.std.proofs.lemmas.List.{length-replicate}
 use Rattle.atomic_table.specs.Table.{Me}
 use Rattle.lfm_table.proofs.tables.OneMore.{and_first, and_last}
@@ -9,6 +9,7 @@ use Rattle.lfm_pool.specs.Rule.{MaySplit, left_view, right_view}
 use Rattle.lfm_pool.specs.Tables.{unnoted}
 use Rattle.lfm_table.proofs.tables.RuleKept.{length_at}
 use Rattle.lfm_pool.proofs.NewSeats.{first_after, first_is_new, left_same, right_same, same_may_split, same_of_each, split_after, split_is_new}
+use Rattle.lfm_pool.proofs.AnyDepth.{new_between}
 use Rattle.lfm_pool.proofs.pool.Pool.open.Goals as goal
 
 pub split_seat-seat-requires-clause-table : goal.split_seat-seat-requires-clause-table
@@ -31,6 +32,7 @@ loop-i-preserved c =
       table = cut.table.0 ∙ k.table;
       id = cut.table.1 ∙ k.id;
       number = cut.table.2 ∙ k.number;
+      awake = cut.table.3 ∙ k.awake;
       pool = k.pool;
       me =
           let more : n + 1 ≡ length c.push_reserved.new.self.items = search rules in
@@ -38,10 +40,11 @@ loop-i-preserved c =
           ∙ (λ i. (left_same c.args.mutexes c.args.limits n i, []))
           ∙ (λ i. (same_of_each c.args.mutexes (first_after c.args.limits (more i)), []));
       room = search rules;
-      seats = and_last (λ j s. (s.place.table_id ≡ c.in-Ok-with_first_seat.opened.0.table.shared.table_id) × (s.number ≡ j + 2) × (s.place.me ≡ (same_of_each c.args.mutexes (split_after c.args.limits j), []))) c.loop-i.all.items c.push_reserved.new.self.items _ c.push_reserved.ensures.items (
+      seats = and_last (λ j s. (s.place.table_id ≡ c.in-Ok-with_first_seat.opened.0.table.shared.table_id) × (s.number ≡ j + 2) × (s.place.me ≡ (same_of_each c.args.mutexes (split_after c.args.limits j), [])) × (s.asleep ≡ false)) c.loop-i.all.items c.push_reserved.new.self.items _ c.push_reserved.ensures.items (
         cut.split.1 ∙ k.table,
         cut.split.3 ∙ (let q : c.loop-i.i + 1 ≡ n + 2 = omega arith in q),
         cut.split.2 ∙ ap (λ (z : Me ℕ PoolView). (right_view z.0, [])) k.me ∙ (λ i. (right_same c.args.mutexes c.args.limits n i, [])),
+        cut.split.4,
       ) k.seats;
     }
 
@@ -52,9 +55,12 @@ returns-clause-seats c =
     let last : n + 1 ≡ l.seats = (let t = c.loop-i-test.false in let e = c.loop-i.auto.i-end (omega (arith, some)) in let m = k.room.0 in omega (arith, t, e, m)) in (
       search rules,
       λ j s e. and_first (λ j s. OfPool s p × IsNew (j + 1) p s) c.loop-i.all.items _ _ c.in-Ok-insert.ensures.items
-          (first_is_new c.loop-i.first p l n allowed last k.table k.id k.pool.1 k.number (k.me ∙ (λ i. (same_of_each (sym k.pool.0 i) (first_after l n), []))))
+          (first_is_new c.loop-i.first p l n allowed last k.table k.id k.pool.1 k.number (k.me ∙ (λ i. (same_of_each (sym k.pool.0 i) (first_after l n), []))) k.awake)
           (λ j y at.
           let f = k.seats j y at in let low = length_at c.loop-i.all.items j y at in
           subst (λ (number : ℕ). OfPool y p × IsNew number p y) (let q : j + 2 ≡ j + 1 + 1 = omega arith in q)
-          (split_is_new y p l j allowed (omega (arith, low, last)) f.0 k.pool.1 f.1 (f.2 ∙ (λ i. (same_of_each (sym k.pool.0 i) (split_after l j), []))))) j s e,
+          (split_is_new y p l j allowed (omega (arith, low, last)) f.0 k.pool.1 f.1 (f.2 ∙ (λ i. (same_of_each (sym k.pool.0 i) (split_after l j), []))) f.3)) j s e,
     )
+
+pub returns-clause-between : goal.returns-clause-between
+returns-clause-between c = λ j s e. let new = (returns-clause-seats c).1 j s e in new_between s c.in-Ok-with_first_seat.opened.0 (j + 1) new.0 new.1

@@ -1,0 +1,420 @@
+-- The calls of a seat of any depth: what holds of the seat before and after them.
+use Rattle.std.proofs.Common.{◌≡◌, ◌≢◌, ℕ, ◌+◌, ◌-◌, ◌*◌, ◌<◌, ◌≤◌, List, length, Option, Some, None, refl, sym, ap, ◌∙◌, subst, inl, inr, arith}
+use Rattle.std.specs.Prelude.{⊤, Bool, IfOk, true, false, Result, Ok, Err}
+use Rattle.std.proofs.lemmas.Bool.{cases_eq, false≢true}
+use Rattle.atomic_table.specs.Table.{Me}
+use Rattle.lfm_model.specs.declared.answers.How.{How}
+use Rattle.lfm_model.specs.declared.answers.Locked.{Locked}
+use Rattle.lfm_model.specs.declared.refusals.Refusal.{Refusal}
+use Rattle.lfm_words.specs.declared.pop_lists.Record.{Record}
+use Rattle.lfm_words.specs.Words.{is_posted_word, seat_field_size}
+use Rattle.lfm_protocol.specs.Limits.{max_depth}
+use Rattle.lfm_protocol.specs.declared.points.Point.TheVariants.{Rest}
+use Rattle.lfm_protocol.specs.declared.seats.SeatState.{SeatState}
+use Rattle.lfm_table.specs.declared.seat_view.Seen.{Seen}
+use Rattle.lfm_table.specs.declared.seat_view.View.{View}
+use Rattle.lfm_table.proofs.tables.StepFacts.{became_depth}
+use Rattle.lfm_pool.specs.declared.ask.Asking.{Asking}
+use Rattle.lfm_pool.specs.declared.pool.Pool.{Pool}
+use Rattle.lfm_pool.specs.declared.pool.PoolSeat.{PoolSeat}
+use Rattle.lfm_pool.specs.declared.unlock.Unlocking.{Unlocking}
+use Rattle.lfm_pool.specs.declared.view.Note.{Note}
+use Rattle.lfm_pool.specs.declared.view.PoolView.{PoolView}
+use Rattle.lfm_pool.specs.Ask.{AskSteps, AsksIn, IsReadyAfter, asked}
+use Rattle.lfm_pool.specs.Belongs.{IsMutex, IsNew, OfPool, SameSeat}
+use Rattle.lfm_pool.specs.AnyDepth.{AsksAtAnyDepth, IsAfterAsk, IsAfterUnlock, IsAtRest, IsAwayIn, IsBetweenCalls, TriesAtAnyDepth, UnlocksAtAnyDepth, sleeps_after}
+use Rattle.lfm_pool.specs.SeatWords.{Sleeps}
+use Rattle.lfm_pool.specs.declared.calls.Begun.{Begun}
+use Rattle.lfm_pool.specs.declared.calls.Released.{Released}
+use Rattle.lfm_pool.specs.Chain.{deep, first_seat, note_since, rested}
+use Rattle.lfm_pool.specs.Depths.{AskAgainSteps, DeepensBy, GivesUpIn, HasDepth, HasDepthIn, TryAgainSteps}
+use Rattle.lfm_pool.specs.FastPaths.{KnowsMoreOf, Leaves}
+use Rattle.lfm_pool.specs.FinishAsk.{FinishesIn}
+use Rattle.lfm_pool.specs.Receive.{ReceivedIn}
+use Rattle.lfm_pool.specs.Moves.{Made, MayStepIn}
+use Rattle.lfm_pool.specs.Seats.{HoldsOnceIn, MayTryIn, RestsInOthers, popped_of, state_of}
+use Rattle.lfm_pool.specs.Steps.{RestsElsewhere, Sits, state_at, state_in}
+use Rattle.lfm_pool.specs.Tables.{note, part, rests_at, with_part}
+use Rattle.lfm_pool.specs.TryLock.{AcceptSteps, StepsIfPosted, TriesIn, TrySteps, tried}
+use Rattle.lfm_pool.specs.Unlock.{FindsNobody, Hands, UnlocksIn}
+use Rattle.lfm_pool.proofs.FastPaths.{note_now, part_now}
+use Rattle.lfm_pool.proofs.LoneTables.{note_other, part_other}
+use Rattle.lfm_pool.proofs.SeveralSteps.{state_after}
+
+-- Of a seat that holds the mutex once, or not at all
+
+once_noted : (popped : List Record) → rested popped ≡ deep (1 - 1) popped
+once_noted popped = let e : first_seat popped ≡ (1 - 1) * seat_field_size + first_seat popped = omega arith in λ i. record (rested popped) { carried = e i }
+
+pub has_one : (s : PoolSeat) (p : Pool) (m : ℕ) → HoldsOnceIn s p m → HasDepthIn s p m 1
+has_one s p m holds = record {
+  sits = holds.sits;
+  now = holds.now;
+  rests = holds.rests;
+  most = omega arith;
+  noted = λ above. holds.noted ∙ once_noted (popped_of s m);
+}
+
+pub holds_one : (s : PoolSeat) (p : Pool) (m : ℕ) → HasDepthIn s p m 1 → HoldsOnceIn s p m
+holds_one s p m has = record {
+  sits = has.sits;
+  now = has.now;
+  rests = has.rests;
+  noted = has.noted (omega arith) ∙ sym (once_noted (popped_of s m));
+}
+
+has_none : (number id : ℕ) (p : Pool) (v : View ⊤) (k : Note) → Sits number id p.limits v.state v → v.state.point ≡ Rest → v.state.depth ≡ 0 → HasDepth number id p.limits v k 0
+has_none number id p v k sits rests flat = record {
+  sits = sits;
+  now = subst (λ (d : ℕ). Sits number id p.limits (record v.state { depth = d }) v) flat sits;
+  rests = rests;
+  most = omega arith;
+  noted = λ above. absurd (omega (arith, above));
+}
+
+pub may_try_flat : (s : PoolSeat) (p : Pool) (m : ℕ) → HasDepthIn s p m 0 → (state_of s m).takes < p.limits.budget → MayTryIn s p m
+may_try_flat s p m has charged = record {
+  sits = has.sits;
+  rests = has.rests;
+  flat = became_depth (state_of s m) p.limits (state_at s.place.me.0 m 0) has.now.became refl;
+  charged = charged;
+}
+
+-- a new seat is between two calls
+pub new_between : (s : PoolSeat) (p : Pool) (number : ℕ) → OfPool s p → IsNew number p s → IsBetweenCalls s p
+new_between s p number belongs new = record {
+  awake = λ e. record {
+    belongs = belongs;
+    depths = λ m less. let may = new.may_try m less in (0, has_none s.number s.place.id p (part s.place.me.0 m) (note s.place.me.0 m) may.sits may.rests may.flat);
+  };
+  sleeps = λ e. absurd (false≢true (sym new.awake ∙ e));
+}
+
+-- Between two calls
+
+-- what a seat knows of a mutex at which it is at rest does not depend on more than this
+abbrev pub DepthFrom : ℕ × ℕ × Me ℕ PoolView → Pool → ℕ → ℕ → Type 0
+DepthFrom z p m depth = HasDepth z.0 z.1 p.limits (part z.2.0 m) (note z.2.0 m) depth
+
+abbrev pub from_of : PoolSeat → ℕ × ℕ × Me ℕ PoolView
+from_of s = (s.number, s.place.id, s.place.me)
+
+pub same_from : (s t : PoolSeat) → SameSeat s t → t.place.me ≡ s.place.me → from_of t ≡ from_of s
+same_from s t same knows = λ i. (same.number i, same.id i, knows i)
+
+pub rest_then : (s t : PoolSeat) (p : Pool) → IsAtRest s p → SameSeat s t → t.place.me ≡ s.place.me → IsAtRest t p
+rest_then s t p rest same knows = record {
+  belongs = record { table = same.table ∙ rest.belongs.table; parts = same.parts ∙ rest.belongs.parts };
+  depths = λ m less. let d = rest.depths m less in (d.0, subst (λ (z : ℕ × ℕ × Me ℕ PoolView). DepthFrom z p m d.0) (sym (same_from s t same knows)) d.1);
+}
+
+module _ (s : PoolSeat) (p : Pool) (rest : IsAtRest s p) where
+  pub others_rest : (m : ℕ) → RestsInOthers s m
+  others_rest m n less other = let parts = rest.belongs.parts in ap rests_at (rest.depths n (omega (arith, parts, less))).1.rests
+
+  pub may_at_rest : (m : ℕ) → IsMutex m p → MayStepIn s p m
+  may_at_rest m less = record { belongs = rest.belongs; mutex = less; sits = (rest.depths m less).1.sits; elsewhere = others_rest m }
+
+-- a call in mutex m changes nothing in the others
+module _ (s t : PoolSeat) (p : Pool) (m : ℕ) (belongs : OfPool s p) (less : IsMutex m p) (others : (n : ℕ) → IsMutex n p → n ≢ m → (depth : ℕ) × HasDepthIn s p n depth) (same : SameSeat s t)
+    (w : View ⊤) (k : Note) (knows : t.place.me ≡ (with_part s.place.me.0 m w k, s.place.me.1)) where
+  here : m < length s.place.me.0.parts
+  here = let parts = belongs.parts in omega (arith, parts, less)
+
+  other_depth : (n : ℕ) → IsMutex n p → n ≢ m → (depth : ℕ) × HasDepthIn t p n depth
+  other_depth n inner other =
+      let d = others n inner other in
+      let view : part t.place.me.0 n ≡ part s.place.me.0 n = ap (λ (z : Me ℕ PoolView). part z.0 n) knows ∙ part_other s.place.me.0 m n w k other in
+      let noted : note t.place.me.0 n ≡ note s.place.me.0 n = ap (λ (z : Me ℕ PoolView). note z.0 n) knows ∙ note_other s.place.me.0 m n w k other in
+      (d.0, subst (λ (z : ℕ × ℕ × View ⊤ × Note). HasDepth z.0 z.1 p.limits z.2 z.3 d.0) (λ i. (sym same.number i, sym same.id i, sym view i, sym noted i)) d.1)
+
+  -- the seat is at rest in mutex m too
+  pub depth_after : (depth : ℕ) → HasDepth s.number s.place.id p.limits w k depth → HasDepthIn t p m depth
+  depth_after depth has =
+      let view = part_now s.number s.place.id m p.limits s.place.me t.place.me t.place.me here w k knows in
+      let noted = note_now s.number s.place.id m p.limits s.place.me t.place.me t.place.me here w k knows in
+      subst (λ (z : ℕ × ℕ × View ⊤ × Note). HasDepth z.0 z.1 p.limits z.2 z.3 depth) (λ i. (sym same.number i, sym same.id i, sym view i, sym noted i)) has
+
+  pub rest_after : (depth : ℕ) → HasDepthIn t p m depth → IsAtRest t p
+  rest_after depth has = record {
+    belongs = record { table = same.table ∙ belongs.table; parts = same.parts ∙ belongs.parts };
+    depths = λ n inner. elim (cases_eq n m) [
+      | inl is ↦ (depth, subst (λ (i : ℕ). HasDepthIn t p i depth) (sym is) has)
+      | inr other ↦ other_depth n inner other
+    ];
+  }
+
+  -- it is not
+  pub away_after : MayStepIn t p m → IsAwayIn t p m
+  away_after may = record { may = may; depths = other_depth }
+
+-- What a seat says of itself
+
+pub awake_rests : (t : PoolSeat) (p : Pool) → t.asleep ≡ false → IsAtRest t p → IsBetweenCalls t p
+awake_rests t p awake rest = record { awake = λ e. rest; sleeps = λ e. absurd (false≢true (sym awake ∙ e)) }
+
+-- a seat in which only that has changed
+pub rest_said : (s t : PoolSeat) (p : Pool) → t.place ≡ s.place → t.number ≡ s.number → IsAtRest s p → IsAtRest t p
+rest_said s t p place number rest = record {
+  belongs = record { table = (λ i. (place i).table_id) ∙ rest.belongs.table; parts = (λ i. length (place i).me.0.parts) ∙ rest.belongs.parts };
+  depths = λ m less. let d = rest.depths m less in (d.0, subst (λ (z : ℕ × ℕ × Me ℕ PoolView). DepthFrom z p m d.0) (λ i. (sym number i, sym (λ j. (place j).id) i, sym (λ j. (place j).me) i)) d.1);
+}
+
+pub away_said : (s t : PoolSeat) (p : Pool) (m : ℕ) → t.place ≡ s.place → t.number ≡ s.number → IsAwayIn s p m → IsAwayIn t p m
+away_said s t p m place number away = record {
+  may = record {
+    belongs = record { table = (λ i. (place i).table_id) ∙ away.may.belongs.table; parts = (λ i. length (place i).me.0.parts) ∙ away.may.belongs.parts };
+    mutex = away.may.mutex;
+    sits = subst (λ (z : ℕ × ℕ × Me ℕ PoolView). Sits z.0 z.1 p.limits (state_in z.2.0 m) (part z.2.0 m)) (λ i. (sym number i, sym (λ j. (place j).id) i, sym (λ j. (place j).me) i)) away.may.sits;
+    elsewhere = subst (λ (z : Me ℕ PoolView). RestsElsewhere z.0 m) (λ i. sym (λ j. (place j).me) i) away.may.elsewhere;
+  };
+  depths = λ n less other. let d = away.depths n less other in
+      (d.0, subst (λ (z : ℕ × ℕ × Me ℕ PoolView). DepthFrom z p n d.0) (λ i. (sym number i, sym (λ j. (place j).id) i, sym (λ j. (place j).me) i)) d.1);
+}
+
+-- What a call tells of a seat of which nothing has changed since, before it
+
+abbrev pub TriesFrom : ℕ × ℕ × Me ℕ PoolView → PoolSeat → ℕ → Result Locked Refusal → Type 0
+TriesFrom z u m result =
+    (new : List Seen) × TrySteps z.0 result new
+    × KnowsMoreOf m (λ w k. Made new (tried result (state_in z.2.0 m)) (part z.2.0 m) w × (k ≡ note_since w (note z.2.0 m))) z.2 u.place.me
+
+module _ (s t u : PoolSeat) (p : Pool) (m : ℕ) (same : SameSeat s t) (knows : t.place.me ≡ s.place.me) where
+  pub tries_then : (result : Result Locked Refusal) → TriesIn t u m result → TriesIn s u m result
+  tries_then result did = subst (λ (z : ℕ × ℕ × Me ℕ PoolView). TriesFrom z u m result) (same_from s t same knows) did
+
+abbrev pub AsksFrom : ℕ × ℕ × Me ℕ PoolView → PoolSeat → ℕ → Asking → Type 0
+AsksFrom z u m asking =
+    (new : List Seen) × AskSteps asking z.0 new
+    × KnowsMoreOf m (λ w k. Made new (asked asking z.0 (part u.place.me.0 m).popped (state_in z.2.0 m)) (part z.2.0 m) w × (k ≡ note_since w (note z.2.0 m))) z.2 u.place.me
+
+abbrev pub DeepensFrom : ℕ × ℕ × Me ℕ PoolView → (ℕ → List Seen → Type 0) → PoolSeat → Pool → ℕ → ℕ → Type 0
+DeepensFrom z steps u p m depth =
+    KnowsMoreOf m
+    (λ w k. ((new : List Seen) × steps z.0 new × Made new (record (state_in z.2.0 m) { depth = depth }) (part z.2.0 m) w) × HasDepth z.0 z.1 p.limits w k depth)
+    z.2 u.place.me
+
+abbrev pub GivesUpFrom : ℕ × ℕ × Me ℕ PoolView → PoolSeat → Pool → ℕ → ℕ → Type 0
+GivesUpFrom z u p m depth = KnowsMoreOf m (λ w k. (w ≡ part z.2.0 m) × HasDepth z.0 z.1 p.limits w k depth) z.2 u.place.me
+
+abbrev pub UnlocksFrom : Unlocking → ℕ × ℕ × Me ℕ PoolView → PoolSeat → Pool → ℕ → Type 0
+UnlocksFrom Unlocking.Free z u p m = KnowsMoreOf m (λ w k. Leaves (part z.2.0 m) w × Sits z.0 z.1 p.limits w.state w) z.2 u.place.me
+UnlocksFrom (Unlocking.Granted r) z u p m = KnowsMoreOf m (λ w k. Hands r (part z.2.0 m) w × Sits z.0 z.1 p.limits w.state w) z.2 u.place.me
+UnlocksFrom Unlocking.Posts z u p m = KnowsMoreOf m (λ w k. FindsNobody (part z.2.0 m) w × Sits z.0 z.1 p.limits w.state w × (k ≡ rested w.popped)) z.2 u.place.me
+
+module _ (s t u : PoolSeat) (p : Pool) (m : ℕ) (same : SameSeat s t) (knows : t.place.me ≡ s.place.me) where
+  pub asks_then : (asking : Asking) → AsksIn t u m asking → AsksIn s u m asking
+  asks_then asking did = subst (λ (z : ℕ × ℕ × Me ℕ PoolView). AsksFrom z u m asking) (same_from s t same knows) did
+
+  pub deepens_then : (steps : ℕ → List Seen → Type 0) (depth : ℕ) → DeepensBy steps t u p m depth → DeepensBy steps s u p m depth
+  deepens_then steps depth did = subst (λ (z : ℕ × ℕ × Me ℕ PoolView). DeepensFrom z steps u p m depth) (same_from s t same knows) did
+
+  pub gives_up_then : (depth : ℕ) → GivesUpIn t u p m depth → GivesUpIn s u p m depth
+  gives_up_then depth did = subst (λ (z : ℕ × ℕ × Me ℕ PoolView). GivesUpFrom z u p m depth) (same_from s t same knows) did
+
+  pub unlocks_then : (unlocking : Unlocking) → UnlocksIn unlocking t u p m → UnlocksIn unlocking s u p m
+  unlocks_then Unlocking.Free did = subst (λ (z : ℕ × ℕ × Me ℕ PoolView). UnlocksFrom Unlocking.Free z u p m) (same_from s t same knows) did
+  unlocks_then (Unlocking.Granted r) did = subst (λ (z : ℕ × ℕ × Me ℕ PoolView). UnlocksFrom (Unlocking.Granted r) z u p m) (same_from s t same knows) did
+  unlocks_then Unlocking.Posts did = subst (λ (z : ℕ × ℕ × Me ℕ PoolView). UnlocksFrom Unlocking.Posts z u p m) (same_from s t same knows) did
+
+-- The seat after each call, which began at rest
+
+module _ (s t : PoolSeat) (p : Pool) (m : ℕ) (rest : IsAtRest s p) (less : IsMutex m p) (same : SameSeat s t) where
+  may : MayStepIn s p m
+  may = may_at_rest s p rest m less
+
+  others : (n : ℕ) → IsMutex n p → n ≢ m → (depth : ℕ) × HasDepthIn s p n depth
+  others n inner other = rest.depths n inner
+
+  -- after a try_lock of a mutex that it did not hold
+  pub try_rest : (result : Result Locked Refusal) → HasDepthIn s p m 0 → TriesIn s t m result → MayStepIn t p m → IfOk result (λ _. HoldsOnceIn t p m) → IsAtRest t p
+  try_rest (Ok locked) has did later holds = rest_after s t p m rest.belongs less others same did.2.0 did.2.1 did.2.2 1 (has_one t p m holds)
+  try_rest (Err refusal) has did later holds =
+      let is = state_after s t p m did.0 (state_of s m) may did.2 in
+      let flat = became_depth (state_of s m) p.limits (state_at s.place.me.0 m 0) has.now.became refl in
+      rest_after s t p m rest.belongs less others same did.2.0 did.2.1 did.2.2 0
+      (has_none t.number t.place.id p (part t.place.me.0 m) (note t.place.me.0 m) later.sits (ap (λ (x : SeatState). x.point) is ∙ has.rests) (ap (λ (x : SeatState). x.depth) is ∙ flat))
+
+  -- after a call that made its hold deeper, or gave one hold up
+  pub deep_rest : (steps : ℕ → List Seen → Type 0) (depth : ℕ) → DeepensBy steps s t p m depth → IsAtRest t p
+  deep_rest steps depth did = rest_after s t p m rest.belongs less others same did.0 did.1 did.2 depth (depth_after s t p m rest.belongs less others same did.0 did.1 did.2 depth did.3.1)
+
+  pub fewer_rest : (depth : ℕ) → GivesUpIn s t p m depth → IsAtRest t p
+  fewer_rest depth did = rest_after s t p m rest.belongs less others same did.0 did.1 did.2 depth (depth_after s t p m rest.belongs less others same did.0 did.1 did.2 depth did.3.1)
+
+  -- after an unlock that has ended
+  free_rest : UnlocksIn Unlocking.Free s t p m → IsAtRest t p
+  free_rest did =
+      rest_after s t p m rest.belongs less others same did.0 did.1 did.2 0 (depth_after s t p m rest.belongs less others same did.0 did.1 did.2 0 (has_none s.number s.place.id p did.0 did.1 did.3.1 did.3.0.rests did.3.0.flat))
+
+  granted_rest : (r : Record) → UnlocksIn (Unlocking.Granted r) s t p m → IsAtRest t p
+  granted_rest r did =
+      rest_after s t p m rest.belongs less others same did.0 did.1 did.2 0
+      (depth_after s t p m rest.belongs less others same did.0 did.1 did.2 0 (has_none s.number s.place.id p did.0 did.1 did.3.1 (ap (λ (x : SeatState). x.point) did.3.0.state) (ap (λ (x : SeatState). x.depth) did.3.0.state)))
+
+  -- after the start of a lock
+  pub held_rest : AsksIn s t m Asking.Held → HoldsOnceIn t p m → IsAtRest t p
+  held_rest did holds = rest_after s t p m rest.belongs less others same did.2.0 did.2.1 did.2.2 1 (has_one t p m holds)
+
+  pub asked_away : (asking : Asking) → AsksIn s t m asking → MayStepIn t p m → IsAwayIn t p m
+  asked_away asking did later = away_after s t p m rest.belongs less others same did.2.0 did.2.1 did.2.2 later
+
+  posts_away : UnlocksIn Unlocking.Posts s t p m → MayStepIn t p m → IsAwayIn t p m
+  posts_away did later = away_after s t p m rest.belongs less others same did.0 did.1 did.2 later
+
+  -- the seat `u` is `t`, and says of itself whether it sleeps
+  module _ (u : PoolSeat) (place : u.place ≡ t.place) (number : u.number ≡ t.number) where
+    pub after_unlock : (unlocking : Unlocking) → UnlocksIn unlocking s t p m → MayStepIn t p m → u.asleep ≡ false → IsAfterUnlock (Ok (Released.Last unlocking)) u p m
+    after_unlock Unlocking.Free did later awake = awake_rests u p awake (rest_said t u p place number (free_rest did))
+    after_unlock (Unlocking.Granted r) did later awake = awake_rests u p awake (rest_said t u p place number (granted_rest r did))
+    after_unlock Unlocking.Posts did later awake = away_said t u p m place number (posts_away did later)
+
+    pub after_ask : (asking : Asking) → AsksIn s t m asking → MayStepIn t p m → IsReadyAfter asking t p m → u.asleep ≡ sleeps_after asking → IsAfterAsk (Ok (Begun.First asking)) u p m
+    after_ask Asking.Held did later ready says = awake_rests u p says (rest_said t u p place number (held_rest did ready))
+    after_ask Asking.Asleep did later ready says = record {
+      awake = λ e. absurd (false≢true (sym e ∙ says));
+      sleeps = λ e. (
+        m,
+        away_said t u p m place number (asked_away Asking.Asleep did later),
+        subst (λ (x : Me ℕ PoolView). Sleeps (state_in x.0 m)) (λ i. (sym place i).me) ready,
+      );
+    }
+    after_ask Asking.Carries did later ready says = away_said t u p m place number (asked_away Asking.Carries did later)
+
+-- what a seat has been told of its depth holds of it after a load that changes nothing
+pub depth_then_at : (s t : PoolSeat) (p : Pool) (m depth : ℕ) → SameSeat s t → t.place.me ≡ s.place.me → HasDepthIn s p m depth → HasDepthIn t p m depth
+depth_then_at s t p m depth same knows has = subst (λ (z : ℕ × ℕ × Me ℕ PoolView). DepthFrom z p m depth) (sym (same_from s t same knows)) has
+
+-- The answers
+
+module _ (s u : PoolSeat) (b : Bool) where
+  -- a seat in which only that has changed
+  pub same_said : SameSeat s u → SameSeat s (record u { asleep = b })
+  same_said same = record { table = same.table; id = same.id; number = same.number; parts = same.parts }
+
+-- an answer that a try_lock of a seat gives which does not hold the mutex
+abbrev IsTryAnswer : Result Locked Refusal → Type 0
+IsTryAnswer (Ok (Locked.Held how)) = ⊤
+IsTryAnswer (Err Refusal.Busy) = ⊤
+IsTryAnswer _ = ⊥
+
+accept_answers : (number post : ℕ) (result : Result Locked Refusal) (new : List Seen) → AcceptSteps number post result new → IsTryAnswer result
+accept_answers number post (Ok (Locked.Held How.Free)) new h = tt
+accept_answers number post (Err Refusal.Busy) new h = tt
+accept_answers number post _ new h = absurd h
+
+posted_answers : (b : Bool) (number word : ℕ) (result : Result Locked Refusal) (new : List Seen) → StepsIfPosted b number word result new → IsTryAnswer result
+posted_answers true number word result new h = accept_answers number word result new h
+posted_answers false number word result new h = subst IsTryAnswer (sym h.0) tt
+
+try_answers : (number : ℕ) (result : Result Locked Refusal) (new : List Seen) → TrySteps number result new → IsTryAnswer result
+try_answers number result new steps =
+    elim steps [
+      | inl h ↦ subst IsTryAnswer (sym h.0) tt
+      | inr h ↦ let later = h.3 in posted_answers (is_posted_word later.1) number later.1 result later.2 later.4
+    ]
+
+module _ (s u : PoolSeat) (p : Pool) (m : ℕ) (awake : s.asleep ≡ false) (b : Bool) where
+  try_told_by : (result : Result Locked Refusal) → IsTryAnswer result → HasDepthIn s p m 0 → TriesIn s u m result → IfOk result (λ _. HoldsOnceIn u p m) → TriesAtAnyDepth result s (record u { asleep = b }) p m
+  try_told_by (Ok (Locked.Held how)) is has did holds = (awake, has, did, has_one u p m holds)
+  try_told_by (Err Refusal.Busy) is has did holds = (awake, has, did)
+  try_told_by _ is has did holds = absurd is
+
+  pub try_told : (result : Result Locked Refusal) → HasDepthIn s p m 0 → TriesIn s u m result → IfOk result (λ _. HoldsOnceIn u p m) → TriesAtAnyDepth result s (record u { asleep = b }) p m
+  try_told result has did holds = try_told_by result (try_answers s.number result did.0 did.1) has did holds
+
+  -- a hold that was made deeper
+  pub again_told : (held deeper : ℕ) → deeper ≡ held + 1 → 0 < held → HasDepthIn s p m held → DeepensBy TryAgainSteps s u p m (held + 1) → TriesAtAnyDepth (Ok (Locked.Again deeper)) s (record u { asleep = b }) p m
+  again_told held deeper is above has did = (
+    awake,
+    omega (arith, is, above),
+    subst (λ (d : ℕ). HasDepthIn s p m d) (let e : held ≡ deeper - 1 = omega (arith, is) in e) has,
+    subst (λ (d : ℕ). DeepensBy TryAgainSteps s u p m d) (sym is) did,
+  )
+
+  pub asked_again : (held deeper : ℕ) → deeper ≡ held + 1 → 0 < held → HasDepthIn s p m held → DeepensBy AskAgainSteps s u p m (held + 1) → AsksAtAnyDepth (Ok (Begun.Again deeper)) s (record u { asleep = b }) p m
+  asked_again held deeper is above has did = (
+    awake,
+    omega (arith, is, above),
+    subst (λ (d : ℕ). HasDepthIn s p m d) (let e : held ≡ deeper - 1 = omega (arith, is) in e) has,
+    subst (λ (d : ℕ). DeepensBy AskAgainSteps s u p m d) (sym is) did,
+  )
+
+  ready_said : (asking : Asking) → IsReadyAfter asking u p m → IsReadyAfter asking (record u { asleep = b }) p m
+  ready_said Asking.Held ready = ready
+  ready_said Asking.Asleep ready = ready
+  ready_said Asking.Carries ready = ready
+
+  pub asked_first : (asking : Asking) → HasDepthIn s p m 0 → AsksIn s u m asking → IsReadyAfter asking u p m → AsksAtAnyDepth (Ok (Begun.First asking)) s (record u { asleep = b }) p m
+  asked_first asking has did ready = (awake, has, did, ready_said asking ready)
+
+  -- a hold that was given up
+  pub still_told : (held fewer : ℕ) → fewer + 1 ≡ held → 1 < held → HasDepthIn s p m held → GivesUpIn s u p m (held - 1) → UnlocksAtAnyDepth (Ok (Released.Still fewer)) s (record u { asleep = b }) p m
+  still_told held fewer is inner has did = (
+    awake,
+    omega (arith, is, inner),
+    subst (λ (d : ℕ). HasDepthIn s p m d) (sym is) has,
+    subst (λ (d : ℕ). GivesUpIn s u p m d) (let e : held - 1 ≡ fewer = omega (arith, is) in e) did,
+  )
+
+  unlocked_said : (unlocking : Unlocking) → UnlocksIn unlocking s u p m → UnlocksIn unlocking s (record u { asleep = b }) p m
+  unlocked_said Unlocking.Free did = did
+  unlocked_said (Unlocking.Granted r) did = did
+  unlocked_said Unlocking.Posts did = did
+
+  pub last_told : (unlocking : Unlocking) → HasDepthIn s p m 1 → UnlocksIn unlocking s u p m → UnlocksAtAnyDepth (Ok (Released.Last unlocking)) s (record u { asleep = b }) p m
+  last_told unlocking has did = (awake, has, unlocked_said unlocking did)
+
+-- a seat that is refused at its greatest depth
+pub full : (s : PoolSeat) (p : Pool) (m held : ℕ) → HasDepthIn s p m held → max_depth ≤ held → HasDepthIn s p m max_depth
+full s p m held has most = subst (λ (d : ℕ). HasDepthIn s p m d) (let few = has.most in let e : held ≡ max_depth = omega (arith, few, most) in e) has
+
+pub same_self : (s : PoolSeat) → SameSeat s s
+same_self s = record { table = refl; id = refl; number = refl; parts = refl }
+
+-- The end of a lock, and a receive
+
+-- a seat that sleeps in mutex m, between two calls, is at rest in all others
+module _ (s : PoolSeat) (p : Pool) (m : ℕ) (between : IsBetweenCalls s p) (less : IsMutex m p) (sleeping : Sleeps (state_of s m)) where
+  no_rest : (state_of s m).point ≡ Rest → ⊥
+  no_rest rests = false≢true (sym (ap rests_at sleeping.1) ∙ ap rests_at rests)
+
+  away_by : (b : Bool) → s.asleep ≡ b → IsAwayIn s p m
+  away_by false e = absurd (no_rest ((between.awake e).depths m less).1.rests)
+  away_by true e = let x = between.sleeps e in elim (cases_eq m x.0) [
+    | inl same ↦ subst (λ (i : ℕ). IsAwayIn s p i) (sym same) x.1
+    | inr other ↦ absurd (no_rest (x.1.depths m less other).1.rests)
+  ]
+
+  pub sleeper_away : IsAwayIn s p m
+  sleeper_away = away_by s.asleep refl
+
+module _ (s u : PoolSeat) (p : Pool) (m : ℕ) (away : IsAwayIn s p m) (same : SameSeat s u) where
+  pub finish_holds : FinishesIn None s u p m → HoldsOnceIn u p m → IsBetweenCalls (record u { asleep = false }) p
+  finish_holds did holds =
+      awake_rests (record u { asleep = false }) p refl
+      (rest_said u (record u { asleep = false }) p refl refl (rest_after s u p m away.may.belongs away.may.mutex away.depths same did.0 did.1 did.2 1 (has_one u p m holds)))
+
+  sleeps_said : IsAwayIn u p m → Sleeps (state_of u m) → IsBetweenCalls (record u { asleep = true }) p
+  sleeps_said later sleeping = record {
+    awake = λ e. absurd (false≢true (sym e));
+    sleeps = λ e. (m, away_said u (record u { asleep = true }) p m refl refl later, sleeping);
+  }
+
+  pub finish_sleeps : (r : Record) → FinishesIn (Some r) s u p m → MayStepIn u p m → Sleeps (state_of u m) → IsBetweenCalls (record u { asleep = true }) p
+  finish_sleeps r did later sleeping = sleeps_said (away_after s u p m away.may.belongs away.may.mutex away.depths same did.0 did.1 did.2 later) sleeping
+
+  pub receive_holds : (how : How) → ReceivedIn s u m (Some how) → HoldsOnceIn u p m → IsBetweenCalls (record u { asleep = false }) p
+  receive_holds how did holds =
+      awake_rests (record u { asleep = false }) p refl
+      (rest_said u (record u { asleep = false }) p refl refl (rest_after s u p m away.may.belongs away.may.mutex away.depths same did.4.0 did.4.1 did.4.2 1 (has_one u p m holds)))
+
+  pub receive_sleeps : ReceivedIn s u m None → MayStepIn u p m → Sleeps (state_of s m) → IsBetweenCalls (record u { asleep = true }) p
+  receive_sleeps did later sleeping =
+      let is = state_after s u p m did.1 (state_of s m) away.may did.4 in
+      sleeps_said (away_after s u p m away.may.belongs away.may.mutex away.depths same did.4.0 did.4.1 did.4.2 later) (sleeping.0, ap (λ (x : SeatState). x.point) is ∙ sleeping.1)
+
+-- an answer that is no How is None
+pub any_none : (o : Option How) → ((how : How) → o ≡ Some how → ⊥) → o ≡ None
+any_none None other = refl
+any_none (Some how) other = absurd (other how refl)

@@ -1,0 +1,55 @@
+-- A load of the owner word keeps the rule of the pool, and tells the seat whether it holds the mutex.
+use Rattle.std.proofs.Common.{◌≡◌, ℕ, ◌<◌, List, sym, refl, ap, ◌∙◌, subst, arith}
+use Rattle.std.specs.Prelude.{⊤, slice_index}
+use Rattle.std.proofs.lemmas.List.{set-get_or}
+use mathlib.Core.Option.{some}
+use lib.ListN.{get_elem?}
+use Rattle.atomic_table.specs.Table.{State, keeps, Allows}
+use Rattle.atomic_table.proofs.Lists.{set_again}
+use Rattle.lfm_protocol.specs.declared.seats.SeatState.{SeatState}
+use Rattle.lfm_protocol.specs.Seats.{seat, IsSeat}
+use Rattle.lfm_table.specs.declared.seat_view.View.{View}
+use Rattle.lfm_table.proofs.tables.CoreFacts.{owner_told}
+use Rattle.lfm_table.proofs.tables.RuleKept.{length_at}
+use Rattle.lfm_pool.specs.declared.pool.Pool.{Pool}
+use Rattle.lfm_pool.specs.declared.pool.PoolSeat.{PoolSeat}
+use Rattle.lfm_pool.specs.declared.view.PoolView.{PoolView}
+use Rattle.lfm_pool.specs.Belongs.{IsMutex, OfPool}
+use Rattle.lfm_pool.specs.Depths.{TellsOwner}
+use Rattle.lfm_pool.specs.Rule.{own_at, HeldPool}
+use Rattle.lfm_pool.specs.Tables.{part}
+
+module _ (p : Pool) (t : PoolSeat) (m : ℕ) (belongs : OfPool t p) (mutex : IsMutex m p) where
+  abbrev v : View ⊤
+  v = part t.place.me.0 m
+
+  module _ (s : State ℕ PoolView) (h : HeldPool s) (at : get_elem? s.views t.place.id ≡ some t.place.me.0) where
+    inner : m < h.mutexes
+    inner = let wide = h.wide t.place.id t.place.me.0 at in let n = belongs.parts in omega (arith, wide, n, mutex)
+
+    tells : (found : ℕ) → found ≡ slice_index s.words (own_at m 1) → TellsOwner (part t.place.me.0 m) found
+    tells found is =
+        let lone = h.kept m inner in
+        let mine = h.parts m t.place.id t.place.me.0 inner at in
+        let sits = lone.each t.place.id (part t.place.me.0 m) mine in
+        let low = length_at (h.tables m).views t.place.id (part t.place.me.0 m) mine in
+        let few = lone.few in
+        let named = sits.number in
+        let is_seat : IsSeat lone.core.seats (part t.place.me.0 m).number = record { above = omega (arith, named); within = omega (arith, named, few, low) } in
+        let told = owner_told lone.core lone.ghost_state (part t.place.me.0 m).number is_seat lone.fits in
+        let owner : found ≡ lone.core.owner = is ∙ h.own m 1 inner (omega arith) ∙ ap (λ (ws : List ℕ). slice_index ws 1) lone.words_are in
+        let stands : seat lone.core.seats (part t.place.me.0 m).number ≡ (part t.place.me.0 m).state = ap (λ (n : ℕ). seat lone.core.seats n) sits.number ∙ sits.state in (
+          λ e. subst (λ (x : SeatState). 0 < x.depth) stands (told.0 (sym owner ∙ e)),
+          λ deep. owner ∙ told.1 (subst (λ (x : SeatState). 0 < x.depth) (sym stands) deep),
+        )
+
+  pub reads_owner : (slots index picked : ℕ) → picked ≡ m → index ≡ own_at m 1
+      → Allows HeldPool slots t.place.id t.place.me index (λ n. n) (λ n me'. (me' ≡ t.place.me) × TellsOwner (part t.place.me.0 picked) n)
+  reads_owner slots index picked same e =
+      subst (λ (z : ℕ). Allows HeldPool slots t.place.id t.place.me index (λ n. n) (λ n me'. (me' ≡ t.place.me) × TellsOwner (part t.place.me.0 z) n)) (sym same) (λ s h none at small. (
+        t.place.me.0,
+        keeps,
+        tt,
+        subst HeldPool (λ i. record { words = sym (set-get_or s.words index 0) i; homes = s.homes; views = sym (set_again s.views t.place.id t.place.me.0 at) i }) h,
+        (refl, tells s h at (slice_index s.words index) (ap (λ (i : ℕ). slice_index s.words i) e)),
+      ))

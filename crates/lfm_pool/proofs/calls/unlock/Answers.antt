@@ -1,0 +1,118 @@
+use Rattle.std.proofs.Common.{ℕ, refl, ◌<◌, ◌-◌, subst, arith}
+use Rattle.std.specs.Prelude.{false}
+use Rattle.lfm_pool.specs.Depths.{HasDepthIn}
+use Rattle.lfm_pool.proofs.AnyDepth.{after_unlock, awake_rests, depth_then_at, fewer_rest, gives_up_then, holds_one, last_told, others_rest, rest_said, rest_then, same_said, same_self, still_told, unlocks_then}
+use Rattle.lfm_pool.proofs.SeveralSteps.{same_then}
+use Rattle.lfm_pool.proofs.calls.unlock.Goals as goal
+
+pub returns-then-asleep-clause-unlocks : goal.returns-then-asleep-clause-unlocks
+returns-then-asleep-clause-unlocks c =
+    (c.if-asleep.true, refl)
+
+pub returns-then-asleep-clause-belongs : goal.returns-then-asleep-clause-belongs
+returns-then-asleep-clause-belongs c =
+    same_self c.args.seat.now
+
+pub depth-held-requires-clause-belongs : goal.depth-held-requires-clause-belongs
+depth-held-requires-clause-belongs c =
+    let s = c.args.seat.now in let p = c.args.pool.now in let m = c.args.mutex in let r = c.requires in let rest = r.between.awake c.if-asleep.false in
+    rest.belongs
+
+pub depth-held-requires-clause-rests : goal.depth-held-requires-clause-rests
+depth-held-requires-clause-rests c =
+    let s = c.args.seat.now in let p = c.args.pool.now in let m = c.args.mutex in let r = c.requires in let rest = r.between.awake c.if-asleep.false in
+    rest.depths m r.mutex
+
+pub returns-then-asleep-clause-after : goal.returns-then-asleep-clause-after
+returns-then-asleep-clause-after c =
+    c.requires.between
+
+pub returns-then-held-eq0-clause-belongs : goal.returns-then-held-eq0-clause-belongs
+returns-then-held-eq0-clause-belongs c =
+    let s = c.args.seat.now in let p = c.args.pool.now in let m = c.args.mutex in let r = c.requires in let rest = r.between.awake c.if-asleep.false in
+    let f = c.depth-held in let t = f.new.seat in let rest' = rest_then s t p rest f.ensures.belongs f.ensures.knows in
+    same_said s t false f.ensures.belongs
+
+pub returns-then-held-eq0-clause-after : goal.returns-then-held-eq0-clause-after
+returns-then-held-eq0-clause-after c =
+    let s = c.args.seat.now in let p = c.args.pool.now in let m = c.args.mutex in let r = c.requires in let rest = r.between.awake c.if-asleep.false in
+    let f = c.depth-held in let t = f.new.seat in let rest' = rest_then s t p rest f.ensures.belongs f.ensures.knows in
+    awake_rests _ p refl (rest_said t _ p refl refl rest')
+
+pub returns-then-held-eq0-clause-unlocks : goal.returns-then-held-eq0-clause-unlocks
+returns-then-held-eq0-clause-unlocks c =
+    let s = c.args.seat.now in let p = c.args.pool.now in let m = c.args.mutex in let r = c.requires in let rest = r.between.awake c.if-asleep.false in
+    let f = c.depth-held in let t = f.new.seat in let rest' = rest_then s t p rest f.ensures.belongs f.ensures.knows in
+    (c.if-asleep.false, (subst (λ (d : ℕ). HasDepthIn s p m d) c.if-held-eq0.true f.ensures.depth), f.ensures.knows)
+
+pub begin_unlock-unlocking-requires-clause-belongs : goal.begin_unlock-unlocking-requires-clause-belongs
+begin_unlock-unlocking-requires-clause-belongs c =
+    let s = c.args.seat.now in let p = c.args.pool.now in let m = c.args.mutex in let r = c.requires in let rest = r.between.awake c.if-asleep.false in
+    let f = c.depth-held in let t = f.new.seat in let rest' = rest_then s t p rest f.ensures.belongs f.ensures.knows in
+    rest'.belongs
+
+pub begin_unlock-unlocking-requires-clause-holds : goal.begin_unlock-unlocking-requires-clause-holds
+begin_unlock-unlocking-requires-clause-holds c =
+    let s = c.args.seat.now in let p = c.args.pool.now in let m = c.args.mutex in let r = c.requires in let rest = r.between.awake c.if-asleep.false in
+    let f = c.depth-held in let t = f.new.seat in let rest' = rest_then s t p rest f.ensures.belongs f.ensures.knows in
+    holds_one t p m (depth_then_at s t p m 1 f.ensures.belongs f.ensures.knows (subst (λ (d : ℕ). HasDepthIn s p m d) c.if-held-eq1.true f.ensures.depth))
+
+pub begin_unlock-unlocking-requires-clause-elsewhere : goal.begin_unlock-unlocking-requires-clause-elsewhere
+begin_unlock-unlocking-requires-clause-elsewhere c =
+    let s = c.args.seat.now in let p = c.args.pool.now in let m = c.args.mutex in let r = c.requires in let rest = r.between.awake c.if-asleep.false in
+    let f = c.depth-held in let t = f.new.seat in let rest' = rest_then s t p rest f.ensures.belongs f.ensures.knows in
+    others_rest t p rest' m
+
+pub returns-then-held-eq1-clause-belongs : goal.returns-then-held-eq1-clause-belongs
+returns-then-held-eq1-clause-belongs c =
+    let s = c.args.seat.now in let p = c.args.pool.now in let m = c.args.mutex in let r = c.requires in let rest = r.between.awake c.if-asleep.false in
+    let f = c.depth-held in let t = f.new.seat in let rest' = rest_then s t p rest f.ensures.belongs f.ensures.knows in
+    let k = c.begin_unlock-unlocking in let u = k.new.seat in let did = unlocks_then s t u p m f.ensures.belongs f.ensures.knows k.result k.ensures.unlocks in same_said s u false (same_then s t u f.ensures.belongs k.ensures.belongs)
+
+pub returns-then-held-eq1-clause-after : goal.returns-then-held-eq1-clause-after
+returns-then-held-eq1-clause-after c =
+    let s = c.args.seat.now in let p = c.args.pool.now in let m = c.args.mutex in let r = c.requires in let rest = r.between.awake c.if-asleep.false in
+    let f = c.depth-held in let t = f.new.seat in let rest' = rest_then s t p rest f.ensures.belongs f.ensures.knows in
+    let k = c.begin_unlock-unlocking in let u = k.new.seat in let did = unlocks_then s t u p m f.ensures.belongs f.ensures.knows k.result k.ensures.unlocks in after_unlock s u p m rest r.mutex (same_then s t u f.ensures.belongs k.ensures.belongs) _ refl refl k.result did k.ensures.may refl
+
+pub returns-then-held-eq1-clause-unlocks : goal.returns-then-held-eq1-clause-unlocks
+returns-then-held-eq1-clause-unlocks c =
+    let s = c.args.seat.now in let p = c.args.pool.now in let m = c.args.mutex in let r = c.requires in let rest = r.between.awake c.if-asleep.false in
+    let f = c.depth-held in let t = f.new.seat in let rest' = rest_then s t p rest f.ensures.belongs f.ensures.knows in
+    let k = c.begin_unlock-unlocking in let u = k.new.seat in let did = unlocks_then s t u p m f.ensures.belongs f.ensures.knows k.result k.ensures.unlocks in last_told s u p m c.if-asleep.false false k.result (subst (λ (d : ℕ). HasDepthIn s p m d) c.if-held-eq1.true f.ensures.depth) did
+
+pub give_up_one-fewer-requires-clause-belongs : goal.give_up_one-fewer-requires-clause-belongs
+give_up_one-fewer-requires-clause-belongs c =
+    let s = c.args.seat.now in let p = c.args.pool.now in let m = c.args.mutex in let r = c.requires in let rest = r.between.awake c.if-asleep.false in
+    let f = c.depth-held in let t = f.new.seat in let rest' = rest_then s t p rest f.ensures.belongs f.ensures.knows in
+    rest'.belongs
+
+pub give_up_one-fewer-requires-clause-has : goal.give_up_one-fewer-requires-clause-has
+give_up_one-fewer-requires-clause-has c =
+    let s = c.args.seat.now in let p = c.args.pool.now in let m = c.args.mutex in let r = c.requires in let rest = r.between.awake c.if-asleep.false in
+    let f = c.depth-held in let t = f.new.seat in let rest' = rest_then s t p rest f.ensures.belongs f.ensures.knows in
+    (depth_then_at s t p m f.result f.ensures.belongs f.ensures.knows f.ensures.depth)
+
+pub give_up_one-fewer-requires-clause-inner : goal.give_up_one-fewer-requires-clause-inner
+give_up_one-fewer-requires-clause-inner c =
+    let s = c.args.seat.now in let p = c.args.pool.now in let m = c.args.mutex in let r = c.requires in let rest = r.between.awake c.if-asleep.false in
+    let f = c.depth-held in let t = f.new.seat in let rest' = rest_then s t p rest f.ensures.belongs f.ensures.knows in
+    (let some = c.if-held-eq0.false in let more = c.if-held-eq1.false in let e : 1 < f.result = omega (arith, some, more) in e)
+
+pub returns-clause-belongs : goal.returns-clause-belongs
+returns-clause-belongs c =
+    let s = c.args.seat.now in let p = c.args.pool.now in let m = c.args.mutex in let r = c.requires in let rest = r.between.awake c.if-asleep.false in
+    let f = c.depth-held in let t = f.new.seat in let rest' = rest_then s t p rest f.ensures.belongs f.ensures.knows in
+    let k = c.give_up_one-fewer in let u = k.new.seat in let did = gives_up_then s t u p m f.ensures.belongs f.ensures.knows (f.result - 1) k.ensures.gives in same_said s u false (same_then s t u f.ensures.belongs k.ensures.belongs)
+
+pub returns-clause-after : goal.returns-clause-after
+returns-clause-after c =
+    let s = c.args.seat.now in let p = c.args.pool.now in let m = c.args.mutex in let r = c.requires in let rest = r.between.awake c.if-asleep.false in
+    let f = c.depth-held in let t = f.new.seat in let rest' = rest_then s t p rest f.ensures.belongs f.ensures.knows in
+    let k = c.give_up_one-fewer in let u = k.new.seat in let did = gives_up_then s t u p m f.ensures.belongs f.ensures.knows (f.result - 1) k.ensures.gives in awake_rests _ p refl (rest_said u _ p refl refl (fewer_rest s u p m rest r.mutex (same_then s t u f.ensures.belongs k.ensures.belongs) (f.result - 1) did))
+
+pub returns-clause-unlocks : goal.returns-clause-unlocks
+returns-clause-unlocks c =
+    let s = c.args.seat.now in let p = c.args.pool.now in let m = c.args.mutex in let r = c.requires in let rest = r.between.awake c.if-asleep.false in
+    let f = c.depth-held in let t = f.new.seat in let rest' = rest_then s t p rest f.ensures.belongs f.ensures.knows in
+    let k = c.give_up_one-fewer in let u = k.new.seat in let did = gives_up_then s t u p m f.ensures.belongs f.ensures.knows (f.result - 1) k.ensures.gives in still_told s u p m c.if-asleep.false false f.result k.result k.ensures.fewer (let some = c.if-held-eq0.false in let more = c.if-held-eq1.false in let e : 1 < f.result = omega (arith, some, more) in e) f.ensures.depth did

@@ -1,8 +1,9 @@
 -- The calls of a seat of any depth: what holds of the seat before and after them.
-use Rattle.std.proofs.Common.{◌≡◌, ◌≢◌, ℕ, ◌+◌, ◌-◌, ◌*◌, ◌<◌, ◌≤◌, List, length, Option, Some, None, refl, sym, ap, ◌∙◌, subst, inl, inr, arith}
+use Rattle.std.proofs.Common.{◌≡◌, ◌≢◌, ℕ, ◌+◌, ◌-◌, ◌*◌, ◌<◌, ◌≤◌, List, ◌++◌, length, Option, Some, None, refl, sym, ap, ◌∙◌, subst, inl, inr, arith}
 use Rattle.std.specs.Prelude.{⊤, Bool, IfOk, true, false, Result, Ok, Err}
 use Rattle.std.proofs.lemmas.Bool.{cases_eq, false≢true}
 use Rattle.atomic_table.specs.Table.{Me}
+use Rattle.lfm_model.specs.declared.answers.Asked.{Asked}
 use Rattle.lfm_model.specs.declared.answers.How.{How}
 use Rattle.lfm_model.specs.declared.answers.Locked.{Locked}
 use Rattle.lfm_model.specs.declared.refusals.Refusal.{Refusal}
@@ -17,26 +18,29 @@ use Rattle.lfm_table.proofs.tables.StepFacts.{became_depth}
 use Rattle.lfm_pool.specs.declared.ask.Asking.{Asking}
 use Rattle.lfm_pool.specs.declared.pool.Pool.{Pool}
 use Rattle.lfm_pool.specs.declared.pool.PoolSeat.{PoolSeat}
+use Rattle.lfm_pool.specs.declared.finish_ask.Finished.{Finished}
+use Rattle.lfm_pool.specs.declared.unlock.Released.{Released}
 use Rattle.lfm_pool.specs.declared.unlock.Unlocking.{Unlocking}
 use Rattle.lfm_pool.specs.declared.view.Note.{Note}
 use Rattle.lfm_pool.specs.declared.view.PoolView.{PoolView}
-use Rattle.lfm_pool.specs.Ask.{AskSteps, AsksIn, IsReadyAfter, asked}
+use Rattle.lfm_pool.specs.Ask.{AskSteps, AsksIn, asked}
+use Rattle.lfm_pool.specs.AskAll.{AsksAllIn, IsReadyAsked, TakesOverAllIn}
 use Rattle.lfm_pool.specs.Belongs.{IsMutex, IsNew, OfPool, SameSeat}
-use Rattle.lfm_pool.specs.AnyDepth.{AsksAtAnyDepth, IsAfterAsk, IsAfterUnlock, IsAtRest, IsAwayIn, IsBetweenCalls, TriesAtAnyDepth, UnlocksAtAnyDepth, sleeps_after}
+use Rattle.lfm_pool.specs.AnyDepth.{AsksAtAnyDepth, IsAtRest, IsAwayIn, IsBetweenCalls, TriesAtAnyDepth, UnlocksAtAnyDepth, sleeps_after}
 use Rattle.lfm_pool.specs.SeatWords.{Sleeps}
-use Rattle.lfm_pool.specs.declared.calls.Begun.{Begun}
-use Rattle.lfm_pool.specs.declared.calls.Released.{Released}
+use Rattle.lfm_pool.specs.declared.calls.Release.{Release}
 use Rattle.lfm_pool.specs.Chain.{deep, first_seat, note_since, rested}
 use Rattle.lfm_pool.specs.Depths.{AskAgainSteps, DeepensBy, GivesUpIn, HasDepth, HasDepthIn, TryAgainSteps}
 use Rattle.lfm_pool.specs.FastPaths.{KnowsMoreOf, Leaves}
-use Rattle.lfm_pool.specs.FinishAsk.{FinishesIn}
+use Rattle.lfm_pool.specs.FinishAsk.{FinishSteps, NotesFinished, finished}
+use Rattle.lfm_pool.specs.Handoff.{recounted}
 use Rattle.lfm_pool.specs.Receive.{ReceivedIn}
 use Rattle.lfm_pool.specs.Moves.{Made, MayStepIn}
 use Rattle.lfm_pool.specs.Seats.{HoldsOnceIn, MayTryIn, RestsInOthers, popped_of, state_of}
 use Rattle.lfm_pool.specs.Steps.{RestsElsewhere, Sits, state_at, state_in}
 use Rattle.lfm_pool.specs.Tables.{note, part, rests_at, with_part}
 use Rattle.lfm_pool.specs.TryLock.{AcceptSteps, StepsIfPosted, TriesIn, TrySteps, tried}
-use Rattle.lfm_pool.specs.Unlock.{FindsNobody, Hands, UnlocksIn}
+use Rattle.lfm_pool.specs.Unlock.{Hands, PassesOn, PassesOnIn, ReleasesIn, UnlocksIn}
 use Rattle.lfm_pool.proofs.FastPaths.{note_now, part_now}
 use Rattle.lfm_pool.proofs.LoneTables.{note_other, part_other}
 use Rattle.lfm_pool.proofs.SeveralSteps.{state_after}
@@ -197,14 +201,41 @@ DeepensFrom z steps u p m depth =
 abbrev pub GivesUpFrom : ℕ × ℕ × Me ℕ PoolView → PoolSeat → Pool → ℕ → ℕ → Type 0
 GivesUpFrom z u p m depth = KnowsMoreOf m (λ w k. (w ≡ part z.2.0 m) × HasDepth z.0 z.1 p.limits w k depth) z.2 u.place.me
 
-abbrev pub UnlocksFrom : Unlocking → ℕ × ℕ × Me ℕ PoolView → PoolSeat → Pool → ℕ → Type 0
-UnlocksFrom Unlocking.Free z u p m = KnowsMoreOf m (λ w k. Leaves (part z.2.0 m) w × Sits z.0 z.1 p.limits w.state w) z.2 u.place.me
-UnlocksFrom (Unlocking.Granted r) z u p m = KnowsMoreOf m (λ w k. Hands r (part z.2.0 m) w × Sits z.0 z.1 p.limits w.state w) z.2 u.place.me
-UnlocksFrom Unlocking.Posts z u p m = KnowsMoreOf m (λ w k. FindsNobody (part z.2.0 m) w × Sits z.0 z.1 p.limits w.state w × (k ≡ rested w.popped)) z.2 u.place.me
+abbrev pub TakesOverFrom : Finished → ℕ × ℕ × Me ℕ PoolView → PoolSeat → Pool → ℕ → Type 0
+TakesOverFrom result z u p m =
+    KnowsMoreOf m
+    (λ w k.
+    ((first later : List Seen) × (before : List Record) × AskSteps Asking.Carries z.0 first × FinishSteps result z.0 before w.popped later
+    × Made (first ++ later) (finished result (record (state_in z.2.0 m) { takes = (state_in z.2.0 m).takes + 1 })) (part z.2.0 m) w)
+    × Sits z.0 z.1 p.limits w.state w × NotesFinished result k w.popped)
+    z.2 u.place.me
+
+abbrev pub LeavesFrom : ℕ × ℕ × Me ℕ PoolView → PoolSeat → Pool → ℕ → Type 0
+LeavesFrom z u p m = KnowsMoreOf m (λ w k. Leaves (part z.2.0 m) w × Sits z.0 z.1 p.limits w.state w) z.2 u.place.me
+
+abbrev pub HandsFrom : Record → ℕ × ℕ × Me ℕ PoolView → PoolSeat → Pool → ℕ → Type 0
+HandsFrom r z u p m = KnowsMoreOf m (λ w k. Hands r (part z.2.0 m) w × Sits z.0 z.1 p.limits w.state w) z.2 u.place.me
+
+abbrev pub PassesOnFrom : Released → ℕ × (ℕ × ℕ × Me ℕ PoolView) → PoolSeat → Pool → ℕ → Type 0
+PassesOnFrom result z u p m =
+    KnowsMoreOf m (λ w k. PassesOn result z.1.0 (part z.1.2.0 m) w × Sits z.1.0 z.1.1 p.limits w.state w) (record z.1.2.0 { posts = z.0 + 1 }, z.1.2.1) u.place.me
 
 module _ (s t u : PoolSeat) (p : Pool) (m : ℕ) (same : SameSeat s t) (knows : t.place.me ≡ s.place.me) where
-  pub asks_then : (asking : Asking) → AsksIn t u m asking → AsksIn s u m asking
+  asks_then : (asking : Asking) → AsksIn t u m asking → AsksIn s u m asking
   asks_then asking did = subst (λ (z : ℕ × ℕ × Me ℕ PoolView). AsksFrom z u m asking) (same_from s t same knows) did
+
+  takes_over_then : (result : Finished) → TakesOverAllIn result t u p m → TakesOverAllIn result s u p m
+  takes_over_then result did = subst (λ (z : ℕ × ℕ × Me ℕ PoolView). TakesOverFrom result z u p m) (same_from s t same knows) did
+
+  pub asks_all_then : (asked : Asked) (granted : Option Record) → AsksAllIn asked granted t u p m → AsksAllIn asked granted s u p m
+  asks_all_then (Asked.Held How.Free) None did = asks_then Asking.Held did
+  asks_all_then (Asked.Held (How.Queued stamp)) None did = takes_over_then (Finished.Held stamp) did
+  asks_all_then (Asked.Held How.Free) (Some r) did = absurd did
+  asks_all_then (Asked.Held (How.Queued stamp)) (Some r) did = absurd did
+  asks_all_then Asked.Asleep None did = asks_then Asking.Asleep did
+  asks_all_then Asked.Asleep (Some r) did = takes_over_then (Finished.Granted r) did
+  asks_all_then (Asked.Again depth) None did = absurd did
+  asks_all_then (Asked.Again depth) (Some r) did = absurd did
 
   pub deepens_then : (steps : ℕ → List Seen → Type 0) (depth : ℕ) → DeepensBy steps t u p m depth → DeepensBy steps s u p m depth
   deepens_then steps depth did = subst (λ (z : ℕ × ℕ × Me ℕ PoolView). DeepensFrom z steps u p m depth) (same_from s t same knows) did
@@ -212,10 +243,24 @@ module _ (s t u : PoolSeat) (p : Pool) (m : ℕ) (same : SameSeat s t) (knows : 
   pub gives_up_then : (depth : ℕ) → GivesUpIn t u p m depth → GivesUpIn s u p m depth
   gives_up_then depth did = subst (λ (z : ℕ × ℕ × Me ℕ PoolView). GivesUpFrom z u p m depth) (same_from s t same knows) did
 
-  pub unlocks_then : (unlocking : Unlocking) → UnlocksIn unlocking t u p m → UnlocksIn unlocking s u p m
-  unlocks_then Unlocking.Free did = subst (λ (z : ℕ × ℕ × Me ℕ PoolView). UnlocksFrom Unlocking.Free z u p m) (same_from s t same knows) did
-  unlocks_then (Unlocking.Granted r) did = subst (λ (z : ℕ × ℕ × Me ℕ PoolView). UnlocksFrom (Unlocking.Granted r) z u p m) (same_from s t same knows) did
-  unlocks_then Unlocking.Posts did = subst (λ (z : ℕ × ℕ × Me ℕ PoolView). UnlocksFrom Unlocking.Posts z u p m) (same_from s t same knows) did
+  -- it has counted no post since
+  pub posts_then : t.posts ≡ s.posts
+  posts_then = sym t.counted ∙ ap (λ (z : Me ℕ PoolView). z.0.posts) knows ∙ s.counted
+
+  hands_then : (r : Record) → UnlocksIn (Unlocking.Granted r) t u p m → UnlocksIn (Unlocking.Granted r) s u p m
+  hands_then r did = subst (λ (z : ℕ × ℕ × Me ℕ PoolView). HandsFrom r z u p m) (same_from s t same knows) did
+
+  passes_then : (result : Released) → PassesOnIn result t u p m → PassesOnIn result s u p m
+  passes_then result did = subst (λ (z : ℕ × (ℕ × ℕ × Me ℕ PoolView)). PassesOnFrom result z u p m) (λ i. (posts_then i, same_from s t same knows i)) did
+
+  pub releases_then : (result : Released) → ReleasesIn result t u p m → ReleasesIn result s u p m
+  releases_then Released.Free did = subst (λ (z : ℕ × ℕ × Me ℕ PoolView). LeavesFrom z u p m) (same_from s t same knows) did
+  releases_then (Released.Granted r) did = elim did [
+    | inl handed ↦ inl (hands_then r handed)
+    | inr passed ↦ inr (passes_then (Released.Granted r) passed)
+  ]
+  releases_then Released.Posted did = passes_then Released.Posted did
+  releases_then Released.TakenOver did = passes_then Released.TakenOver did
 
 -- The seat after each call, which began at rest
 
@@ -242,7 +287,7 @@ module _ (s t : PoolSeat) (p : Pool) (m : ℕ) (rest : IsAtRest s p) (less : IsM
   pub fewer_rest : (depth : ℕ) → GivesUpIn s t p m depth → IsAtRest t p
   fewer_rest depth did = rest_after s t p m rest.belongs less others same did.0 did.1 did.2 depth (depth_after s t p m rest.belongs less others same did.0 did.1 did.2 depth did.3.1)
 
-  -- after an unlock that has ended
+  -- after an unlock
   free_rest : UnlocksIn Unlocking.Free s t p m → IsAtRest t p
   free_rest did =
       rest_after s t p m rest.belongs less others same did.0 did.1 did.2 0 (depth_after s t p m rest.belongs less others same did.0 did.1 did.2 0 (has_none s.number s.place.id p did.0 did.1 did.3.1 did.3.0.rests did.3.0.flat))
@@ -252,34 +297,51 @@ module _ (s t : PoolSeat) (p : Pool) (m : ℕ) (rest : IsAtRest s p) (less : IsM
       rest_after s t p m rest.belongs less others same did.0 did.1 did.2 0
       (depth_after s t p m rest.belongs less others same did.0 did.1 did.2 0 (has_none s.number s.place.id p did.0 did.1 did.3.1 (ap (λ (x : SeatState). x.point) did.3.0.state) (ap (λ (x : SeatState). x.depth) did.3.0.state)))
 
-  -- after the start of a lock
-  pub held_rest : AsksIn s t m Asking.Held → HoldsOnceIn t p m → IsAtRest t p
+  abbrev one_more : PoolSeat
+  one_more = recounted s (s.posts + 1)
+
+  passed_rest : (result : Released) → PassesOnIn result s t p m → IsAtRest t p
+  passed_rest result did =
+      rest_after one_more t p m (record { table = rest.belongs.table; parts = rest.belongs.parts }) less others (record { table = same.table; id = same.id; number = same.number; parts = same.parts }) did.0 did.1 did.2 0
+      (depth_after one_more t p m (record { table = rest.belongs.table; parts = rest.belongs.parts }) less others (record { table = same.table; id = same.id; number = same.number; parts = same.parts }) did.0 did.1 did.2 0
+      (has_none s.number s.place.id p did.0 did.1 did.3.1 (ap (λ (x : SeatState). x.point) did.3.0.state) (ap (λ (x : SeatState). x.depth) did.3.0.state)))
+
+  pub released_rest : (result : Released) → ReleasesIn result s t p m → IsAtRest t p
+  released_rest Released.Free did = free_rest did
+  released_rest (Released.Granted r) did = elim did [
+    | inl handed ↦ granted_rest r handed
+    | inr passed ↦ passed_rest (Released.Granted r) passed
+  ]
+  released_rest Released.Posted did = passed_rest Released.Posted did
+  released_rest Released.TakenOver did = passed_rest Released.TakenOver did
+
+  -- after an ask
+  held_rest : AsksIn s t m Asking.Held → HoldsOnceIn t p m → IsAtRest t p
   held_rest did holds = rest_after s t p m rest.belongs less others same did.2.0 did.2.1 did.2.2 1 (has_one t p m holds)
 
-  pub asked_away : (asking : Asking) → AsksIn s t m asking → MayStepIn t p m → IsAwayIn t p m
-  asked_away asking did later = away_after s t p m rest.belongs less others same did.2.0 did.2.1 did.2.2 later
-
-  posts_away : UnlocksIn Unlocking.Posts s t p m → MayStepIn t p m → IsAwayIn t p m
-  posts_away did later = away_after s t p m rest.belongs less others same did.0 did.1 did.2 later
+  served_rest : (result : Finished) → TakesOverAllIn result s t p m → HoldsOnceIn t p m → IsAtRest t p
+  served_rest result did holds = rest_after s t p m rest.belongs less others same did.0 did.1 did.2 1 (has_one t p m holds)
 
   -- the seat `u` is `t`, and says of itself whether it sleeps
   module _ (u : PoolSeat) (place : u.place ≡ t.place) (number : u.number ≡ t.number) where
-    pub after_unlock : (unlocking : Unlocking) → UnlocksIn unlocking s t p m → MayStepIn t p m → u.asleep ≡ false → IsAfterUnlock (Ok (Released.Last unlocking)) u p m
-    after_unlock Unlocking.Free did later awake = awake_rests u p awake (rest_said t u p place number (free_rest did))
-    after_unlock (Unlocking.Granted r) did later awake = awake_rests u p awake (rest_said t u p place number (granted_rest r did))
-    after_unlock Unlocking.Posts did later awake = away_said t u p m place number (posts_away did later)
+    pub after_unlock : (result : Released) → ReleasesIn result s t p m → u.asleep ≡ false → IsBetweenCalls u p
+    after_unlock result did awake = awake_rests u p awake (rest_said t u p place number (released_rest result did))
 
-    pub after_ask : (asking : Asking) → AsksIn s t m asking → MayStepIn t p m → IsReadyAfter asking t p m → u.asleep ≡ sleeps_after asking → IsAfterAsk (Ok (Begun.First asking)) u p m
-    after_ask Asking.Held did later ready says = awake_rests u p says (rest_said t u p place number (held_rest did ready))
-    after_ask Asking.Asleep did later ready says = record {
+    sleeps_there : IsAwayIn t p m → Sleeps (state_of t m) → u.asleep ≡ true → IsBetweenCalls u p
+    sleeps_there away ready says = record {
       awake = λ e. absurd (false≢true (sym e ∙ says));
-      sleeps = λ e. (
-        m,
-        away_said t u p m place number (asked_away Asking.Asleep did later),
-        subst (λ (x : Me ℕ PoolView). Sleeps (state_in x.0 m)) (λ i. (sym place i).me) ready,
-      );
+      sleeps = λ e. (m, away_said t u p m place number away, subst (λ (x : Me ℕ PoolView). Sleeps (state_in x.0 m)) (λ i. (sym place i).me) ready);
     }
-    after_ask Asking.Carries did later ready says = away_said t u p m place number (asked_away Asking.Carries did later)
+
+    pub after_ask : (asked : Asked) (granted : Option Record) → AsksAllIn asked granted s t p m → MayStepIn t p m → IsReadyAsked asked t p m → u.asleep ≡ sleeps_after asked → IsBetweenCalls u p
+    after_ask (Asked.Held How.Free) None did later ready says = awake_rests u p says (rest_said t u p place number (held_rest did ready))
+    after_ask (Asked.Held (How.Queued stamp)) None did later ready says = awake_rests u p says (rest_said t u p place number (served_rest (Finished.Held stamp) did ready))
+    after_ask (Asked.Held How.Free) (Some r) did later ready says = absurd did
+    after_ask (Asked.Held (How.Queued stamp)) (Some r) did later ready says = absurd did
+    after_ask Asked.Asleep None did later ready says = sleeps_there (away_after s t p m rest.belongs less others same did.2.0 did.2.1 did.2.2 later) ready says
+    after_ask Asked.Asleep (Some r) did later ready says = sleeps_there (away_after s t p m rest.belongs less others same did.0 did.1 did.2 later) ready says
+    after_ask (Asked.Again depth) None did later ready says = absurd did
+    after_ask (Asked.Again depth) (Some r) did later ready says = absurd did
 
 -- what a seat has been told of its depth holds of it after a load that changes nothing
 pub depth_then_at : (s t : PoolSeat) (p : Pool) (m depth : ℕ) → SameSeat s t → t.place.me ≡ s.place.me → HasDepthIn s p m depth → HasDepthIn t p m depth
@@ -332,7 +394,7 @@ module _ (s u : PoolSeat) (p : Pool) (m : ℕ) (awake : s.asleep ≡ false) (b :
     subst (λ (d : ℕ). DeepensBy TryAgainSteps s u p m d) (sym is) did,
   )
 
-  pub asked_again : (held deeper : ℕ) → deeper ≡ held + 1 → 0 < held → HasDepthIn s p m held → DeepensBy AskAgainSteps s u p m (held + 1) → AsksAtAnyDepth (Ok (Begun.Again deeper)) s (record u { asleep = b }) p m
+  pub asked_again : (held deeper : ℕ) → deeper ≡ held + 1 → 0 < held → HasDepthIn s p m held → DeepensBy AskAgainSteps s u p m (held + 1) → AsksAtAnyDepth (Ok (Asked.Again deeper)) None s (record u { asleep = b }) p m
   asked_again held deeper is above has did = (
     awake,
     omega (arith, is, above),
@@ -340,16 +402,18 @@ module _ (s u : PoolSeat) (p : Pool) (m : ℕ) (awake : s.asleep ≡ false) (b :
     subst (λ (d : ℕ). DeepensBy AskAgainSteps s u p m d) (sym is) did,
   )
 
-  ready_said : (asking : Asking) → IsReadyAfter asking u p m → IsReadyAfter asking (record u { asleep = b }) p m
-  ready_said Asking.Held ready = ready
-  ready_said Asking.Asleep ready = ready
-  ready_said Asking.Carries ready = ready
-
-  pub asked_first : (asking : Asking) → HasDepthIn s p m 0 → AsksIn s u m asking → IsReadyAfter asking u p m → AsksAtAnyDepth (Ok (Begun.First asking)) s (record u { asleep = b }) p m
-  asked_first asking has did ready = (awake, has, did, ready_said asking ready)
+  pub asked_first : (asked : Asked) (granted : Option Record) → HasDepthIn s p m 0 → AsksAllIn asked granted s u p m → IsReadyAsked asked u p m → AsksAtAnyDepth (Ok asked) granted s (record u { asleep = b }) p m
+  asked_first (Asked.Held How.Free) None has did ready = (awake, has, did, ready)
+  asked_first (Asked.Held (How.Queued stamp)) None has did ready = (awake, has, did, ready)
+  asked_first (Asked.Held How.Free) (Some r) has did ready = absurd did
+  asked_first (Asked.Held (How.Queued stamp)) (Some r) has did ready = absurd did
+  asked_first Asked.Asleep None has did ready = (awake, has, did, ready)
+  asked_first Asked.Asleep (Some r) has did ready = (awake, has, did, ready)
+  asked_first (Asked.Again depth) None has did ready = absurd did
+  asked_first (Asked.Again depth) (Some r) has did ready = absurd did
 
   -- a hold that was given up
-  pub still_told : (held fewer : ℕ) → fewer + 1 ≡ held → 1 < held → HasDepthIn s p m held → GivesUpIn s u p m (held - 1) → UnlocksAtAnyDepth (Ok (Released.Still fewer)) s (record u { asleep = b }) p m
+  pub still_told : (held fewer : ℕ) → fewer + 1 ≡ held → 1 < held → HasDepthIn s p m held → GivesUpIn s u p m (held - 1) → UnlocksAtAnyDepth (Ok (Release.Still fewer)) s (record u { asleep = b }) p m
   still_told held fewer is inner has did = (
     awake,
     omega (arith, is, inner),
@@ -357,13 +421,14 @@ module _ (s u : PoolSeat) (p : Pool) (m : ℕ) (awake : s.asleep ≡ false) (b :
     subst (λ (d : ℕ). GivesUpIn s u p m d) (let e : held - 1 ≡ fewer = omega (arith, is) in e) did,
   )
 
-  unlocked_said : (unlocking : Unlocking) → UnlocksIn unlocking s u p m → UnlocksIn unlocking s (record u { asleep = b }) p m
-  unlocked_said Unlocking.Free did = did
-  unlocked_said (Unlocking.Granted r) did = did
-  unlocked_said Unlocking.Posts did = did
+  released_said : (result : Released) → ReleasesIn result s u p m → ReleasesIn result s (record u { asleep = b }) p m
+  released_said Released.Free did = did
+  released_said (Released.Granted r) did = did
+  released_said Released.Posted did = did
+  released_said Released.TakenOver did = did
 
-  pub last_told : (unlocking : Unlocking) → HasDepthIn s p m 1 → UnlocksIn unlocking s u p m → UnlocksAtAnyDepth (Ok (Released.Last unlocking)) s (record u { asleep = b }) p m
-  last_told unlocking has did = (awake, has, unlocked_said unlocking did)
+  pub last_told : (result : Released) → HasDepthIn s p m 1 → ReleasesIn result s u p m → UnlocksAtAnyDepth (Ok (Release.Last result)) s (record u { asleep = b }) p m
+  last_told result has did = (awake, has, released_said result did)
 
 -- a seat that is refused at its greatest depth
 pub full : (s : PoolSeat) (p : Pool) (m held : ℕ) → HasDepthIn s p m held → max_depth ≤ held → HasDepthIn s p m max_depth
@@ -372,7 +437,7 @@ full s p m held has most = subst (λ (d : ℕ). HasDepthIn s p m d) (let few = h
 pub same_self : (s : PoolSeat) → SameSeat s s
 same_self s = record { table = refl; id = refl; number = refl; parts = refl }
 
--- The end of a lock, and a receive
+-- A receive
 
 -- a seat that sleeps in mutex m, between two calls, is at rest in all others
 module _ (s : PoolSeat) (p : Pool) (m : ℕ) (between : IsBetweenCalls s p) (less : IsMutex m p) (sleeping : Sleeps (state_of s m)) where
@@ -390,19 +455,11 @@ module _ (s : PoolSeat) (p : Pool) (m : ℕ) (between : IsBetweenCalls s p) (les
   sleeper_away = away_by s.asleep refl
 
 module _ (s u : PoolSeat) (p : Pool) (m : ℕ) (away : IsAwayIn s p m) (same : SameSeat s u) where
-  pub finish_holds : FinishesIn None s u p m → HoldsOnceIn u p m → IsBetweenCalls (record u { asleep = false }) p
-  finish_holds did holds =
-      awake_rests (record u { asleep = false }) p refl
-      (rest_said u (record u { asleep = false }) p refl refl (rest_after s u p m away.may.belongs away.may.mutex away.depths same did.0 did.1 did.2 1 (has_one u p m holds)))
-
   sleeps_said : IsAwayIn u p m → Sleeps (state_of u m) → IsBetweenCalls (record u { asleep = true }) p
   sleeps_said later sleeping = record {
     awake = λ e. absurd (false≢true (sym e));
     sleeps = λ e. (m, away_said u (record u { asleep = true }) p m refl refl later, sleeping);
   }
-
-  pub finish_sleeps : (r : Record) → FinishesIn (Some r) s u p m → MayStepIn u p m → Sleeps (state_of u m) → IsBetweenCalls (record u { asleep = true }) p
-  finish_sleeps r did later sleeping = sleeps_said (away_after s u p m away.may.belongs away.may.mutex away.depths same did.0 did.1 did.2 later) sleeping
 
   pub receive_holds : (how : How) → ReceivedIn s u m (Some how) → HoldsOnceIn u p m → IsBetweenCalls (record u { asleep = false }) p
   receive_holds how did holds =

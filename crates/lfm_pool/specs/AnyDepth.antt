@@ -1,22 +1,21 @@
 -- What a seat says of itself between two calls, and what the calls make of it, however often it holds the mutex.
-use Rattle.std.specs.Prelude.{◌≡◌, ◌≢◌, ℕ, ◌+◌, ◌-◌, ◌<◌, Bool, true, false, Result, Ok, Err}
+use Rattle.std.specs.Prelude.{◌≡◌, ◌≢◌, ℕ, ◌+◌, ◌-◌, ◌<◌, Bool, true, false, Option, None, Result, Ok, Err}
+use Rattle.lfm_model.specs.declared.answers.Asked.{Asked}
 use Rattle.lfm_model.specs.declared.answers.Locked.{Locked}
 use Rattle.lfm_model.specs.declared.refusals.Refusal.{Refusal}
+use Rattle.lfm_words.specs.declared.pop_lists.Record.{Record}
 use Rattle.lfm_protocol.specs.Limits.{max_depth}
-use Rattle.lfm_pool.specs.declared.ask.Asking.{Asking}
-use Rattle.lfm_pool.specs.declared.calls.Begun.{Begun}
-use Rattle.lfm_pool.specs.declared.calls.Released.{Released}
+use Rattle.lfm_pool.specs.declared.calls.Release.{Release}
 use Rattle.lfm_pool.specs.declared.pool.Pool.{Pool}
 use Rattle.lfm_pool.specs.declared.pool.PoolSeat.{PoolSeat}
-use Rattle.lfm_pool.specs.declared.unlock.Unlocking.{Unlocking}
-use Rattle.lfm_pool.specs.Ask.{AsksIn, IsReadyAfter}
+use Rattle.lfm_pool.specs.AskAll.{AsksAllIn, IsReadyAsked}
 use Rattle.lfm_pool.specs.Belongs.{IsMutex, OfPool}
 use Rattle.lfm_pool.specs.Depths.{AskAgainSteps, DeepensBy, GivesUpIn, HasDepthIn, TryAgainSteps}
 use Rattle.lfm_pool.specs.Moves.{MayStepIn}
 use Rattle.lfm_pool.specs.Seats.{state_of}
 use Rattle.lfm_pool.specs.SeatWords.{Sleeps}
 use Rattle.lfm_pool.specs.TryLock.{TriesIn}
-use Rattle.lfm_pool.specs.Unlock.{UnlocksIn}
+use Rattle.lfm_pool.specs.Unlock.{ReleasesIn}
 
 -- Between two calls
 
@@ -35,9 +34,9 @@ pub record IsBetweenCalls (s : PoolSeat) (p : Pool) : Type 0 where
   pub awake : s.asleep ≡ false → IsAtRest s p
   pub sleeps : s.asleep ≡ true → (m : ℕ) × IsAwayIn s p m × Sleeps (state_of s m)
 
--- whether a seat sleeps whose lock has come this far
-abbrev pub sleeps_after : Asking → Bool
-sleeps_after Asking.Asleep = true
+-- whether a seat sleeps whose ask has ended so
+abbrev pub sleeps_after : Asked → Bool
+sleeps_after Asked.Asleep = true
 sleeps_after _ = false
 
 -- the call was refused: the seat knows what it knew
@@ -56,30 +55,21 @@ TriesAtAnyDepth (Ok (Locked.Again depth)) s t p m =
     (s.asleep ≡ false) × (1 < depth) × HasDepthIn s p m (depth - 1) × DeepensBy TryAgainSteps s t p m depth
 TriesAtAnyDepth _ s t p m = ⊥
 
--- From s to t the seat has begun a lock of mutex m, with this answer. If it holds the mutex already, the call has ended.
-abbrev pub AsksAtAnyDepth : Result Begun Refusal → PoolSeat → PoolSeat → Pool → ℕ → Type 0
-AsksAtAnyDepth (Err Refusal.Asleep) s t p m = (s.asleep ≡ true) × IsRefused s t
-AsksAtAnyDepth (Err Refusal.DepthFull) s t p m = (s.asleep ≡ false) × HasDepthIn s p m max_depth × IsRefused s t
-AsksAtAnyDepth (Ok (Begun.First asking)) s t p m = (s.asleep ≡ false) × HasDepthIn s p m 0 × AsksIn s t m asking × IsReadyAfter asking t p m
-AsksAtAnyDepth (Ok (Begun.Again depth)) s t p m =
+-- From s to t the seat has made an ask of mutex m, with this answer and this record of the seat whose thread has to be woken.
+abbrev pub AsksAtAnyDepth : Result Asked Refusal → Option Record → PoolSeat → PoolSeat → Pool → ℕ → Type 0
+AsksAtAnyDepth (Err Refusal.Asleep) None s t p m = (s.asleep ≡ true) × IsRefused s t
+AsksAtAnyDepth (Err Refusal.DepthFull) None s t p m = (s.asleep ≡ false) × HasDepthIn s p m max_depth × IsRefused s t
+AsksAtAnyDepth (Ok (Asked.Again depth)) None s t p m =
     (s.asleep ≡ false) × (1 < depth) × HasDepthIn s p m (depth - 1) × DeepensBy AskAgainSteps s t p m depth
-AsksAtAnyDepth _ s t p m = ⊥
+AsksAtAnyDepth (Ok asked) granted s t p m =
+    (s.asleep ≡ false) × HasDepthIn s p m 0 × AsksAllIn asked granted s t p m × IsReadyAsked asked t p m
+AsksAtAnyDepth _ _ s t p m = ⊥
 
--- the seat after it: between two calls, unless the call has taken a post over and goes on in `finish_ask`
-abbrev pub IsAfterAsk : Result Begun Refusal → PoolSeat → Pool → ℕ → Type 0
-IsAfterAsk (Ok (Begun.First Asking.Carries)) t p m = IsAwayIn t p m
-IsAfterAsk _ t p m = IsBetweenCalls t p
-
--- from s to t the seat has begun an unlock of mutex m, with this answer
-abbrev pub UnlocksAtAnyDepth : Result Released Refusal → PoolSeat → PoolSeat → Pool → ℕ → Type 0
+-- from s to t the seat has made an unlock of mutex m, with this answer
+abbrev pub UnlocksAtAnyDepth : Result Release Refusal → PoolSeat → PoolSeat → Pool → ℕ → Type 0
 UnlocksAtAnyDepth (Err Refusal.Asleep) s t p m = (s.asleep ≡ true) × IsRefused s t
 UnlocksAtAnyDepth (Err Refusal.NotOwner) s t p m = (s.asleep ≡ false) × HasDepthIn s p m 0 × IsRefused s t
-UnlocksAtAnyDepth (Ok (Released.Still depth)) s t p m =
+UnlocksAtAnyDepth (Ok (Release.Still depth)) s t p m =
     (s.asleep ≡ false) × (0 < depth) × HasDepthIn s p m (depth + 1) × GivesUpIn s t p m depth
-UnlocksAtAnyDepth (Ok (Released.Last unlocking)) s t p m = (s.asleep ≡ false) × HasDepthIn s p m 1 × UnlocksIn unlocking s t p m
+UnlocksAtAnyDepth (Ok (Release.Last released)) s t p m = (s.asleep ≡ false) × HasDepthIn s p m 1 × ReleasesIn released s t p m
 UnlocksAtAnyDepth _ s t p m = ⊥
-
--- the seat after it: between two calls, unless the call has to post
-abbrev pub IsAfterUnlock : Result Released Refusal → PoolSeat → Pool → ℕ → Type 0
-IsAfterUnlock (Ok (Released.Last Unlocking.Posts)) t p m = IsAwayIn t p m
-IsAfterUnlock _ t p m = IsBetweenCalls t p

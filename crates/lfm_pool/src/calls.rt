@@ -2,44 +2,32 @@
 //! call finds out by the owner word whether the seat holds the mutex, and by the carried word how often. A seat says itself
 //! whether it sleeps, in whichever mutex of the pool, and is then refused.
 //!
-//! A lock that has taken a post over ends in `finish_ask`, a seat that sleeps finds its grant by `try_receive`, and an
-//! unlock that has to post stops there. Nothing changes in other mutexes, nor in what the seat knows of them. None of these
-//! calls allocates, waits or wakes a thread.
-ghost use Rattle.std.specs.Prelude.{◌≡◌, ◌<◌};
+//! A seat that sleeps finds its grant by `try_receive`. Nothing changes in other mutexes, nor in what the seat knows of them.
+//! None of these calls allocates, waits or wakes a thread.
+ghost use Rattle.std.specs.Prelude.{◌≡◌, ◌+◌, ◌^◌, ◌<◌};
 ghost use Rattle.lfm_pool.specs.Belongs.{IsMutex, SameSeat};
-ghost use Rattle.lfm_pool.specs.declared.ask.Asking.TheVariants.{Carries};
-ghost use Rattle.lfm_pool.specs.AnyDepth.{AsksAtAnyDepth, IsAfterAsk, IsAfterUnlock, IsAwayIn, IsBetweenCalls, TriesAtAnyDepth, UnlocksAtAnyDepth, sleeps_after};
-ghost use Rattle.lfm_pool.specs.Ask.{IsReadyAfter};
-ghost use Rattle.lfm_pool.specs.FinishAsk.{FinishesIn, IsReadyFinished};
+ghost use Rattle.lfm_pool.specs.AnyDepth.{AsksAtAnyDepth, IsBetweenCalls, TriesAtAnyDepth, UnlocksAtAnyDepth, sleeps_after};
 ghost use Rattle.lfm_pool.specs.Receive.{ReceivedIn};
 ghost use Rattle.lfm_pool.specs.Seats.{state_of};
 ghost use Rattle.lfm_pool.specs.SeatWords.{Sleeps};
 
-use crate::ask::{Asking, begin_ask};
+use crate::ask_all::ask_without_waking as ask_first;
 use crate::deepen::{ask_again, give_up_one, try_again};
 use crate::depth::depth;
 use crate::pool::{Pool, PoolSeat};
-use crate::unlock::{Unlocking, begin_unlock};
-use crate::{finish_ask as ending, receive as sleeper, try_lock as free};
-use lfm_model::{How, Locked, Refusal};
+use crate::unlock::{Released, unlock as unlock_last};
+use crate::{receive as sleeper, try_lock as free};
+use lfm_model::{Asked, How, Locked, Refusal};
 use lfm_protocol::MAX_DEPTH;
 use lfm_words::Record;
 use std::marker::Brand;
 
-/// What a `lock` has begun.
-pub enum Begun {
-    /// The seat held the mutex already, and now holds it this many times: 2 to 65,535. The call has ended.
-    Again(u32),
-    /// The seat did not hold the mutex, and its call has come this far.
-    First(Asking),
-}
-
-/// What an `unlock` has begun.
-pub enum Released {
-    /// The seat gave up one of several holds, and still holds the mutex this many times: 1 to 65,534. The call has ended.
+/// What an `unlock` has done.
+pub enum Release {
+    /// The seat gave up one of several holds, and still holds the mutex this many times: 1 to 65,534.
     Still(u32),
-    /// The seat held the mutex once, and its call has come this far.
-    Last(Unlocking),
+    /// The seat held the mutex once, and has released it.
+    Last(Released),
 }
 
 /// Acquires this mutex or deepens the hold, without queueing. An acquisition is charged one take. If it finds a post, it
@@ -77,52 +65,63 @@ pub fn try_lock(pool: &Pool, seat: &mut PoolSeat, mutex: usize) -> Result<Locked
     Err(Refusal::DepthFull)
 }
 
-/// Begins a `lock` of this mutex, or deepens the hold. An acquisition is charged one take. If the mutex is free, the seat
-/// acquires it; if the seat holds it, the hold is deepened; else the seat queues, as `begin_ask` says.
+/// Asks for this mutex, or deepens the hold: a `lock` without its sleep. An acquisition is charged one take. If the mutex is
+/// free, the seat acquires it; if the seat holds it, the hold is deepened; else the seat queues, as `ask_without_waking` of
+/// `ask_all` says. Returns Held, Again with the new depth, or Asleep: the seat sleeps then until a receive finds its grant. It
+/// also returns the record that it has granted, if any: the caller has to wake the thread of the seat of that record.
 ///
 /// Refuses, in this order: Asleep (the seat sleeps in some mutex of the pool), and DepthFull (it holds this mutex 65,535
-/// times). The seat has to have a take left here. The call makes as many atomic steps as `begin_ask`, or 3 if it deepens the
-/// hold, and before them a load of the owner word, and of the carried word if the seat holds the mutex.
+/// times). The seat has to have a take left here. The call makes as many atomic steps as that of `ask_all`, or 3 if it deepens
+/// the hold, and before them a load of the owner word, and of the carried word if the seat holds the mutex.
 #[inline(always)]
-pub fn ask(pool: &Pool, seat: &mut PoolSeat, mutex: usize) -> Result<Begun, Refusal>
+pub fn ask_without_waking(
+    pool: &Pool,
+    seat: &mut PoolSeat,
+    mutex: usize,
+) -> (Result<Asked, Refusal>, Option<Record>)
     requires between { IsBetweenCalls seat.old pool.now }
     requires mutex { IsMutex mutex pool.now }
     requires charged { (state_of seat.old mutex).takes < pool.now.limits.budget }
     ensures belongs { SameSeat seat.old seat.new }
-    ensures after { IsAfterAsk result seat.new pool.now mutex }
-    ensures asks { AsksAtAnyDepth result seat.old seat.new pool.now mutex }
+    ensures between { IsBetweenCalls seat.new pool.now }
+    ensures asks { AsksAtAnyDepth result.0 result.1 seat.old seat.new pool.now mutex }
 {
     let asleep = seat.asleep;
     if asleep {
-        return Err(Refusal::Asleep);
+        return (Err(Refusal::Asleep), None);
     }
     let held = depth(pool, seat, mutex);
     if held == 0 {
-        let asking = begin_ask(pool, seat, mutex);
-        seat.asleep = sleeps(asking);
-        return Ok(Begun::First(asking));
+        let (asked, granted) = ask_first(pool, seat, mutex);
+        seat.asleep = sleeps(&asked);
+        return (Ok(asked), granted);
     }
     if held < MAX_DEPTH {
         let deeper = ask_again::<Brand>(pool, seat, mutex, held);
         seat.asleep = false;
-        return Ok(Begun::Again(deeper));
+        return (Ok(Asked::Again(deeper)), None);
     }
     seat.asleep = false;
-    Err(Refusal::DepthFull)
+    (Err(Refusal::DepthFull), None)
 }
 
-/// Begins an `unlock` of this mutex: gives up one hold. If that was the last one, the mutex is free, or granted to the
-/// oldest queued seat, or has to be posted, as `begin_unlock` says.
+/// Gives up one hold of this mutex. If that was the last one, the mutex is free, granted to the oldest queued seat, or posted,
+/// as `unlock` of the module of that name says. If it granted the mutex, the caller has to wake the thread of that seat.
 ///
-/// Refuses, in this order: Asleep (the seat sleeps in some mutex of the pool), and NotOwner (it does not hold this mutex). A
-/// seat that still holds the mutex has made no atomic step of the protocol. Before its steps the call loads the owner word,
-/// and the carried word if the seat holds the mutex.
+/// Refuses, in this order: Asleep (the seat sleeps in some mutex of the pool), and NotOwner (it does not hold this mutex). The
+/// seat has to have a number for a post left (`has_post_left`). A seat that still holds the mutex has made no atomic step of
+/// the protocol. Before its steps the call loads the owner word, and the carried word if the seat holds the mutex.
 #[inline(always)]
-pub fn unlock(pool: &Pool, seat: &mut PoolSeat, mutex: usize) -> Result<Released, Refusal>
+pub fn unlock_without_waking(
+    pool: &Pool,
+    seat: &mut PoolSeat,
+    mutex: usize,
+) -> Result<Release, Refusal>
     requires between { IsBetweenCalls seat.old pool.now }
     requires mutex { IsMutex mutex pool.now }
+    requires left { seat.old.posts + 1 < 2 ^ 48 }
     ensures belongs { SameSeat seat.old seat.new }
-    ensures after { IsAfterUnlock result seat.new pool.now mutex }
+    ensures between { IsBetweenCalls seat.new pool.now }
     ensures unlocks { UnlocksAtAnyDepth result seat.old seat.new pool.now mutex }
 {
     let asleep = seat.asleep;
@@ -135,31 +134,13 @@ pub fn unlock(pool: &Pool, seat: &mut PoolSeat, mutex: usize) -> Result<Released
         return Err(Refusal::NotOwner);
     }
     if held == 1 {
-        let unlocking = begin_unlock(pool, seat, mutex);
+        let released = unlock_last(pool, seat, mutex);
         seat.asleep = false;
-        return Ok(Released::Last(unlocking));
+        return Ok(Release::Last(released));
     }
     let fewer = give_up_one(pool, seat, mutex, held);
     seat.asleep = false;
-    Ok(Released::Still(fewer))
-}
-
-/// Ends a `lock` of this mutex that has taken a post over: `ask` has returned Carries. Returns as `finish_ask`: None if the
-/// seat holds the mutex, else the record whose seat it granted the mutex to, and this seat sleeps.
-pub fn finish_ask(pool: &Pool, seat: &mut PoolSeat, mutex: usize) -> Option<Record>
-    requires away { IsAwayIn seat.old pool.now mutex }
-    requires ready { IsReadyAfter Carries seat.old pool.now mutex }
-    ensures belongs { SameSeat seat.old seat.new }
-    ensures between { IsBetweenCalls seat.new pool.now }
-    ensures finishes { FinishesIn result seat.old seat.new pool.now mutex }
-    ensures ready { IsReadyFinished result seat.new pool.now mutex }
-{
-    let Some(record) = ending::finish_ask(pool, seat, mutex) else {
-        seat.asleep = false;
-        return None;
-    };
-    seat.asleep = true;
-    Some(record)
+    Ok(Release::Still(fewer))
 }
 
 /// Loads the wake word of a seat that sleeps in this mutex, once, and acquires the mutex if it finds a grant there. Returns
@@ -181,12 +162,12 @@ pub fn try_receive(pool: &Pool, seat: &mut PoolSeat, mutex: usize) -> Option<How
     Some(how)
 }
 
-/// Whether the seat sleeps whose lock has come this far.
-fn sleeps(asking: Asking) -> bool
-    ensures { result ≡ sleeps_after asking }
+/// Whether the seat sleeps whose ask has ended so.
+fn sleeps(asked: &Asked) -> bool
+    ensures { result ≡ sleeps_after asked.now }
 {
-    match asking {
-        Asking::Asleep => true,
-        Asking::Held | Asking::Carries => false,
+    match asked {
+        Asked::Asleep => true,
+        Asked::Held(_) | Asked::Again(_) => false,
     }
 }

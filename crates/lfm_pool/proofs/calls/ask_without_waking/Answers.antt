@@ -4,9 +4,9 @@ use Rattle.lfm_pool.specs.declared.view.PoolView.{PoolView}
 use Rattle.std.specs.Prelude.{false}
 use Rattle.lfm_pool.specs.Depths.{AskAgainSteps, HasDepthIn}
 use Rattle.lfm_pool.specs.Steps.{state_in}
-use Rattle.lfm_pool.proofs.AnyDepth.{after_ask, asked_again, asked_first, asks_then, awake_rests, deep_rest, deepens_then, depth_then_at, full, may_at_rest, may_try_flat, others_rest, rest_said, rest_then, same_said, same_self}
+use Rattle.lfm_pool.proofs.AnyDepth.{after_ask, asked_again, asked_first, asks_all_then, awake_rests, deep_rest, deepens_then, depth_then_at, full, may_at_rest, may_try_flat, others_rest, rest_said, rest_then, same_said, same_self}
 use Rattle.lfm_pool.proofs.SeveralSteps.{same_then}
-use Rattle.lfm_pool.proofs.calls.ask.Goals as goal
+use Rattle.lfm_pool.proofs.calls.ask_without_waking.Goals as goal
 
 pub returns-then-asleep-clause-asks : goal.returns-then-asleep-clause-asks
 returns-then-asleep-clause-asks c =
@@ -30,20 +30,20 @@ pub returns-then-asleep-clause-after : goal.returns-then-asleep-clause-after
 returns-then-asleep-clause-after c =
     c.requires.between
 
-pub begin_ask-asking-requires-clause-belongs : goal.begin_ask-asking-requires-clause-belongs
-begin_ask-asking-requires-clause-belongs c =
+pub ask_first-asked-granted-requires-clause-belongs : goal.ask_first-asked-granted-requires-clause-belongs
+ask_first-asked-granted-requires-clause-belongs c =
     let s = c.args.seat.now in let p = c.args.pool.now in let m = c.args.mutex in let r = c.requires in let rest = r.between.awake c.if-asleep.false in
     let f = c.depth-held in let t = f.new.seat in let rest' = rest_then s t p rest f.ensures.belongs f.ensures.knows in
     rest'.belongs
 
-pub begin_ask-asking-requires-clause-may : goal.begin_ask-asking-requires-clause-may
-begin_ask-asking-requires-clause-may c =
+pub ask_first-asked-granted-requires-clause-may : goal.ask_first-asked-granted-requires-clause-may
+ask_first-asked-granted-requires-clause-may c =
     let s = c.args.seat.now in let p = c.args.pool.now in let m = c.args.mutex in let r = c.requires in let rest = r.between.awake c.if-asleep.false in
     let f = c.depth-held in let t = f.new.seat in let rest' = rest_then s t p rest f.ensures.belongs f.ensures.knows in
     may_try_flat t p m (depth_then_at s t p m 0 f.ensures.belongs f.ensures.knows (subst (λ (d : ℕ). HasDepthIn s p m d) c.if-held-eq0.true f.ensures.depth)) (subst (λ (z : Me ℕ PoolView). (state_in z.0 m).takes < p.limits.budget) (sym f.ensures.knows) r.charged)
 
-pub begin_ask-asking-requires-clause-elsewhere : goal.begin_ask-asking-requires-clause-elsewhere
-begin_ask-asking-requires-clause-elsewhere c =
+pub ask_first-asked-granted-requires-clause-elsewhere : goal.ask_first-asked-granted-requires-clause-elsewhere
+ask_first-asked-granted-requires-clause-elsewhere c =
     let s = c.args.seat.now in let p = c.args.pool.now in let m = c.args.mutex in let r = c.requires in let rest = r.between.awake c.if-asleep.false in
     let f = c.depth-held in let t = f.new.seat in let rest' = rest_then s t p rest f.ensures.belongs f.ensures.knows in
     others_rest t p rest' m
@@ -52,19 +52,19 @@ pub returns-then-held-eq0-clause-belongs : goal.returns-then-held-eq0-clause-bel
 returns-then-held-eq0-clause-belongs c =
     let s = c.args.seat.now in let p = c.args.pool.now in let m = c.args.mutex in let r = c.requires in let rest = r.between.awake c.if-asleep.false in
     let f = c.depth-held in let t = f.new.seat in let rest' = rest_then s t p rest f.ensures.belongs f.ensures.knows in
-    let k = c.begin_ask-asking in let u = k.new.seat in let did = asks_then s t u p m f.ensures.belongs f.ensures.knows k.result k.ensures.asks in let z = c.sleeps-seat in same_said s u z.result (same_then s t u f.ensures.belongs k.ensures.belongs)
+    let k = c.ask_first-asked-granted in let u = k.new.seat in let did = asks_all_then s t u p m f.ensures.belongs f.ensures.knows k.result k.ensures.asks in let z = c.sleeps-seat in same_said s u z.result (same_then s t u f.ensures.belongs k.ensures.belongs)
 
 pub returns-then-held-eq0-clause-after : goal.returns-then-held-eq0-clause-after
 returns-then-held-eq0-clause-after c =
     let s = c.args.seat.now in let p = c.args.pool.now in let m = c.args.mutex in let r = c.requires in let rest = r.between.awake c.if-asleep.false in
     let f = c.depth-held in let t = f.new.seat in let rest' = rest_then s t p rest f.ensures.belongs f.ensures.knows in
-    let k = c.begin_ask-asking in let u = k.new.seat in let did = asks_then s t u p m f.ensures.belongs f.ensures.knows k.result k.ensures.asks in let z = c.sleeps-seat in after_ask s u p m rest r.mutex (same_then s t u f.ensures.belongs k.ensures.belongs) _ refl refl k.result did k.ensures.may k.ensures.ready z.ensures
+    let k = c.ask_first-asked-granted in let u = k.new.seat in let did = asks_all_then s t u p m f.ensures.belongs f.ensures.knows k.result k.ensures.asks in let z = c.sleeps-seat in after_ask s u p m rest r.mutex (same_then s t u f.ensures.belongs k.ensures.belongs) _ refl refl k.result did k.ensures.may k.ensures.ready z.ensures
 
 pub returns-then-held-eq0-clause-asks : goal.returns-then-held-eq0-clause-asks
 returns-then-held-eq0-clause-asks c =
     let s = c.args.seat.now in let p = c.args.pool.now in let m = c.args.mutex in let r = c.requires in let rest = r.between.awake c.if-asleep.false in
     let f = c.depth-held in let t = f.new.seat in let rest' = rest_then s t p rest f.ensures.belongs f.ensures.knows in
-    let k = c.begin_ask-asking in let u = k.new.seat in let did = asks_then s t u p m f.ensures.belongs f.ensures.knows k.result k.ensures.asks in let z = c.sleeps-seat in asked_first s u p m c.if-asleep.false z.result k.result (subst (λ (d : ℕ). HasDepthIn s p m d) c.if-held-eq0.true f.ensures.depth) did k.ensures.ready
+    let k = c.ask_first-asked-granted in let u = k.new.seat in let did = asks_all_then s t u p m f.ensures.belongs f.ensures.knows k.result k.ensures.asks in let z = c.sleeps-seat in asked_first s u p m c.if-asleep.false z.result k.result (subst (λ (d : ℕ). HasDepthIn s p m d) c.if-held-eq0.true f.ensures.depth) did k.ensures.ready
 
 pub ask_again-deeper-requires-clause-may : goal.ask_again-deeper-requires-clause-may
 ask_again-deeper-requires-clause-may c =

@@ -1,9 +1,9 @@
 use Rattle.std.proofs.Common.{ℕ, refl, ◌<◌, ◌-◌, subst, arith}
 use Rattle.std.specs.Prelude.{false}
 use Rattle.lfm_pool.specs.Depths.{HasDepthIn}
-use Rattle.lfm_pool.proofs.AnyDepth.{after_unlock, awake_rests, depth_then_at, fewer_rest, gives_up_then, holds_one, last_told, others_rest, rest_said, rest_then, same_said, same_self, still_told, unlocks_then}
+use Rattle.lfm_pool.proofs.AnyDepth.{after_unlock, awake_rests, depth_then_at, fewer_rest, gives_up_then, holds_one, last_told, others_rest, rest_said, rest_then, same_said, same_self, still_told, releases_then}
 use Rattle.lfm_pool.proofs.SeveralSteps.{same_then}
-use Rattle.lfm_pool.proofs.calls.unlock.Goals as goal
+use Rattle.lfm_pool.proofs.calls.unlock_without_waking.Goals as goal
 
 pub returns-then-asleep-clause-unlocks : goal.returns-then-asleep-clause-unlocks
 returns-then-asleep-clause-unlocks c =
@@ -45,20 +45,20 @@ returns-then-held-eq0-clause-unlocks c =
     let f = c.depth-held in let t = f.new.seat in let rest' = rest_then s t p rest f.ensures.belongs f.ensures.knows in
     (c.if-asleep.false, (subst (λ (d : ℕ). HasDepthIn s p m d) c.if-held-eq0.true f.ensures.depth), f.ensures.knows)
 
-pub begin_unlock-unlocking-requires-clause-belongs : goal.begin_unlock-unlocking-requires-clause-belongs
-begin_unlock-unlocking-requires-clause-belongs c =
+pub unlock_last-released-requires-clause-belongs : goal.unlock_last-released-requires-clause-belongs
+unlock_last-released-requires-clause-belongs c =
     let s = c.args.seat.now in let p = c.args.pool.now in let m = c.args.mutex in let r = c.requires in let rest = r.between.awake c.if-asleep.false in
     let f = c.depth-held in let t = f.new.seat in let rest' = rest_then s t p rest f.ensures.belongs f.ensures.knows in
     rest'.belongs
 
-pub begin_unlock-unlocking-requires-clause-holds : goal.begin_unlock-unlocking-requires-clause-holds
-begin_unlock-unlocking-requires-clause-holds c =
+pub unlock_last-released-requires-clause-holds : goal.unlock_last-released-requires-clause-holds
+unlock_last-released-requires-clause-holds c =
     let s = c.args.seat.now in let p = c.args.pool.now in let m = c.args.mutex in let r = c.requires in let rest = r.between.awake c.if-asleep.false in
     let f = c.depth-held in let t = f.new.seat in let rest' = rest_then s t p rest f.ensures.belongs f.ensures.knows in
     holds_one t p m (depth_then_at s t p m 1 f.ensures.belongs f.ensures.knows (subst (λ (d : ℕ). HasDepthIn s p m d) c.if-held-eq1.true f.ensures.depth))
 
-pub begin_unlock-unlocking-requires-clause-elsewhere : goal.begin_unlock-unlocking-requires-clause-elsewhere
-begin_unlock-unlocking-requires-clause-elsewhere c =
+pub unlock_last-released-requires-clause-elsewhere : goal.unlock_last-released-requires-clause-elsewhere
+unlock_last-released-requires-clause-elsewhere c =
     let s = c.args.seat.now in let p = c.args.pool.now in let m = c.args.mutex in let r = c.requires in let rest = r.between.awake c.if-asleep.false in
     let f = c.depth-held in let t = f.new.seat in let rest' = rest_then s t p rest f.ensures.belongs f.ensures.knows in
     others_rest t p rest' m
@@ -67,19 +67,19 @@ pub returns-then-held-eq1-clause-belongs : goal.returns-then-held-eq1-clause-bel
 returns-then-held-eq1-clause-belongs c =
     let s = c.args.seat.now in let p = c.args.pool.now in let m = c.args.mutex in let r = c.requires in let rest = r.between.awake c.if-asleep.false in
     let f = c.depth-held in let t = f.new.seat in let rest' = rest_then s t p rest f.ensures.belongs f.ensures.knows in
-    let k = c.begin_unlock-unlocking in let u = k.new.seat in let did = unlocks_then s t u p m f.ensures.belongs f.ensures.knows k.result k.ensures.unlocks in same_said s u false (same_then s t u f.ensures.belongs k.ensures.belongs)
+    let k = c.unlock_last-released in let u = k.new.seat in let did = releases_then s t u p m f.ensures.belongs f.ensures.knows k.result k.ensures.releases in same_said s u false (same_then s t u f.ensures.belongs k.ensures.belongs)
 
 pub returns-then-held-eq1-clause-after : goal.returns-then-held-eq1-clause-after
 returns-then-held-eq1-clause-after c =
     let s = c.args.seat.now in let p = c.args.pool.now in let m = c.args.mutex in let r = c.requires in let rest = r.between.awake c.if-asleep.false in
     let f = c.depth-held in let t = f.new.seat in let rest' = rest_then s t p rest f.ensures.belongs f.ensures.knows in
-    let k = c.begin_unlock-unlocking in let u = k.new.seat in let did = unlocks_then s t u p m f.ensures.belongs f.ensures.knows k.result k.ensures.unlocks in after_unlock s u p m rest r.mutex (same_then s t u f.ensures.belongs k.ensures.belongs) _ refl refl k.result did k.ensures.may refl
+    let k = c.unlock_last-released in let u = k.new.seat in let did = releases_then s t u p m f.ensures.belongs f.ensures.knows k.result k.ensures.releases in after_unlock s u p m rest r.mutex (same_then s t u f.ensures.belongs k.ensures.belongs) _ refl refl k.result did k.ensures.may refl
 
 pub returns-then-held-eq1-clause-unlocks : goal.returns-then-held-eq1-clause-unlocks
 returns-then-held-eq1-clause-unlocks c =
     let s = c.args.seat.now in let p = c.args.pool.now in let m = c.args.mutex in let r = c.requires in let rest = r.between.awake c.if-asleep.false in
     let f = c.depth-held in let t = f.new.seat in let rest' = rest_then s t p rest f.ensures.belongs f.ensures.knows in
-    let k = c.begin_unlock-unlocking in let u = k.new.seat in let did = unlocks_then s t u p m f.ensures.belongs f.ensures.knows k.result k.ensures.unlocks in last_told s u p m c.if-asleep.false false k.result (subst (λ (d : ℕ). HasDepthIn s p m d) c.if-held-eq1.true f.ensures.depth) did
+    let k = c.unlock_last-released in let u = k.new.seat in let did = releases_then s t u p m f.ensures.belongs f.ensures.knows k.result k.ensures.releases in last_told s u p m c.if-asleep.false false k.result (subst (λ (d : ℕ). HasDepthIn s p m d) c.if-held-eq1.true f.ensures.depth) did
 
 pub give_up_one-fewer-requires-clause-belongs : goal.give_up_one-fewer-requires-clause-belongs
 give_up_one-fewer-requires-clause-belongs c =

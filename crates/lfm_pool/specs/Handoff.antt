@@ -95,11 +95,11 @@ forgetting me = (record me.0 { found = 0 }, me.1)
 
 -- the seat without that number
 abbrev pub forgotten : PoolSeat → PoolSeat
-forgotten s = record { place = record s.place { me = forgetting s.place.me }; number = s.number; posts = s.posts; asleep = s.asleep; counted = s.counted }
+forgotten s = record s { place = record s.place { me = forgetting s.place.me } }
 
 -- the seat with this count of posts in place of its own
 abbrev pub recounted : PoolSeat → ℕ → PoolSeat
-recounted s k = record { place = record s.place { me = (record s.place.me.0 { posts = k }, s.place.me.1) }; number = s.number; posts = k; asleep = s.asleep; counted = λ i. k }
+recounted s k = record s { place = record s.place { me = (record s.place.me.0 { posts = k }, s.place.me.1) }; posts = k; counted = λ i. k }
 
 -- from s to t the seat has loaded the handoff word of mutex m, and found n
 abbrev pub LoadsWordIn : PoolSeat → PoolSeat → Pool → ℕ → ℕ → Type 0

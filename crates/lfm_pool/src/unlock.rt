@@ -71,10 +71,14 @@ pub fn unlock(pool: &Pool, seat: &mut PoolSeat, mutex: usize) -> Released
     }
 }
 
-/// Begins an `unlock`: up to the point at which the mutex is free, or granted, or has to be posted. Returns how far the call
-/// has come.
+/// Begins an `unlock` of this mutex: up to the point at which the mutex is free, or granted, or has to be posted. Returns how
+/// far the call has come. It wakes no thread.
+///
+/// The seat has to rest in all mutexes, and to hold this one once, so that there is no refusal. It may hold other mutexes.
+/// Nothing changes in them, nor in what the seat knows of them. The call makes at most 5 atomic steps, and one more for each
+/// record that is popped when it has ended. It allocates nothing and never waits.
 #[inline(always)]
-fn begin_unlock(pool: &Pool, seat: &mut PoolSeat, mutex: usize) -> Unlocking
+pub(crate) fn begin_unlock(pool: &Pool, seat: &mut PoolSeat, mutex: usize) -> Unlocking
     requires belongs { OfPool seat.old pool.now }
     requires mutex { IsMutex mutex pool.now }
     requires holds { HoldsOnceIn seat.old pool.now mutex }

@@ -1,5 +1,5 @@
 -- The calls of a seat of any depth: what holds of the seat before and after them.
-use Rattle.std.proofs.Common.{◌≡◌, ◌≢◌, ℕ, ◌+◌, ◌-◌, ◌*◌, ◌<◌, ◌≤◌, List, length, Option, Some, None, refl, sym, ap, ◌∙◌, subst, inl, inr, arith}
+use Rattle.std.proofs.Common.{◌≡◌, ◌≢◌, ℕ, ◌+◌, ◌-◌, ◌*◌, ◌<◌, ◌≤◌, List, [], ◌++◌, length, Option, Some, None, refl, sym, ap, ◌∙◌, subst, inl, inr, arith, append-nil, length-append}
 use Rattle.std.specs.Prelude.{⊤, Bool, IfOk, true, false, Result, Ok, Err}
 use Rattle.std.proofs.lemmas.Bool.{cases_eq, false≢true}
 use Rattle.atomic_table.specs.Table.{Me}
@@ -20,7 +20,7 @@ use Rattle.lfm_pool.specs.declared.pool.PoolSeat.{PoolSeat}
 use Rattle.lfm_pool.specs.declared.unlock.Unlocking.{Unlocking}
 use Rattle.lfm_pool.specs.declared.view.Note.{Note}
 use Rattle.lfm_pool.specs.declared.view.PoolView.{PoolView}
-use Rattle.lfm_pool.specs.Ask.{AskSteps, AsksIn, IsReadyAfter, asked}
+use Rattle.lfm_pool.specs.Ask.{AskSteps, AsksIn, IsReadyAfter, MakesBesideFailuresIn, asked, failed_pushes}
 use Rattle.lfm_pool.specs.Belongs.{IsMutex, IsNew, OfPool, SameSeat}
 use Rattle.lfm_pool.specs.AnyDepth.{AsksAtAnyDepth, IsAfterAsk, IsAfterUnlock, IsAtRest, IsAwayIn, IsBetweenCalls, TriesAtAnyDepth, UnlocksAtAnyDepth, sleeps_after}
 use Rattle.lfm_pool.specs.SeatWords.{Sleeps}
@@ -31,7 +31,7 @@ use Rattle.lfm_pool.specs.Depths.{AskAgainSteps, DeepensBy, GivesUpIn, HasDepth,
 use Rattle.lfm_pool.specs.FastPaths.{KnowsMoreOf, Leaves}
 use Rattle.lfm_pool.specs.FinishAsk.{FinishesIn}
 use Rattle.lfm_pool.specs.Receive.{ReceivedIn}
-use Rattle.lfm_pool.specs.Moves.{Made, MayStepIn}
+use Rattle.lfm_pool.specs.Moves.{Made, MakesAtMostIn, MayStepIn}
 use Rattle.lfm_pool.specs.Seats.{HoldsOnceIn, MayTryIn, RestsInOthers, popped_of, state_of}
 use Rattle.lfm_pool.specs.Steps.{RestsElsewhere, Sits, state_at, state_in}
 use Rattle.lfm_pool.specs.Tables.{note, part, rests_at, with_part}
@@ -39,7 +39,7 @@ use Rattle.lfm_pool.specs.TryLock.{AcceptSteps, StepsIfPosted, TriesIn, TrySteps
 use Rattle.lfm_pool.specs.Unlock.{FindsNobody, Hands, UnlocksIn}
 use Rattle.lfm_pool.proofs.FastPaths.{note_now, part_now}
 use Rattle.lfm_pool.proofs.LoneTables.{note_other, part_other}
-use Rattle.lfm_pool.proofs.SeveralSteps.{state_after}
+use Rattle.lfm_pool.proofs.SeveralSteps.{inside, state_after}
 
 -- Of a seat that holds the mutex once, or not at all
 
@@ -418,3 +418,39 @@ module _ (s u : PoolSeat) (p : Pool) (m : ℕ) (away : IsAwayIn s p m) (same : S
 pub any_none : (o : Option How) → ((how : How) → o ≡ Some how → ⊥) → o ≡ None
 any_none None other = refl
 any_none (Some how) other = absurd (other how refl)
+
+-- The number of steps
+
+pub bounded_then : (s t u : PoolSeat) (m most : ℕ) → t.place.me ≡ s.place.me → MakesAtMostIn most t u m → MakesAtMostIn most s u m
+bounded_then s t u m most knows less = subst (λ (z : Me ℕ PoolView). length (part u.place.me.0 m).trail ≤ length (part z.0 m).trail + most) knows less
+
+-- a call that made no step
+pub none_made : (s t : PoolSeat) (m most : ℕ) → part t.place.me.0 m ≡ part s.place.me.0 m → MakesAtMostIn most s t m
+none_made s t m most same = let long = ap (λ (v : View ⊤). length v.trail) same in omega (arith, long)
+
+pub refused_made : (s t : PoolSeat) (m most : ℕ) → t.place.me ≡ s.place.me → MakesAtMostIn most s t m
+refused_made s t m most knows = none_made s t m most (ap (λ (z : Me ℕ PoolView). part z.0 m) knows)
+
+pub beside_then : (s t u : PoolSeat) (m most : ℕ) → t.place.me ≡ s.place.me → MakesBesideFailuresIn most t u m → MakesBesideFailuresIn most s u m
+beside_then s t u m most knows less =
+    subst (λ (z : Me ℕ PoolView). (new : List Seen) × ((part u.place.me.0 m).trail ≡ (part z.0 m).trail ++ new) × (length new ≤ most + 2 * failed_pushes new)) knows less
+
+pub refused_beside : (s t : PoolSeat) (m most : ℕ) → t.place.me ≡ s.place.me → MakesBesideFailuresIn most s t m
+refused_beside s t m most knows = ([], ap (λ (z : Me ℕ PoolView). (part z.0 m).trail) knows ∙ sym (append-nil (part s.place.me.0 m).trail), omega arith)
+
+module _ (s u : PoolSeat) (p : Pool) (m : ℕ) (may : MayStepIn s p m) where
+  made_now : (steps : ℕ → List Seen → Type 0) (depth : ℕ) → (did : DeepensBy steps s u p m depth) → (part u.place.me.0 m).trail ≡ (part s.place.me.0 m).trail ++ did.3.0.0
+  made_now steps depth did =
+      ap (λ (v : View ⊤). v.trail) (part_now s.number s.place.id m p.limits s.place.me u.place.me u.place.me (inside s s p m may) did.0 did.1 did.2) ∙ did.3.0.2.trail
+
+  pub tried_again_made : (depth : ℕ) → DeepensBy TryAgainSteps s u p m depth → MakesAtMostIn 6 s u m
+  tried_again_made depth did =
+      let two = ap length did.3.0.1.2 in
+      let long = ap length (made_now TryAgainSteps depth did) ∙ length-append (part s.place.me.0 m).trail did.3.0.0 in omega (arith, two, long)
+
+  pub asked_again_made : (depth : ℕ) → DeepensBy AskAgainSteps s u p m depth → MakesBesideFailuresIn 7 s u m
+  asked_again_made depth did = let three = ap length did.3.0.1.3 in (did.3.0.0, made_now AskAgainSteps depth did, omega (arith, three))
+
+  pub given_up_made : (depth most : ℕ) → GivesUpIn s u p m depth → MakesAtMostIn most s u m
+  given_up_made depth most did =
+      none_made s u m most (part_now s.number s.place.id m p.limits s.place.me u.place.me u.place.me (inside s s p m may) did.0 did.1 did.2 ∙ did.3.0)

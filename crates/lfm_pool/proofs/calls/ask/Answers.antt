@@ -4,7 +4,7 @@ use Rattle.lfm_pool.specs.declared.view.PoolView.{PoolView}
 use Rattle.std.specs.Prelude.{false}
 use Rattle.lfm_pool.specs.Depths.{AskAgainSteps, HasDepthIn}
 use Rattle.lfm_pool.specs.Steps.{state_in}
-use Rattle.lfm_pool.proofs.AnyDepth.{after_ask, asked_again, asked_first, asks_then, awake_rests, deep_rest, deepens_then, depth_then_at, full, may_at_rest, may_try_flat, others_rest, rest_said, rest_then, same_said, same_self}
+use Rattle.lfm_pool.proofs.AnyDepth.{after_ask, asked_again, asked_again_made, asked_first, asks_then, awake_rests, beside_then, deep_rest, deepens_then, depth_then_at, full, may_at_rest, may_try_flat, others_rest, refused_beside, rest_said, rest_then, same_said, same_self}
 use Rattle.lfm_pool.proofs.SeveralSteps.{same_then}
 use Rattle.lfm_pool.proofs.calls.ask.Goals as goal
 
@@ -40,7 +40,7 @@ pub begin_ask-asking-requires-clause-may : goal.begin_ask-asking-requires-clause
 begin_ask-asking-requires-clause-may c =
     let s = c.args.seat.now in let p = c.args.pool.now in let m = c.args.mutex in let r = c.requires in let rest = r.between.awake c.if-asleep.false in
     let f = c.depth-held in let t = f.new.seat in let rest' = rest_then s t p rest f.ensures.belongs f.ensures.knows in
-    may_try_flat t p m (depth_then_at s t p m 0 f.ensures.belongs f.ensures.knows (subst (λ (d : ℕ). HasDepthIn s p m d) c.if-held-eq0.true f.ensures.depth)) (subst (λ (z : Me ℕ PoolView). (state_in z.0 m).takes < p.limits.budget) (sym f.ensures.knows) r.charged)
+    may_try_flat t p m (depth_then_at s t p m 0 f.ensures.belongs f.ensures.knows (subst (λ (d : ℕ). HasDepthIn s p m d) c.if-held-eq0.true f.ensures.depth)) (subst (λ (z : Me ℕ PoolView). (state_in z.0 m).takes < p.limits.budget) (sym f.ensures.knows) (r.charged (subst (λ (d : ℕ). HasDepthIn s p m d) c.if-held-eq0.true f.ensures.depth)))
 
 pub begin_ask-asking-requires-clause-elsewhere : goal.begin_ask-asking-requires-clause-elsewhere
 begin_ask-asking-requires-clause-elsewhere c =
@@ -119,3 +119,25 @@ returns-clause-asks c =
     let s = c.args.seat.now in let p = c.args.pool.now in let m = c.args.mutex in let r = c.requires in let rest = r.between.awake c.if-asleep.false in
     let f = c.depth-held in let t = f.new.seat in let rest' = rest_then s t p rest f.ensures.belongs f.ensures.knows in
     (c.if-asleep.false, full s p m f.result f.ensures.depth c.if-held-lt-MAX_DEPTH.false, f.ensures.knows)
+
+pub returns-then-asleep-clause-bounded : goal.returns-then-asleep-clause-bounded
+returns-then-asleep-clause-bounded c =
+    refused_beside c.args.seat.now c.args.seat.now c.args.mutex 7 refl
+
+pub returns-then-held-eq0-clause-bounded : goal.returns-then-held-eq0-clause-bounded
+returns-then-held-eq0-clause-bounded c =
+    let s = c.args.seat.now in let p = c.args.pool.now in let m = c.args.mutex in let r = c.requires in let rest = r.between.awake c.if-asleep.false in
+    let f = c.depth-held in let t = f.new.seat in
+    let k = c.begin_ask-asking in beside_then s t k.new.seat m 7 f.ensures.knows k.ensures.bounded
+
+pub returns-then-held-lt-MAX_DEPTH-clause-bounded : goal.returns-then-held-lt-MAX_DEPTH-clause-bounded
+returns-then-held-lt-MAX_DEPTH-clause-bounded c =
+    let s = c.args.seat.now in let p = c.args.pool.now in let m = c.args.mutex in let r = c.requires in let rest = r.between.awake c.if-asleep.false in
+    let f = c.depth-held in let t = f.new.seat in
+    let k = c.ask_again-deeper in let u = k.new.seat in asked_again_made s u p m (may_at_rest s p rest m r.mutex) (f.result + 1) (deepens_then s t u p m f.ensures.belongs f.ensures.knows AskAgainSteps (f.result + 1) k.ensures.deepens)
+
+pub returns-clause-bounded : goal.returns-clause-bounded
+returns-clause-bounded c =
+    let s = c.args.seat.now in let p = c.args.pool.now in let m = c.args.mutex in let r = c.requires in let rest = r.between.awake c.if-asleep.false in
+    let f = c.depth-held in let t = f.new.seat in
+    refused_beside s t m 7 f.ensures.knows

@@ -57,3 +57,11 @@ pub returns-clause-ready : goal.returns-clause-ready
 returns-clause-ready c =
     let s = c.args.seat.now in let p = c.args.pool.now in let m = c.args.mutex in let r = c.requires in let k = c.finish_ask in let u = k.new.seat in
     c.in-Some.ensures.ready
+
+pub returns-in_default-clause-bounded : goal.returns-in_default-clause-bounded
+returns-in_default-clause-bounded c =
+    c.finish_ask.ensures.bounded
+
+pub returns-clause-bounded : goal.returns-clause-bounded
+returns-clause-bounded c =
+    c.finish_ask.ensures.bounded

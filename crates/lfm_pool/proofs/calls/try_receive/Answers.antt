@@ -46,3 +46,11 @@ returns-clause-receives c =
     let s = c.args.seat.now in let p = c.args.pool.now in let m = c.args.mutex in let r = c.requires in let k = c.try_receive in let u = k.new.seat in
     let away = sleeper_away s p m r.between r.mutex r.sleeps in
     c.in-Some.ensures.receives
+
+pub returns-in_default-clause-bounded : goal.returns-in_default-clause-bounded
+returns-in_default-clause-bounded c =
+    c.try_receive.ensures.bounded
+
+pub returns-clause-bounded : goal.returns-clause-bounded
+returns-clause-bounded c =
+    c.try_receive.ensures.bounded

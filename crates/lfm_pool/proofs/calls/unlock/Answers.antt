@@ -1,7 +1,7 @@
 use Rattle.std.proofs.Common.{ℕ, refl, ◌<◌, ◌-◌, subst, arith}
 use Rattle.std.specs.Prelude.{false}
 use Rattle.lfm_pool.specs.Depths.{HasDepthIn}
-use Rattle.lfm_pool.proofs.AnyDepth.{after_unlock, awake_rests, depth_then_at, fewer_rest, gives_up_then, holds_one, last_told, others_rest, rest_said, rest_then, same_said, same_self, still_told, unlocks_then}
+use Rattle.lfm_pool.proofs.AnyDepth.{after_unlock, awake_rests, bounded_then, depth_then_at, fewer_rest, given_up_made, gives_up_then, holds_one, last_told, may_at_rest, others_rest, refused_made, rest_said, rest_then, same_said, same_self, still_told, unlocks_then}
 use Rattle.lfm_pool.proofs.SeveralSteps.{same_then}
 use Rattle.lfm_pool.proofs.calls.unlock.Goals as goal
 
@@ -116,3 +116,25 @@ returns-clause-unlocks c =
     let s = c.args.seat.now in let p = c.args.pool.now in let m = c.args.mutex in let r = c.requires in let rest = r.between.awake c.if-asleep.false in
     let f = c.depth-held in let t = f.new.seat in let rest' = rest_then s t p rest f.ensures.belongs f.ensures.knows in
     let k = c.give_up_one-fewer in let u = k.new.seat in let did = gives_up_then s t u p m f.ensures.belongs f.ensures.knows (f.result - 1) k.ensures.gives in still_told s u p m c.if-asleep.false false f.result k.result k.ensures.fewer (let some = c.if-held-eq0.false in let more = c.if-held-eq1.false in let e : 1 < f.result = omega (arith, some, more) in e) f.ensures.depth did
+
+pub returns-then-asleep-clause-bounded : goal.returns-then-asleep-clause-bounded
+returns-then-asleep-clause-bounded c =
+    refused_made c.args.seat.now c.args.seat.now c.args.mutex _ refl
+
+pub returns-then-held-eq0-clause-bounded : goal.returns-then-held-eq0-clause-bounded
+returns-then-held-eq0-clause-bounded c =
+    let s = c.args.seat.now in let p = c.args.pool.now in let m = c.args.mutex in let r = c.requires in let rest = r.between.awake c.if-asleep.false in
+    let f = c.depth-held in let t = f.new.seat in
+    refused_made s t m _ f.ensures.knows
+
+pub returns-then-held-eq1-clause-bounded : goal.returns-then-held-eq1-clause-bounded
+returns-then-held-eq1-clause-bounded c =
+    let s = c.args.seat.now in let p = c.args.pool.now in let m = c.args.mutex in let r = c.requires in let rest = r.between.awake c.if-asleep.false in
+    let f = c.depth-held in let t = f.new.seat in
+    let k = c.begin_unlock-unlocking in bounded_then s t k.new.seat m _ f.ensures.knows k.ensures.bounded
+
+pub returns-clause-bounded : goal.returns-clause-bounded
+returns-clause-bounded c =
+    let s = c.args.seat.now in let p = c.args.pool.now in let m = c.args.mutex in let r = c.requires in let rest = r.between.awake c.if-asleep.false in
+    let f = c.depth-held in let t = f.new.seat in
+    let k = c.give_up_one-fewer in let u = k.new.seat in given_up_made s u p m (may_at_rest s p rest m r.mutex) (f.result - 1) _ (gives_up_then s t u p m f.ensures.belongs f.ensures.knows (f.result - 1) k.ensures.gives)

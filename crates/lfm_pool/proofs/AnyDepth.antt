@@ -1,5 +1,5 @@
 -- The calls of a seat of any depth: what holds of the seat before and after them.
-use Rattle.std.proofs.Common.{◌≡◌, ◌≢◌, ℕ, ◌+◌, ◌-◌, ◌*◌, ◌<◌, ◌≤◌, List, ◌++◌, length, Option, Some, None, refl, sym, ap, ◌∙◌, subst, inl, inr, arith}
+use Rattle.std.proofs.Common.{◌≡◌, ◌≢◌, ℕ, ◌+◌, ◌-◌, ◌*◌, ◌<◌, ◌≤◌, List, [], ◌++◌, length, Option, Some, None, refl, sym, ap, ◌∙◌, subst, inl, inr, arith, append-nil, length-append}
 use Rattle.std.specs.Prelude.{⊤, Bool, IfOk, true, false, Result, Ok, Err}
 use Rattle.std.proofs.lemmas.Bool.{cases_eq, false≢true}
 use Rattle.atomic_table.specs.Table.{Me}
@@ -23,7 +23,7 @@ use Rattle.lfm_pool.specs.declared.unlock.Released.{Released}
 use Rattle.lfm_pool.specs.declared.unlock.Unlocking.{Unlocking}
 use Rattle.lfm_pool.specs.declared.view.Note.{Note}
 use Rattle.lfm_pool.specs.declared.view.PoolView.{PoolView}
-use Rattle.lfm_pool.specs.Ask.{AskSteps, AsksIn, asked}
+use Rattle.lfm_pool.specs.Ask.{AskSteps, AsksIn, MakesBesideFailuresIn, asked, failed_pushes}
 use Rattle.lfm_pool.specs.AskAll.{AsksAllIn, IsReadyAsked, TakesOverAllIn}
 use Rattle.lfm_pool.specs.Belongs.{IsMutex, IsNew, OfPool, SameSeat}
 use Rattle.lfm_pool.specs.AnyDepth.{AsksAtAnyDepth, IsAtRest, IsAwayIn, IsBetweenCalls, TriesAtAnyDepth, UnlocksAtAnyDepth, sleeps_after}
@@ -35,7 +35,7 @@ use Rattle.lfm_pool.specs.FastPaths.{KnowsMoreOf, Leaves}
 use Rattle.lfm_pool.specs.FinishAsk.{FinishSteps, NotesFinished, finished}
 use Rattle.lfm_pool.specs.Handoff.{recounted}
 use Rattle.lfm_pool.specs.Receive.{ReceivedIn}
-use Rattle.lfm_pool.specs.Moves.{Made, MayStepIn}
+use Rattle.lfm_pool.specs.Moves.{Made, MakesAtMostIn, MayStepIn}
 use Rattle.lfm_pool.specs.Seats.{HoldsOnceIn, MayTryIn, RestsInOthers, popped_of, state_of}
 use Rattle.lfm_pool.specs.Steps.{RestsElsewhere, Sits, state_at, state_in}
 use Rattle.lfm_pool.specs.Tables.{note, part, rests_at, with_part}
@@ -43,7 +43,7 @@ use Rattle.lfm_pool.specs.TryLock.{AcceptSteps, StepsIfPosted, TriesIn, TrySteps
 use Rattle.lfm_pool.specs.Unlock.{Hands, PassesOn, PassesOnIn, ReleasesIn, UnlocksIn}
 use Rattle.lfm_pool.proofs.FastPaths.{note_now, part_now}
 use Rattle.lfm_pool.proofs.LoneTables.{note_other, part_other}
-use Rattle.lfm_pool.proofs.SeveralSteps.{state_after}
+use Rattle.lfm_pool.proofs.SeveralSteps.{inside, state_after}
 
 -- Of a seat that holds the mutex once, or not at all
 
@@ -349,9 +349,9 @@ depth_then_at s t p m depth same knows has = subst (λ (z : ℕ × ℕ × Me ℕ
 
 -- The answers
 
-module _ (s u : PoolSeat) (b : Bool) where
+module _ (s u : PoolSeat) (b : Bool) (c : u.place.me.0.posts ≡ u.posts) where
   -- a seat in which only that has changed
-  pub same_said : SameSeat s u → SameSeat s (record u { asleep = b })
+  pub same_said : SameSeat s u → SameSeat s (record u { asleep = b; counted = c })
   same_said same = record { table = same.table; id = same.id; number = same.number; parts = same.parts }
 
 -- an answer that a try_lock of a seat gives which does not hold the mutex
@@ -376,17 +376,17 @@ try_answers number result new steps =
       | inr h ↦ let later = h.3 in posted_answers (is_posted_word later.1) number later.1 result later.2 later.4
     ]
 
-module _ (s u : PoolSeat) (p : Pool) (m : ℕ) (awake : s.asleep ≡ false) (b : Bool) where
-  try_told_by : (result : Result Locked Refusal) → IsTryAnswer result → HasDepthIn s p m 0 → TriesIn s u m result → IfOk result (λ _. HoldsOnceIn u p m) → TriesAtAnyDepth result s (record u { asleep = b }) p m
+module _ (s u : PoolSeat) (p : Pool) (m : ℕ) (awake : s.asleep ≡ false) (b : Bool) (c : u.place.me.0.posts ≡ u.posts) where
+  try_told_by : (result : Result Locked Refusal) → IsTryAnswer result → HasDepthIn s p m 0 → TriesIn s u m result → IfOk result (λ _. HoldsOnceIn u p m) → TriesAtAnyDepth result s (record u { asleep = b; counted = c }) p m
   try_told_by (Ok (Locked.Held how)) is has did holds = (awake, has, did, has_one u p m holds)
   try_told_by (Err Refusal.Busy) is has did holds = (awake, has, did)
   try_told_by _ is has did holds = absurd is
 
-  pub try_told : (result : Result Locked Refusal) → HasDepthIn s p m 0 → TriesIn s u m result → IfOk result (λ _. HoldsOnceIn u p m) → TriesAtAnyDepth result s (record u { asleep = b }) p m
+  pub try_told : (result : Result Locked Refusal) → HasDepthIn s p m 0 → TriesIn s u m result → IfOk result (λ _. HoldsOnceIn u p m) → TriesAtAnyDepth result s (record u { asleep = b; counted = c }) p m
   try_told result has did holds = try_told_by result (try_answers s.number result did.0 did.1) has did holds
 
   -- a hold that was made deeper
-  pub again_told : (held deeper : ℕ) → deeper ≡ held + 1 → 0 < held → HasDepthIn s p m held → DeepensBy TryAgainSteps s u p m (held + 1) → TriesAtAnyDepth (Ok (Locked.Again deeper)) s (record u { asleep = b }) p m
+  pub again_told : (held deeper : ℕ) → deeper ≡ held + 1 → 0 < held → HasDepthIn s p m held → DeepensBy TryAgainSteps s u p m (held + 1) → TriesAtAnyDepth (Ok (Locked.Again deeper)) s (record u { asleep = b; counted = c }) p m
   again_told held deeper is above has did = (
     awake,
     omega (arith, is, above),
@@ -394,7 +394,7 @@ module _ (s u : PoolSeat) (p : Pool) (m : ℕ) (awake : s.asleep ≡ false) (b :
     subst (λ (d : ℕ). DeepensBy TryAgainSteps s u p m d) (sym is) did,
   )
 
-  pub asked_again : (held deeper : ℕ) → deeper ≡ held + 1 → 0 < held → HasDepthIn s p m held → DeepensBy AskAgainSteps s u p m (held + 1) → AsksAtAnyDepth (Ok (Asked.Again deeper)) None s (record u { asleep = b }) p m
+  pub asked_again : (held deeper : ℕ) → deeper ≡ held + 1 → 0 < held → HasDepthIn s p m held → DeepensBy AskAgainSteps s u p m (held + 1) → AsksAtAnyDepth (Ok (Asked.Again deeper)) None s (record u { asleep = b; counted = c }) p m
   asked_again held deeper is above has did = (
     awake,
     omega (arith, is, above),
@@ -402,7 +402,7 @@ module _ (s u : PoolSeat) (p : Pool) (m : ℕ) (awake : s.asleep ≡ false) (b :
     subst (λ (d : ℕ). DeepensBy AskAgainSteps s u p m d) (sym is) did,
   )
 
-  pub asked_first : (asked : Asked) (granted : Option Record) → HasDepthIn s p m 0 → AsksAllIn asked granted s u p m → IsReadyAsked asked u p m → AsksAtAnyDepth (Ok asked) granted s (record u { asleep = b }) p m
+  pub asked_first : (asked : Asked) (granted : Option Record) → HasDepthIn s p m 0 → AsksAllIn asked granted s u p m → IsReadyAsked asked u p m → AsksAtAnyDepth (Ok asked) granted s (record u { asleep = b; counted = c }) p m
   asked_first (Asked.Held How.Free) None has did ready = (awake, has, did, ready)
   asked_first (Asked.Held (How.Queued stamp)) None has did ready = (awake, has, did, ready)
   asked_first (Asked.Held How.Free) (Some r) has did ready = absurd did
@@ -413,7 +413,7 @@ module _ (s u : PoolSeat) (p : Pool) (m : ℕ) (awake : s.asleep ≡ false) (b :
   asked_first (Asked.Again depth) (Some r) has did ready = absurd did
 
   -- a hold that was given up
-  pub still_told : (held fewer : ℕ) → fewer + 1 ≡ held → 1 < held → HasDepthIn s p m held → GivesUpIn s u p m (held - 1) → UnlocksAtAnyDepth (Ok (Release.Still fewer)) s (record u { asleep = b }) p m
+  pub still_told : (held fewer : ℕ) → fewer + 1 ≡ held → 1 < held → HasDepthIn s p m held → GivesUpIn s u p m (held - 1) → UnlocksAtAnyDepth (Ok (Release.Still fewer)) s (record u { asleep = b; counted = c }) p m
   still_told held fewer is inner has did = (
     awake,
     omega (arith, is, inner),
@@ -421,13 +421,13 @@ module _ (s u : PoolSeat) (p : Pool) (m : ℕ) (awake : s.asleep ≡ false) (b :
     subst (λ (d : ℕ). GivesUpIn s u p m d) (let e : held - 1 ≡ fewer = omega (arith, is) in e) did,
   )
 
-  released_said : (result : Released) → ReleasesIn result s u p m → ReleasesIn result s (record u { asleep = b }) p m
+  released_said : (result : Released) → ReleasesIn result s u p m → ReleasesIn result s (record u { asleep = b; counted = c }) p m
   released_said Released.Free did = did
   released_said (Released.Granted r) did = did
   released_said Released.Posted did = did
   released_said Released.TakenOver did = did
 
-  pub last_told : (result : Released) → HasDepthIn s p m 1 → ReleasesIn result s u p m → UnlocksAtAnyDepth (Ok (Release.Last result)) s (record u { asleep = b }) p m
+  pub last_told : (result : Released) → HasDepthIn s p m 1 → ReleasesIn result s u p m → UnlocksAtAnyDepth (Ok (Release.Last result)) s (record u { asleep = b; counted = c }) p m
   last_told result has did = (awake, has, released_said result did)
 
 -- a seat that is refused at its greatest depth
@@ -454,19 +454,19 @@ module _ (s : PoolSeat) (p : Pool) (m : ℕ) (between : IsBetweenCalls s p) (les
   pub sleeper_away : IsAwayIn s p m
   sleeper_away = away_by s.asleep refl
 
-module _ (s u : PoolSeat) (p : Pool) (m : ℕ) (away : IsAwayIn s p m) (same : SameSeat s u) where
-  sleeps_said : IsAwayIn u p m → Sleeps (state_of u m) → IsBetweenCalls (record u { asleep = true }) p
+module _ (s u : PoolSeat) (p : Pool) (m : ℕ) (away : IsAwayIn s p m) (same : SameSeat s u) (c : u.place.me.0.posts ≡ u.posts) where
+  sleeps_said : IsAwayIn u p m → Sleeps (state_of u m) → IsBetweenCalls (record u { asleep = true; counted = c }) p
   sleeps_said later sleeping = record {
     awake = λ e. absurd (false≢true (sym e));
-    sleeps = λ e. (m, away_said u (record u { asleep = true }) p m refl refl later, sleeping);
+    sleeps = λ e. (m, away_said u (record u { asleep = true; counted = c }) p m refl refl later, sleeping);
   }
 
-  pub receive_holds : (how : How) → ReceivedIn s u m (Some how) → HoldsOnceIn u p m → IsBetweenCalls (record u { asleep = false }) p
+  pub receive_holds : (how : How) → ReceivedIn s u m (Some how) → HoldsOnceIn u p m → IsBetweenCalls (record u { asleep = false; counted = c }) p
   receive_holds how did holds =
-      awake_rests (record u { asleep = false }) p refl
-      (rest_said u (record u { asleep = false }) p refl refl (rest_after s u p m away.may.belongs away.may.mutex away.depths same did.4.0 did.4.1 did.4.2 1 (has_one u p m holds)))
+      awake_rests (record u { asleep = false; counted = c }) p refl
+      (rest_said u (record u { asleep = false; counted = c }) p refl refl (rest_after s u p m away.may.belongs away.may.mutex away.depths same did.4.0 did.4.1 did.4.2 1 (has_one u p m holds)))
 
-  pub receive_sleeps : ReceivedIn s u m None → MayStepIn u p m → Sleeps (state_of s m) → IsBetweenCalls (record u { asleep = true }) p
+  pub receive_sleeps : ReceivedIn s u m None → MayStepIn u p m → Sleeps (state_of s m) → IsBetweenCalls (record u { asleep = true; counted = c }) p
   receive_sleeps did later sleeping =
       let is = state_after s u p m did.1 (state_of s m) away.may did.4 in
       sleeps_said (away_after s u p m away.may.belongs away.may.mutex away.depths same did.4.0 did.4.1 did.4.2 later) (sleeping.0, ap (λ (x : SeatState). x.point) is ∙ sleeping.1)
@@ -475,3 +475,39 @@ module _ (s u : PoolSeat) (p : Pool) (m : ℕ) (away : IsAwayIn s p m) (same : S
 pub any_none : (o : Option How) → ((how : How) → o ≡ Some how → ⊥) → o ≡ None
 any_none None other = refl
 any_none (Some how) other = absurd (other how refl)
+
+-- The number of steps
+
+pub bounded_then : (s t u : PoolSeat) (m most : ℕ) → t.place.me ≡ s.place.me → MakesAtMostIn most t u m → MakesAtMostIn most s u m
+bounded_then s t u m most knows less = subst (λ (z : Me ℕ PoolView). length (part u.place.me.0 m).trail ≤ length (part z.0 m).trail + most) knows less
+
+-- a call that made no step
+pub none_made : (s t : PoolSeat) (m most : ℕ) → part t.place.me.0 m ≡ part s.place.me.0 m → MakesAtMostIn most s t m
+none_made s t m most same = let long = ap (λ (v : View ⊤). length v.trail) same in omega (arith, long)
+
+pub refused_made : (s t : PoolSeat) (m most : ℕ) → t.place.me ≡ s.place.me → MakesAtMostIn most s t m
+refused_made s t m most knows = none_made s t m most (ap (λ (z : Me ℕ PoolView). part z.0 m) knows)
+
+pub beside_then : (s t u : PoolSeat) (m most : ℕ) → t.place.me ≡ s.place.me → MakesBesideFailuresIn most t u m → MakesBesideFailuresIn most s u m
+beside_then s t u m most knows less =
+    subst (λ (z : Me ℕ PoolView). (new : List Seen) × ((part u.place.me.0 m).trail ≡ (part z.0 m).trail ++ new) × (length new ≤ most + 2 * failed_pushes new)) knows less
+
+pub refused_beside : (s t : PoolSeat) (m most : ℕ) → t.place.me ≡ s.place.me → MakesBesideFailuresIn most s t m
+refused_beside s t m most knows = ([], ap (λ (z : Me ℕ PoolView). (part z.0 m).trail) knows ∙ sym (append-nil (part s.place.me.0 m).trail), omega arith)
+
+module _ (s u : PoolSeat) (p : Pool) (m : ℕ) (may : MayStepIn s p m) where
+  made_now : (steps : ℕ → List Seen → Type 0) (depth : ℕ) → (did : DeepensBy steps s u p m depth) → (part u.place.me.0 m).trail ≡ (part s.place.me.0 m).trail ++ did.3.0.0
+  made_now steps depth did =
+      ap (λ (v : View ⊤). v.trail) (part_now s.number s.place.id m p.limits s.place.me u.place.me u.place.me (inside s s p m may) did.0 did.1 did.2) ∙ did.3.0.2.trail
+
+  pub tried_again_made : (depth : ℕ) → DeepensBy TryAgainSteps s u p m depth → MakesAtMostIn 6 s u m
+  tried_again_made depth did =
+      let two = ap length did.3.0.1.2 in
+      let long = ap length (made_now TryAgainSteps depth did) ∙ length-append (part s.place.me.0 m).trail did.3.0.0 in omega (arith, two, long)
+
+  pub asked_again_made : (depth most : ℕ) → 3 ≤ most → DeepensBy AskAgainSteps s u p m depth → MakesBesideFailuresIn most s u m
+  asked_again_made depth most least did = let three = ap length did.3.0.1.3 in (did.3.0.0, made_now AskAgainSteps depth did, omega (arith, three, least))
+
+  pub given_up_made : (depth most : ℕ) → GivesUpIn s u p m depth → MakesAtMostIn most s u m
+  given_up_made depth most did =
+      none_made s u m most (part_now s.number s.place.id m p.limits s.place.me u.place.me u.place.me (inside s s p m may) did.0 did.1 did.2 ∙ did.3.0)

@@ -118,19 +118,19 @@ module _ (d t ps s n : ℕ) (o : Option Record) (above : 0 < d) where
 
 module _ (seats number d t ps : ℕ) where
   pub exchanges_deep : IsPlainAccessOf seats number (made_of d t ps TryCountExchange) (Access.CompareExchange 0 0 1)
-  exchanges_deep = (((Kind.CountExchange, refl, refl, (λ n. refl), refl), omega arith), refl)
+  exchanges_deep = (((Kind.CountExchange, refl, refl, (λ n. refl), refl), omega arith, λ e. omega (arith, e)), refl)
 
   pub counts_deep : IsPlainAccessOf seats number (made_of d t ps LockCountAdd) (Access.FetchAdd 0 1)
-  counts_deep = (((Kind.CountAdd, refl, refl, (λ n. refl), refl), omega arith), refl)
+  counts_deep = (((Kind.CountAdd, refl, refl, (λ n. refl), refl), omega arith, λ e. omega (arith, e)), refl)
 
   pub tries_owner : IsPlainAccessOf seats number (made_of d t ps TryOwnerLoad) (Access.Load 1)
-  tries_owner = (((Kind.OwnerLoad, refl, refl, (λ n. refl), refl), omega arith), refl)
+  tries_owner = (((Kind.OwnerLoad, refl, refl, (λ n. refl), refl), omega arith, λ e. omega (arith, e)), refl)
 
   pub asks_owner : IsPlainAccessOf seats number (made_of d t ps LockOwnerLoad) (Access.Load 1)
-  asks_owner = (((Kind.OwnerLoad, refl, refl, (λ n. refl), refl), omega arith), refl)
+  asks_owner = (((Kind.OwnerLoad, refl, refl, (λ n. refl), refl), omega arith, λ e. omega (arith, e)), refl)
 
   pub subtracts_deep : IsPlainAccessOf seats number (made_of d t ps LockCountSubtract) (Access.FetchSub 0 1)
-  subtracts_deep = (((Kind.CountSubtract, refl, refl, (λ n. refl), refl), omega arith), refl)
+  subtracts_deep = (((Kind.CountSubtract, refl, refl, (λ n. refl), refl), omega arith, λ e. omega (arith, e)), refl)
 
 -- Steps
 

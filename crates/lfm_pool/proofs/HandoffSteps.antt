@@ -25,6 +25,7 @@ use Rattle.lfm_laws.specs.steady.Steady.{IsOld}
 use Rattle.lfm_laws.specs.table.Words.{stepped_by}
 use Rattle.lfm_laws.proofs.steady.queue.Pushers.{fits_at}
 use Rattle.lfm_table.specs.declared.operations.Access.{Access}
+use Rattle.lfm_laws.specs.steady.Steady.{DepthAt}
 use Rattle.lfm_table.specs.declared.seat_view.View.{View}
 use Rattle.lfm_table.specs.Rule.{Advanced}
 use Rattle.lfm_table.specs.Steps.{CanMake}
@@ -319,6 +320,7 @@ module _ (id m number mutexes seats : ℕ) (me : Me ℕ PoolView) (p : SeatState
               none = λ empty. ap (λ (k : ℕ). (handoff_of k).post) is ∙ named_empty (h.names m) there (ap (λ (k : ℕ). (handoff_of k).seat) (sym is) ∙ empty);
               unfound = none_found s h at (loads_kind p.point at_load).2;
             },
+            done.4,
           ),
         )
 
@@ -417,7 +419,7 @@ module _ (id m number mutexes seats : ℕ) (me : Me ℕ PoolView) (p : SeatState
           tt,
           after_handoff s h at w (note_after p w (note me.0 m)) me.0.posts 0 (either (nat_eq n expected) 0 n) (either (nat_eq there (handoff_word post)) 0 there) h.names (written s h at) (λ i other. refl) (λ t a other. refl) (λ seen old. refl) h.rising h.first
               (omega arith) counted (λ seen has. let gone : ◌≡◌ {A = Option Handoff} None (Some seen) = sym (ap (λ (z : PostState). z.1) leads) ∙ has in absurd (cc)) (λ has. absurd (false≢true (sym (ap (λ (z : PostState). z.2) leads) ∙ has))) (λ gone. refl) done.2,
-          (w, done.1, there, done.3, refl, record { hits = hits s h at; misses = misses s h at; unfound = none_found s h at }),
+          (w, done.1, there, done.3, refl, record { hits = hits s h at; misses = misses s h at; unfound = none_found s h at }, done.4),
         )
 
   -- The store of a post
@@ -466,7 +468,7 @@ module _ (id m number mutexes seats : ℕ) (me : Me ℕ PoolView) (p : SeatState
               (omega arith) (omega (arith, numbered))
               (λ seen has. let gone : ◌≡◌ {A = Option Handoff} None (Some seen) = sym (ap (λ (z : PostState). z.1) leads) ∙ has in absurd (cc))
               (λ has. sym numbered) (λ gone. none_found s h at none_loaded) done.2,
-          (w, done.1, done.3, refl, none_found s h at none_loaded),
+          (w, done.1, done.3, refl, none_found s h at none_loaded, done.4),
         ) where
           after_seat_here : (t a : ℕ) → t ≢ number → names_after h.names m number p.posts me.0.posts m t a ≡ h.names m t a
           after_seat_here t a other = after_other h.names m number p.posts me.0.posts m t a other
@@ -547,12 +549,12 @@ module _ (p : Pool) (s t : PoolSeat) (m : ℕ) where
   module _ (may : MayStepIn s p m) (same : Same) where
     -- the step of the seat, at the table of the mutex
     steps : (me : Me ℕ PoolView) (me' : Me ℕ PoolView) (n : ℕ) (w : View ⊤) (slots : List (ℕ × Slot)) → part me.0 m ≡ part s.place.me.0 m → Tells n (w, slots) → me' ≡ (with_part me.0 m w (note_after (state_of s m) w (note me.0 m)), me.1)
-        → StepsIn s.number s.place.id m p.limits (state_of s m) me n me'
-    steps me me' n w slots view did is = (
+        → DepthAt w.state.depth w.state.point → StepsIn s.number s.place.id m p.limits (state_of s m) me n me'
+    steps me me' n w slots view did is deep = (
       w,
       is,
-      sits_after s.number s.place.id p.limits (state_of s m) (part s.place.me.0 m) may.sits n w slots did,
-      subst (λ (v : View ⊤). Stepped s.number (state_of s m) v n w) (sym view) (stepped s.number s.place.id p.limits (state_of s m) (part s.place.me.0 m) may.sits n w slots did),
+      sits_after s.number s.place.id p.limits (state_of s m) (part s.place.me.0 m) may.sits n w slots did deep,
+      subst (λ (v : View ⊤). Stepped s.number (state_of s m) v n w) (sym view) (stepped s.number s.place.id p.limits (state_of s m) (part s.place.me.0 m) may.sits n w slots did deep),
     )
 
     module _ (n : ℕ) (did : TellsOfLoad m (state_of s m) (λ k z. Tells k z) s.place.me n t.place.me) where
@@ -563,7 +565,7 @@ module _ (p : Pool) (s t : PoolSeat) (m : ℕ) where
       loaded_word = (
         did.2,
         steps s.place.me (forgetting t.place.me) did.2 did.0 did.1 refl did.3
-            (ap forgetting did.4 ∙ (λ i. (record (with_part s.place.me.0 m did.0 (note_after (state_of s m) did.0 (note_of s m))) { found = sym did.5.unfound i }, s.place.me.1))),
+            (ap forgetting did.4 ∙ (λ i. (record (with_part s.place.me.0 m did.0 (note_after (state_of s m) did.0 (note_of s m))) { found = sym did.5.unfound i }, s.place.me.1))) did.6,
         did.5,
         ap (λ (z : Me ℕ PoolView). z.0.found) did.4,
       )
@@ -579,7 +581,7 @@ module _ (p : Pool) (s t : PoolSeat) (m : ℕ) where
       pub tried_word : TriesPostIn s t p m post n
       tried_word = (
         did.2,
-        steps (forgetting s.place.me) t.place.me did.2 did.0 did.1 refl did.3 did.4,
+        steps (forgetting s.place.me) t.place.me did.2 did.0 did.1 refl did.3 did.4 did.6,
         did.5,
         ap (λ (z : Me ℕ PoolView). z.0.found) did.4,
       )
@@ -599,7 +601,7 @@ module _ (p : Pool) (s t : PoolSeat) (m : ℕ) where
       stored_word = (
         subst (λ (b : Handoff). MovesIn (recounted s (s.posts + 1)) t p m (handoff_word b)) stored_is
             (steps (record s.place.me.0 { posts = s.posts + 1 }, s.place.me.1) t.place.me (handoff_word (stored_handoff (state_of s m) s.number)) did.0 did.1 refl did.2
-            (did.3 ∙ (λ i. (record (with_part s.place.me.0 m did.0 (note_after (state_of s m) did.0 (note_of s m))) { posts = s.counted i + 1 }, s.place.me.1)))),
+            (did.3 ∙ (λ i. (record (with_part s.place.me.0 m did.0 (note_after (state_of s m) did.0 (note_of s m))) { posts = s.counted i + 1 }, s.place.me.1))) did.5),
         did.4,
       )
 

@@ -4,7 +4,7 @@ use Rattle.std.specs.Prelude.{⊤, slice_index}
 use Rattle.std.proofs.lemmas.List.{set-get_or}
 use mathlib.Core.Option.{some}
 use lib.ListN.{get_elem?}
-use Rattle.atomic_table.specs.Table.{State, keeps, Allows}
+use Rattle.atomic_table.specs.Table.{Me, State, keeps, Allows}
 use Rattle.atomic_table.proofs.Lists.{set_again}
 use Rattle.lfm_protocol.specs.declared.seats.SeatState.{SeatState}
 use Rattle.lfm_protocol.specs.Seats.{seat, IsSeat}
@@ -16,8 +16,11 @@ use Rattle.lfm_pool.specs.declared.pool.PoolSeat.{PoolSeat}
 use Rattle.lfm_pool.specs.declared.view.PoolView.{PoolView}
 use Rattle.lfm_pool.specs.Belongs.{IsMutex, OfPool}
 use Rattle.lfm_pool.specs.Depths.{TellsOwner}
+use Rattle.lfm_pool.specs.Posts.{HeldPosts, KeepsPosts}
 use Rattle.lfm_pool.specs.Rule.{own_at, HeldPool}
 use Rattle.lfm_pool.specs.Tables.{part}
+use Rattle.lfm_pool.proofs.PostStates.{keeps_same}
+use Rattle.lfm_pool.proofs.PostsKept.{allows_posts}
 
 module _ (p : Pool) (t : PoolSeat) (m : ℕ) (belongs : OfPool t p) (mutex : IsMutex m p) where
   abbrev v : View ⊤
@@ -43,9 +46,9 @@ module _ (p : Pool) (t : PoolSeat) (m : ℕ) (belongs : OfPool t p) (mutex : IsM
           λ deep. owner ∙ told.1 (subst (λ (x : SeatState). 0 < x.depth) (sym stands) deep),
         )
 
-  pub reads_owner : (slots index picked : ℕ) → picked ≡ m → index ≡ own_at m 1
+  keeps_pool : (slots index picked : ℕ) → picked ≡ m → index ≡ own_at m 1
       → Allows HeldPool slots t.place.id t.place.me index (λ n. n) (λ n me'. (me' ≡ t.place.me) × TellsOwner (part t.place.me.0 picked) n)
-  reads_owner slots index picked same e =
+  keeps_pool slots index picked same e =
       subst (λ (z : ℕ). Allows HeldPool slots t.place.id t.place.me index (λ n. n) (λ n me'. (me' ≡ t.place.me) × TellsOwner (part t.place.me.0 z) n)) (sym same) (λ s h none at small. (
         t.place.me.0,
         keeps,
@@ -53,3 +56,11 @@ module _ (p : Pool) (t : PoolSeat) (m : ℕ) (belongs : OfPool t p) (mutex : IsM
         subst HeldPool (λ i. record { words = sym (set-get_or s.words index 0) i; homes = s.homes; views = sym (set_again s.views t.place.id t.place.me.0 at) i }) h,
         (refl, tells s h at (slice_index s.words index) (ap (λ (i : ℕ). slice_index s.words i) e)),
       ))
+
+  -- the owner word is no handoff word, and the seat's knowledge of posts stays
+  pub reads_owner : (slots index picked : ℕ) → picked ≡ m → index ≡ own_at m 1
+      → Allows HeldPosts slots t.place.id t.place.me index (λ n. n) (λ n me'. (me' ≡ t.place.me) × TellsOwner (part t.place.me.0 picked) n)
+  reads_owner slots index picked same e =
+      allows_posts slots t.place.id index t.place.me (λ n. n) (λ n me'. (me' ≡ t.place.me) × TellsOwner (part t.place.me.0 picked) n) (keeps_pool slots index picked same e)
+      (λ s h at i less hit. omega (arith, e, hit))
+      (λ n me' told. subst (λ (z : Me ℕ PoolView). KeepsPosts t.place.me.0 z.0) (sym told.0) (record { parts = refl; posts = refl; found = refl; each = λ i. keeps_same (part t.place.me.0 i).state }))

@@ -619,8 +619,9 @@ module _ (id m number mutexes seats : ℕ) (me : Me ℕ PoolView) (p : SeatState
       → (w : View ⊤) × (slots_now : List (ℕ × Slot))
       × HeldPool (record { words = set s.words a.index (becomes a.access (slice_index s.words a.index)); homes = s.homes; views = set s.views id (with_part me.0 m w (note_after p w (note me.0 m))) })
       × Advanced any_follows any_fits p hand (part me.0 m, slots) (told_of (is_store a.access) (becomes a.access (slice_index s.words a.index)) (slice_index s.words a.index)) (w, slots_now)
+      × DepthAt w.state.depth w.state.point
   step_lone s h at =
-      let g = goes s h at in (g.0, carried_after slots g.1, held s h at, g.5)
+      let g = goes s h at in (g.0, carried_after slots g.1, held s h at, g.5, deep_now s h at)
 
   pub step_allowed : Allows HeldPool 0 id me a.index (becomes a.access) (λ n me'. TellsOf m p (λ x. Advanced any_follows any_fits p hand (part me.0 m, slots) x) me (told_of (is_store a.access) (becomes a.access n) n) me')
   step_allowed s h none at small =

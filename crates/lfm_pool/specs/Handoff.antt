@@ -12,6 +12,7 @@ use Rattle.lfm_protocol.specs.declared.points.Releaser.TheVariants.{Unlocker}
 use Rattle.lfm_protocol.specs.declared.seats.SeatState.{SeatState}
 use Rattle.lfm_protocol.specs.Seats.{unposted}
 use Rattle.lfm_protocol.specs.Stores.{expected_handoff, stored_handoff}
+use Rattle.lfm_laws.specs.steady.Steady.{DepthAt}
 use Rattle.lfm_table.specs.declared.seat_view.View.{View}
 use Rattle.lfm_pool.specs.declared.pool.Pool.{Pool}
 use Rattle.lfm_pool.specs.declared.pool.PoolSeat.{PoolSeat}
@@ -71,21 +72,21 @@ abbrev pub TellsOfLoad : ℕ → SeatState → (ℕ → Me Slot (View ⊤) → T
 TellsOfLoad m p tells me n me' =
     (w : View ⊤) × (slots : List (ℕ × Slot)) × (l : ℕ) × tells l (w, slots)
     × (me' ≡ (record (with_part me.0 m w (note_after p w (note me.0 m))) { found = (handoff_of n).post }, me.1))
-    × SameLoaded me.0 n l
+    × SameLoaded me.0 n l × DepthAt w.state.depth w.state.point
 
 -- an exchange of the seat with this number, which expected this word, has found n
 abbrev pub TellsOfTry : ℕ → ℕ → SeatState → ℕ → (ℕ → Me Slot (View ⊤) → Type 0) → Me ℕ PoolView → ℕ → Me ℕ PoolView → Type 0
 TellsOfTry m number p expected tells me n me' =
     (w : View ⊤) × (slots : List (ℕ × Slot)) × (l : ℕ) × tells l (w, slots)
     × (me' ≡ (record (with_part me.0 m w (note_after p w (note me.0 m))) { found = 0 }, me.1))
-    × SameTried p.point me.0 expected (handoff_word (expected_handoff p number)) n l
+    × SameTried p.point me.0 expected (handoff_word (expected_handoff p number)) n l × DepthAt w.state.depth w.state.point
 
 -- the seat with this number has posted
 abbrev pub TellsOfPost : ℕ → ℕ → SeatState → (ℕ → Me Slot (View ⊤) → Type 0) → Me ℕ PoolView → Me ℕ PoolView → Type 0
 TellsOfPost m number p tells me me' =
     (w : View ⊤) × (slots : List (ℕ × Slot)) × tells (handoff_word (stored_handoff p number)) (w, slots)
     × (me' ≡ (record (with_part me.0 m w (note_after p w (note me.0 m))) { posts = me.0.posts + 1 }, me.1))
-    × (me.0.found ≡ 0)
+    × (me.0.found ≡ 0) × DepthAt w.state.depth w.state.point
 
 -- What the contracts say
 

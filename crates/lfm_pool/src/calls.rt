@@ -4,11 +4,14 @@
 //!
 //! A seat that sleeps finds its grant by `try_receive`. Nothing changes in other mutexes, nor in what the seat knows of them.
 //! None of these calls allocates, waits or wakes a thread.
-ghost use Rattle.std.specs.Prelude.{◌≡◌, ◌+◌, ◌^◌, ◌<◌};
+ghost use Rattle.std.specs.Prelude.{◌≡◌, ◌+◌, ◌^◌, ◌<◌, length};
 ghost use Rattle.lfm_pool.specs.Belongs.{IsMutex, SameSeat};
 ghost use Rattle.lfm_pool.specs.AnyDepth.{AsksAtAnyDepth, IsBetweenCalls, TriesAtAnyDepth, UnlocksAtAnyDepth, sleeps_after};
+ghost use Rattle.lfm_pool.specs.Ask.{MakesBesideFailuresIn};
+ghost use Rattle.lfm_pool.specs.Depths.{HasDepthIn};
 ghost use Rattle.lfm_pool.specs.Receive.{ReceivedIn};
-ghost use Rattle.lfm_pool.specs.Seats.{state_of};
+ghost use Rattle.lfm_pool.specs.Seats.{popped_of, state_of};
+ghost use Rattle.lfm_pool.specs.Moves.{MakesAtMostIn};
 ghost use Rattle.lfm_pool.specs.SeatWords.{Sleeps};
 
 use crate::ask_all::ask_without_waking as ask_first;
@@ -35,16 +38,18 @@ pub enum Release {
 ///
 /// Refuses, in this order: Asleep (the seat sleeps in some mutex of the pool), DepthFull (it holds this mutex 65,535 times),
 /// and Busy: the mutex was taken, and nothing was posted, or the post had gone when the call tried to accept it. Busy gives
-/// the charge back. The seat has to have a take left here. Whatever other seats do, the call makes at most 6 atomic steps,
-/// and before them a load of the owner word, and of the carried word if the seat holds the mutex.
+/// the charge back. A seat that does not hold the mutex has to have a take left here. Whatever other seats do, the call
+/// makes at most 6 atomic steps, and before them a load of the owner word, and of the carried word if the seat holds the
+/// mutex.
 #[inline(always)]
 pub fn try_lock(pool: &Pool, seat: &mut PoolSeat, mutex: usize) -> Result<Locked, Refusal>
     requires between { IsBetweenCalls seat.old pool.now }
     requires mutex { IsMutex mutex pool.now }
-    requires charged { (state_of seat.old mutex).takes < pool.now.limits.budget }
+    requires charged { HasDepthIn seat.old pool.now mutex 0 → (state_of seat.old mutex).takes < pool.now.limits.budget }
     ensures belongs { SameSeat seat.old seat.new }
     ensures between { IsBetweenCalls seat.new pool.now }
     ensures tries { TriesAtAnyDepth result seat.old seat.new pool.now mutex }
+    ensures bounded { MakesAtMostIn 6 seat.old seat.new mutex }
 {
     let asleep = seat.asleep;
     if asleep {
@@ -71,8 +76,9 @@ pub fn try_lock(pool: &Pool, seat: &mut PoolSeat, mutex: usize) -> Result<Locked
 /// also returns the record that it has granted, if any: the caller has to wake the thread of the seat of that record.
 ///
 /// Refuses, in this order: Asleep (the seat sleeps in some mutex of the pool), and DepthFull (it holds this mutex 65,535
-/// times). The seat has to have a take left here. The call makes as many atomic steps as that of `ask_all`, or 3 if it deepens
-/// the hold, and before them a load of the owner word, and of the carried word if the seat holds the mutex.
+/// times). A seat that does not hold the mutex has to have a take left here. The call makes as many atomic steps as that of
+/// `ask_all`, or 3 if it deepens the hold, and before them a load of the owner word, and of the carried word if the seat holds
+/// the mutex.
 #[inline(always)]
 pub fn ask_without_waking(
     pool: &Pool,
@@ -81,10 +87,11 @@ pub fn ask_without_waking(
 ) -> (Result<Asked, Refusal>, Option<Record>)
     requires between { IsBetweenCalls seat.old pool.now }
     requires mutex { IsMutex mutex pool.now }
-    requires charged { (state_of seat.old mutex).takes < pool.now.limits.budget }
+    requires charged { HasDepthIn seat.old pool.now mutex 0 → (state_of seat.old mutex).takes < pool.now.limits.budget }
     ensures belongs { SameSeat seat.old seat.new }
     ensures between { IsBetweenCalls seat.new pool.now }
     ensures asks { AsksAtAnyDepth result.0 result.1 seat.old seat.new pool.now mutex }
+    ensures bounded { MakesBesideFailuresIn (10 + length (popped_of seat.new mutex)) seat.old seat.new mutex }
 {
     let asleep = seat.asleep;
     if asleep {
@@ -123,6 +130,7 @@ pub fn unlock_without_waking(
     ensures belongs { SameSeat seat.old seat.new }
     ensures between { IsBetweenCalls seat.new pool.now }
     ensures unlocks { UnlocksAtAnyDepth result seat.old seat.new pool.now mutex }
+    ensures bounded { MakesAtMostIn (9 + length (popped_of seat.new mutex)) seat.old seat.new mutex }
 {
     let asleep = seat.asleep;
     if asleep {
@@ -153,6 +161,7 @@ pub fn try_receive(pool: &Pool, seat: &mut PoolSeat, mutex: usize) -> Option<How
     ensures belongs { SameSeat seat.old seat.new }
     ensures between { IsBetweenCalls seat.new pool.now }
     ensures receives { ReceivedIn seat.old seat.new mutex result }
+    ensures bounded { MakesAtMostIn 3 seat.old seat.new mutex }
 {
     let Some(how) = sleeper::try_receive(pool, seat, mutex) else {
         seat.asleep = true;

@@ -7,7 +7,7 @@ ghost use Rattle.std.specs.Prelude.{◌≡◌, ◌<◌, ℕ};
 ghost use Rattle.atomic_table.specs.Table.{Allows};
 ghost use Rattle.lfm_pool.specs.Belongs.{IsMutex, OfPool, SameSeat};
 ghost use Rattle.lfm_pool.specs.Depths.{HasDepthIn, TellsOwner};
-ghost use Rattle.lfm_pool.specs.Rule.{HeldPool};
+ghost use Rattle.lfm_pool.specs.Posts.{HeldPosts};
 ghost use Rattle.lfm_pool.specs.Tables.{part};
 
 use crate::chain::carried_load;
@@ -41,7 +41,7 @@ impl<B: OneOwner> Play<u64, PoolView> for OwnerLoad<B> {
 fn load_owner<B: OneOwner>(pool: &Pool, seat: &mut PoolSeat, _mutex: usize, index: usize) -> u64
     requires table { seat.old.place.table_id ≡ pool.now.table.shared.table_id }
     requires inside { index < pool.now.table.shared.table_id.words }
-    requires may { Allows HeldPool pool.now.table.shared.table_id.slots seat.old.place.id seat.old.place.me index (λ n. n) (λ n me'. (me' ≡ seat.old.place.me) × TellsOwner (part seat.old.place.me.0 B.mutex) n) }
+    requires may { Allows HeldPosts pool.now.table.shared.table_id.slots seat.old.place.id seat.old.place.me index (λ n. n) (λ n me'. (me' ≡ seat.old.place.me) × TellsOwner (part seat.old.place.me.0 B.mutex) n) }
     ensures same { (seat.new.place.table_id ≡ seat.old.place.table_id) × (seat.new.place.id ≡ seat.old.place.id) × (seat.new.number ≡ seat.old.number) }
     ensures knows { seat.new.place.me ≡ seat.old.place.me }
     ensures tells { TellsOwner (part seat.old.place.me.0 B.mutex) result }

@@ -4,7 +4,7 @@ use Rattle.lfm_pool.specs.declared.view.PoolView.{PoolView}
 use Rattle.std.specs.Prelude.{false}
 use Rattle.lfm_pool.specs.Depths.{HasDepthIn, TryAgainSteps}
 use Rattle.lfm_pool.specs.Steps.{state_in}
-use Rattle.lfm_pool.proofs.AnyDepth.{again_told, awake_rests, deep_rest, deepens_then, depth_then_at, full, may_at_rest, may_try_flat, others_rest, rest_said, rest_then, same_said, same_self, tries_then, try_rest, try_told}
+use Rattle.lfm_pool.proofs.AnyDepth.{again_told, awake_rests, bounded_then, deep_rest, deepens_then, depth_then_at, full, may_at_rest, may_try_flat, others_rest, refused_made, rest_said, rest_then, same_said, same_self, tried_again_made, tries_then, try_rest, try_told}
 use Rattle.lfm_pool.proofs.SeveralSteps.{same_then}
 use Rattle.lfm_pool.proofs.calls.try_lock.Goals as goal
 
@@ -36,7 +36,7 @@ pub try_lock-locked-requires-clause-may : goal.try_lock-locked-requires-clause-m
 try_lock-locked-requires-clause-may c =
     let s = c.args.seat.now in let p = c.args.pool.now in let m = c.args.mutex in let r = c.requires in let rest = r.between.awake c.if-asleep.false in
     let f = c.depth-held in let t = f.new.seat in let rest' = rest_then s t p rest f.ensures.belongs f.ensures.knows in
-    may_try_flat t p m (depth_then_at s t p m 0 f.ensures.belongs f.ensures.knows (subst (λ (d : ℕ). HasDepthIn s p m d) c.if-held-eq0.true f.ensures.depth)) (subst (λ (z : Me ℕ PoolView). (state_in z.0 m).takes < p.limits.budget) (sym f.ensures.knows) r.charged)
+    may_try_flat t p m (depth_then_at s t p m 0 f.ensures.belongs f.ensures.knows (subst (λ (d : ℕ). HasDepthIn s p m d) c.if-held-eq0.true f.ensures.depth)) (subst (λ (z : Me ℕ PoolView). (state_in z.0 m).takes < p.limits.budget) (sym f.ensures.knows) (r.charged (subst (λ (d : ℕ). HasDepthIn s p m d) c.if-held-eq0.true f.ensures.depth)))
 
 pub try_lock-locked-requires-clause-elsewhere : goal.try_lock-locked-requires-clause-elsewhere
 try_lock-locked-requires-clause-elsewhere c =
@@ -48,7 +48,7 @@ pub returns-then-held-eq0-clause-belongs : goal.returns-then-held-eq0-clause-bel
 returns-then-held-eq0-clause-belongs c =
     let s = c.args.seat.now in let p = c.args.pool.now in let m = c.args.mutex in let r = c.requires in let rest = r.between.awake c.if-asleep.false in
     let f = c.depth-held in let t = f.new.seat in let rest' = rest_then s t p rest f.ensures.belongs f.ensures.knows in
-    let k = c.try_lock-locked in let u = k.new.seat in let did = tries_then s t u p m f.ensures.belongs f.ensures.knows k.result k.ensures.tries in same_said s u false (same_then s t u f.ensures.belongs k.ensures.belongs)
+    let k = c.try_lock-locked in let u = k.new.seat in let did = tries_then s t u p m f.ensures.belongs f.ensures.knows k.result k.ensures.tries in same_said s u false _ (same_then s t u f.ensures.belongs k.ensures.belongs)
 
 pub returns-then-held-eq0-clause-between : goal.returns-then-held-eq0-clause-between
 returns-then-held-eq0-clause-between c =
@@ -60,7 +60,7 @@ pub returns-then-held-eq0-clause-tries : goal.returns-then-held-eq0-clause-tries
 returns-then-held-eq0-clause-tries c =
     let s = c.args.seat.now in let p = c.args.pool.now in let m = c.args.mutex in let r = c.requires in let rest = r.between.awake c.if-asleep.false in
     let f = c.depth-held in let t = f.new.seat in let rest' = rest_then s t p rest f.ensures.belongs f.ensures.knows in
-    let k = c.try_lock-locked in let u = k.new.seat in let did = tries_then s t u p m f.ensures.belongs f.ensures.knows k.result k.ensures.tries in try_told s u p m c.if-asleep.false false k.result (subst (λ (d : ℕ). HasDepthIn s p m d) c.if-held-eq0.true f.ensures.depth) did k.ensures.holds
+    let k = c.try_lock-locked in let u = k.new.seat in let did = tries_then s t u p m f.ensures.belongs f.ensures.knows k.result k.ensures.tries in try_told s u p m c.if-asleep.false false _ k.result (subst (λ (d : ℕ). HasDepthIn s p m d) c.if-held-eq0.true f.ensures.depth) did k.ensures.holds
 
 pub try_again-deeper-requires-clause-may : goal.try_again-deeper-requires-clause-may
 try_again-deeper-requires-clause-may c =
@@ -84,7 +84,7 @@ pub returns-then-held-lt-MAX_DEPTH-clause-belongs : goal.returns-then-held-lt-MA
 returns-then-held-lt-MAX_DEPTH-clause-belongs c =
     let s = c.args.seat.now in let p = c.args.pool.now in let m = c.args.mutex in let r = c.requires in let rest = r.between.awake c.if-asleep.false in
     let f = c.depth-held in let t = f.new.seat in let rest' = rest_then s t p rest f.ensures.belongs f.ensures.knows in
-    let k = c.try_again-deeper in let u = k.new.seat in same_said s u false (same_then s t u f.ensures.belongs k.ensures.belongs)
+    let k = c.try_again-deeper in let u = k.new.seat in same_said s u false _ (same_then s t u f.ensures.belongs k.ensures.belongs)
 
 pub returns-then-held-lt-MAX_DEPTH-clause-between : goal.returns-then-held-lt-MAX_DEPTH-clause-between
 returns-then-held-lt-MAX_DEPTH-clause-between c =
@@ -96,13 +96,13 @@ pub returns-then-held-lt-MAX_DEPTH-clause-tries : goal.returns-then-held-lt-MAX_
 returns-then-held-lt-MAX_DEPTH-clause-tries c =
     let s = c.args.seat.now in let p = c.args.pool.now in let m = c.args.mutex in let r = c.requires in let rest = r.between.awake c.if-asleep.false in
     let f = c.depth-held in let t = f.new.seat in let rest' = rest_then s t p rest f.ensures.belongs f.ensures.knows in
-    let k = c.try_again-deeper in let u = k.new.seat in again_told s u p m c.if-asleep.false false f.result k.result k.ensures.deeper (let some = c.if-held-eq0.false in let e : 0 < f.result = omega (arith, some) in e) f.ensures.depth (deepens_then s t u p m f.ensures.belongs f.ensures.knows TryAgainSteps (f.result + 1) k.ensures.deepens)
+    let k = c.try_again-deeper in let u = k.new.seat in again_told s u p m c.if-asleep.false false u.counted f.result k.result k.ensures.deeper (let some = c.if-held-eq0.false in let e : 0 < f.result = omega (arith, some) in e) f.ensures.depth (deepens_then s t u p m f.ensures.belongs f.ensures.knows TryAgainSteps (f.result + 1) k.ensures.deepens)
 
 pub returns-clause-belongs : goal.returns-clause-belongs
 returns-clause-belongs c =
     let s = c.args.seat.now in let p = c.args.pool.now in let m = c.args.mutex in let r = c.requires in let rest = r.between.awake c.if-asleep.false in
     let f = c.depth-held in let t = f.new.seat in let rest' = rest_then s t p rest f.ensures.belongs f.ensures.knows in
-    same_said s t false f.ensures.belongs
+    same_said s t false _ f.ensures.belongs
 
 pub returns-clause-between : goal.returns-clause-between
 returns-clause-between c =
@@ -115,3 +115,25 @@ returns-clause-tries c =
     let s = c.args.seat.now in let p = c.args.pool.now in let m = c.args.mutex in let r = c.requires in let rest = r.between.awake c.if-asleep.false in
     let f = c.depth-held in let t = f.new.seat in let rest' = rest_then s t p rest f.ensures.belongs f.ensures.knows in
     (c.if-asleep.false, full s p m f.result f.ensures.depth c.if-held-lt-MAX_DEPTH.false, f.ensures.knows)
+
+pub returns-then-asleep-clause-bounded : goal.returns-then-asleep-clause-bounded
+returns-then-asleep-clause-bounded c =
+    refused_made c.args.seat.now c.args.seat.now c.args.mutex 6 refl
+
+pub returns-then-held-eq0-clause-bounded : goal.returns-then-held-eq0-clause-bounded
+returns-then-held-eq0-clause-bounded c =
+    let s = c.args.seat.now in let p = c.args.pool.now in let m = c.args.mutex in let r = c.requires in let rest = r.between.awake c.if-asleep.false in
+    let f = c.depth-held in let t = f.new.seat in
+    let k = c.try_lock-locked in bounded_then s t k.new.seat m 6 f.ensures.knows k.ensures.bounded
+
+pub returns-then-held-lt-MAX_DEPTH-clause-bounded : goal.returns-then-held-lt-MAX_DEPTH-clause-bounded
+returns-then-held-lt-MAX_DEPTH-clause-bounded c =
+    let s = c.args.seat.now in let p = c.args.pool.now in let m = c.args.mutex in let r = c.requires in let rest = r.between.awake c.if-asleep.false in
+    let f = c.depth-held in let t = f.new.seat in
+    let k = c.try_again-deeper in let u = k.new.seat in tried_again_made s u p m (may_at_rest s p rest m r.mutex) (f.result + 1) (deepens_then s t u p m f.ensures.belongs f.ensures.knows TryAgainSteps (f.result + 1) k.ensures.deepens)
+
+pub returns-clause-bounded : goal.returns-clause-bounded
+returns-clause-bounded c =
+    let s = c.args.seat.now in let p = c.args.pool.now in let m = c.args.mutex in let r = c.requires in let rest = r.between.awake c.if-asleep.false in
+    let f = c.depth-held in let t = f.new.seat in
+    refused_made s t m 6 f.ensures.knows

@@ -1,7 +1,7 @@
 use Rattle.std.proofs.Common.{ℕ, refl, ◌<◌, ◌-◌, subst, arith}
 use Rattle.std.specs.Prelude.{false}
 use Rattle.lfm_pool.specs.Depths.{HasDepthIn}
-use Rattle.lfm_pool.proofs.AnyDepth.{after_unlock, awake_rests, depth_then_at, fewer_rest, gives_up_then, holds_one, last_told, others_rest, rest_said, rest_then, same_said, same_self, still_told, releases_then}
+use Rattle.lfm_pool.proofs.AnyDepth.{after_unlock, awake_rests, bounded_then, depth_then_at, fewer_rest, given_up_made, gives_up_then, holds_one, last_told, may_at_rest, others_rest, refused_made, rest_said, rest_then, same_said, same_self, still_told, releases_then}
 use Rattle.lfm_pool.proofs.SeveralSteps.{same_then}
 use Rattle.lfm_pool.proofs.calls.unlock_without_waking.Goals as goal
 
@@ -23,18 +23,18 @@ depth-held-requires-clause-rests c =
     let s = c.args.seat.now in let p = c.args.pool.now in let m = c.args.mutex in let r = c.requires in let rest = r.between.awake c.if-asleep.false in
     rest.depths m r.mutex
 
-pub returns-then-asleep-clause-after : goal.returns-then-asleep-clause-after
-returns-then-asleep-clause-after c =
+pub returns-then-asleep-clause-between : goal.returns-then-asleep-clause-between
+returns-then-asleep-clause-between c =
     c.requires.between
 
 pub returns-then-held-eq0-clause-belongs : goal.returns-then-held-eq0-clause-belongs
 returns-then-held-eq0-clause-belongs c =
     let s = c.args.seat.now in let p = c.args.pool.now in let m = c.args.mutex in let r = c.requires in let rest = r.between.awake c.if-asleep.false in
     let f = c.depth-held in let t = f.new.seat in let rest' = rest_then s t p rest f.ensures.belongs f.ensures.knows in
-    same_said s t false f.ensures.belongs
+    same_said s t false _ f.ensures.belongs
 
-pub returns-then-held-eq0-clause-after : goal.returns-then-held-eq0-clause-after
-returns-then-held-eq0-clause-after c =
+pub returns-then-held-eq0-clause-between : goal.returns-then-held-eq0-clause-between
+returns-then-held-eq0-clause-between c =
     let s = c.args.seat.now in let p = c.args.pool.now in let m = c.args.mutex in let r = c.requires in let rest = r.between.awake c.if-asleep.false in
     let f = c.depth-held in let t = f.new.seat in let rest' = rest_then s t p rest f.ensures.belongs f.ensures.knows in
     awake_rests _ p refl (rest_said t _ p refl refl rest')
@@ -45,20 +45,20 @@ returns-then-held-eq0-clause-unlocks c =
     let f = c.depth-held in let t = f.new.seat in let rest' = rest_then s t p rest f.ensures.belongs f.ensures.knows in
     (c.if-asleep.false, (subst (λ (d : ℕ). HasDepthIn s p m d) c.if-held-eq0.true f.ensures.depth), f.ensures.knows)
 
-pub unlock_last-released-requires-clause-belongs : goal.unlock_last-released-requires-clause-belongs
-unlock_last-released-requires-clause-belongs c =
+pub unlock-released-requires-clause-belongs : goal.unlock-released-requires-clause-belongs
+unlock-released-requires-clause-belongs c =
     let s = c.args.seat.now in let p = c.args.pool.now in let m = c.args.mutex in let r = c.requires in let rest = r.between.awake c.if-asleep.false in
     let f = c.depth-held in let t = f.new.seat in let rest' = rest_then s t p rest f.ensures.belongs f.ensures.knows in
     rest'.belongs
 
-pub unlock_last-released-requires-clause-holds : goal.unlock_last-released-requires-clause-holds
-unlock_last-released-requires-clause-holds c =
+pub unlock-released-requires-clause-holds : goal.unlock-released-requires-clause-holds
+unlock-released-requires-clause-holds c =
     let s = c.args.seat.now in let p = c.args.pool.now in let m = c.args.mutex in let r = c.requires in let rest = r.between.awake c.if-asleep.false in
     let f = c.depth-held in let t = f.new.seat in let rest' = rest_then s t p rest f.ensures.belongs f.ensures.knows in
     holds_one t p m (depth_then_at s t p m 1 f.ensures.belongs f.ensures.knows (subst (λ (d : ℕ). HasDepthIn s p m d) c.if-held-eq1.true f.ensures.depth))
 
-pub unlock_last-released-requires-clause-elsewhere : goal.unlock_last-released-requires-clause-elsewhere
-unlock_last-released-requires-clause-elsewhere c =
+pub unlock-released-requires-clause-elsewhere : goal.unlock-released-requires-clause-elsewhere
+unlock-released-requires-clause-elsewhere c =
     let s = c.args.seat.now in let p = c.args.pool.now in let m = c.args.mutex in let r = c.requires in let rest = r.between.awake c.if-asleep.false in
     let f = c.depth-held in let t = f.new.seat in let rest' = rest_then s t p rest f.ensures.belongs f.ensures.knows in
     others_rest t p rest' m
@@ -67,19 +67,19 @@ pub returns-then-held-eq1-clause-belongs : goal.returns-then-held-eq1-clause-bel
 returns-then-held-eq1-clause-belongs c =
     let s = c.args.seat.now in let p = c.args.pool.now in let m = c.args.mutex in let r = c.requires in let rest = r.between.awake c.if-asleep.false in
     let f = c.depth-held in let t = f.new.seat in let rest' = rest_then s t p rest f.ensures.belongs f.ensures.knows in
-    let k = c.unlock_last-released in let u = k.new.seat in let did = releases_then s t u p m f.ensures.belongs f.ensures.knows k.result k.ensures.releases in same_said s u false (same_then s t u f.ensures.belongs k.ensures.belongs)
+    let k = c.unlock-released in let u = k.new.seat in let did = releases_then s t u p m f.ensures.belongs f.ensures.knows k.result k.ensures.releases in same_said s u false _ (same_then s t u f.ensures.belongs k.ensures.belongs)
 
-pub returns-then-held-eq1-clause-after : goal.returns-then-held-eq1-clause-after
-returns-then-held-eq1-clause-after c =
+pub returns-then-held-eq1-clause-between : goal.returns-then-held-eq1-clause-between
+returns-then-held-eq1-clause-between c =
     let s = c.args.seat.now in let p = c.args.pool.now in let m = c.args.mutex in let r = c.requires in let rest = r.between.awake c.if-asleep.false in
     let f = c.depth-held in let t = f.new.seat in let rest' = rest_then s t p rest f.ensures.belongs f.ensures.knows in
-    let k = c.unlock_last-released in let u = k.new.seat in let did = releases_then s t u p m f.ensures.belongs f.ensures.knows k.result k.ensures.releases in after_unlock s u p m rest r.mutex (same_then s t u f.ensures.belongs k.ensures.belongs) _ refl refl k.result did k.ensures.may refl
+    let k = c.unlock-released in let u = k.new.seat in let did = releases_then s t u p m f.ensures.belongs f.ensures.knows k.result k.ensures.releases in after_unlock s u p m rest r.mutex (same_then s t u f.ensures.belongs k.ensures.belongs) _ refl refl k.result did refl
 
 pub returns-then-held-eq1-clause-unlocks : goal.returns-then-held-eq1-clause-unlocks
 returns-then-held-eq1-clause-unlocks c =
     let s = c.args.seat.now in let p = c.args.pool.now in let m = c.args.mutex in let r = c.requires in let rest = r.between.awake c.if-asleep.false in
     let f = c.depth-held in let t = f.new.seat in let rest' = rest_then s t p rest f.ensures.belongs f.ensures.knows in
-    let k = c.unlock_last-released in let u = k.new.seat in let did = releases_then s t u p m f.ensures.belongs f.ensures.knows k.result k.ensures.releases in last_told s u p m c.if-asleep.false false k.result (subst (λ (d : ℕ). HasDepthIn s p m d) c.if-held-eq1.true f.ensures.depth) did
+    let k = c.unlock-released in let u = k.new.seat in let did = releases_then s t u p m f.ensures.belongs f.ensures.knows k.result k.ensures.releases in last_told s u p m c.if-asleep.false false _ k.result (subst (λ (d : ℕ). HasDepthIn s p m d) c.if-held-eq1.true f.ensures.depth) did
 
 pub give_up_one-fewer-requires-clause-belongs : goal.give_up_one-fewer-requires-clause-belongs
 give_up_one-fewer-requires-clause-belongs c =
@@ -103,10 +103,10 @@ pub returns-clause-belongs : goal.returns-clause-belongs
 returns-clause-belongs c =
     let s = c.args.seat.now in let p = c.args.pool.now in let m = c.args.mutex in let r = c.requires in let rest = r.between.awake c.if-asleep.false in
     let f = c.depth-held in let t = f.new.seat in let rest' = rest_then s t p rest f.ensures.belongs f.ensures.knows in
-    let k = c.give_up_one-fewer in let u = k.new.seat in let did = gives_up_then s t u p m f.ensures.belongs f.ensures.knows (f.result - 1) k.ensures.gives in same_said s u false (same_then s t u f.ensures.belongs k.ensures.belongs)
+    let k = c.give_up_one-fewer in let u = k.new.seat in let did = gives_up_then s t u p m f.ensures.belongs f.ensures.knows (f.result - 1) k.ensures.gives in same_said s u false _ (same_then s t u f.ensures.belongs k.ensures.belongs)
 
-pub returns-clause-after : goal.returns-clause-after
-returns-clause-after c =
+pub returns-clause-between : goal.returns-clause-between
+returns-clause-between c =
     let s = c.args.seat.now in let p = c.args.pool.now in let m = c.args.mutex in let r = c.requires in let rest = r.between.awake c.if-asleep.false in
     let f = c.depth-held in let t = f.new.seat in let rest' = rest_then s t p rest f.ensures.belongs f.ensures.knows in
     let k = c.give_up_one-fewer in let u = k.new.seat in let did = gives_up_then s t u p m f.ensures.belongs f.ensures.knows (f.result - 1) k.ensures.gives in awake_rests _ p refl (rest_said u _ p refl refl (fewer_rest s u p m rest r.mutex (same_then s t u f.ensures.belongs k.ensures.belongs) (f.result - 1) did))
@@ -115,4 +115,26 @@ pub returns-clause-unlocks : goal.returns-clause-unlocks
 returns-clause-unlocks c =
     let s = c.args.seat.now in let p = c.args.pool.now in let m = c.args.mutex in let r = c.requires in let rest = r.between.awake c.if-asleep.false in
     let f = c.depth-held in let t = f.new.seat in let rest' = rest_then s t p rest f.ensures.belongs f.ensures.knows in
-    let k = c.give_up_one-fewer in let u = k.new.seat in let did = gives_up_then s t u p m f.ensures.belongs f.ensures.knows (f.result - 1) k.ensures.gives in still_told s u p m c.if-asleep.false false f.result k.result k.ensures.fewer (let some = c.if-held-eq0.false in let more = c.if-held-eq1.false in let e : 1 < f.result = omega (arith, some, more) in e) f.ensures.depth did
+    let k = c.give_up_one-fewer in let u = k.new.seat in let did = gives_up_then s t u p m f.ensures.belongs f.ensures.knows (f.result - 1) k.ensures.gives in still_told s u p m c.if-asleep.false false u.counted f.result k.result k.ensures.fewer (let some = c.if-held-eq0.false in let more = c.if-held-eq1.false in let e : 1 < f.result = omega (arith, some, more) in e) f.ensures.depth did
+
+pub returns-then-asleep-clause-bounded : goal.returns-then-asleep-clause-bounded
+returns-then-asleep-clause-bounded c =
+    refused_made c.args.seat.now c.args.seat.now c.args.mutex _ refl
+
+pub returns-then-held-eq0-clause-bounded : goal.returns-then-held-eq0-clause-bounded
+returns-then-held-eq0-clause-bounded c =
+    let s = c.args.seat.now in let p = c.args.pool.now in let m = c.args.mutex in let r = c.requires in let rest = r.between.awake c.if-asleep.false in
+    let f = c.depth-held in let t = f.new.seat in
+    refused_made s t m _ f.ensures.knows
+
+pub returns-then-held-eq1-clause-bounded : goal.returns-then-held-eq1-clause-bounded
+returns-then-held-eq1-clause-bounded c =
+    let s = c.args.seat.now in let p = c.args.pool.now in let m = c.args.mutex in let r = c.requires in let rest = r.between.awake c.if-asleep.false in
+    let f = c.depth-held in let t = f.new.seat in
+    let k = c.unlock-released in bounded_then s t k.new.seat m _ f.ensures.knows k.ensures.bounded
+
+pub returns-clause-bounded : goal.returns-clause-bounded
+returns-clause-bounded c =
+    let s = c.args.seat.now in let p = c.args.pool.now in let m = c.args.mutex in let r = c.requires in let rest = r.between.awake c.if-asleep.false in
+    let f = c.depth-held in let t = f.new.seat in
+    let k = c.give_up_one-fewer in let u = k.new.seat in given_up_made s u p m (may_at_rest s p rest m r.mutex) (f.result - 1) _ (gives_up_then s t u p m f.ensures.belongs f.ensures.knows (f.result - 1) k.ensures.gives)

@@ -29,6 +29,7 @@ use lfm_words::Record;
 use std::marker::Brand;
 
 /// What a `lock` has begun.
+#[derive(Drop)]
 pub enum Begun {
     /// The seat held the mutex already, and now holds it this many times: 2 to 65,535. The call has ended.
     Again(u32),
@@ -37,6 +38,7 @@ pub enum Begun {
 }
 
 /// What an `unlock` has begun.
+#[derive(Drop)]
 pub enum Released {
     /// The seat gave up one of several holds, and still holds the mutex this many times: 1 to 65,534. The call has ended.
     Still(u32),

@@ -13,6 +13,7 @@ use crate::serve::serve;
 use lfm_words::Record;
 
 /// How far an `unlock` has come.
+#[derive(Drop)]
 pub enum Unlocking {
     /// No other seat wanted the mutex: it is free. The call has ended.
     Free,

@@ -26,6 +26,7 @@ use lfm_words::Record;
 use std::marker::Brand;
 
 /// What an `unlock` has done.
+#[derive(Drop)]
 pub enum Release {
     /// The seat gave up one of several holds, and still holds the mutex this many times: 1 to 65,534.
     Still(u32),

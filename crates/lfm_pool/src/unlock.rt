@@ -32,6 +32,7 @@ pub enum Released {
 }
 
 /// How far an `unlock` has come.
+#[derive(Drop)]
 pub enum Unlocking {
     /// No other seat wanted the mutex: it is free. The call has ended.
     Free,

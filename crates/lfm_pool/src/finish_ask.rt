@@ -19,6 +19,7 @@ use lfm_table::operations::Access;
 use lfm_words::{Record, unpack_link};
 
 /// How a `lock` that has taken a post over has ended.
+#[derive(Drop)]
 pub enum Finished {
     /// The oldest record was its own, and had this stamp. The seat holds the mutex once.
     Held(u64),

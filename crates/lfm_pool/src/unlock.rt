@@ -19,6 +19,7 @@ use lfm_table::operations::Access;
 use lfm_words::{Record, pack_handoff, unpack_link};
 
 /// What `unlock` returns.
+#[derive(Drop)]
 pub enum Released {
     /// No other seat wanted the mutex: it is free.
     Free,

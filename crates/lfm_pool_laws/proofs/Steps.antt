@@ -22,7 +22,7 @@ use Rattle.lfm_pool.specs.declared.view.PoolView.{PoolView}
 use Rattle.lfm_pool.specs.Chain.{HasRecord}
 use Rattle.lfm_pool.specs.Layout.{link_at, own_at, wake_at}
 use Rattle.lfm_pool.specs.Rule.{HeldPool}
-use Rattle.lfm_pool.specs.Steps.{IsStepAt, RestsElsewhere}
+use Rattle.lfm_pool.specs.Steps.{IsStepOf, RestsElsewhere}
 use Rattle.lfm_pool.specs.Tables.{has_link, known, part, rests, unnoted, with_part}
 use Rattle.lfm_pool.proofs.Links.{linked_busy}
 use Rattle.lfm_pool.proofs.LoneTables.{known_other, part_same}
@@ -111,7 +111,7 @@ module _ (s : State ℕ PoolView) (h : HeldPool s) (id m : ℕ) (v u : PoolView)
 -- A step
 
 module _ (s : State ℕ PoolView) (h : HeldPool s) (id m : ℕ) (v : PoolView) (p : SeatState) (a : PoolAccess) (less : m < h.mutexes) (at : get_elem? s.views id ≡ some v)
-    (elsewhere : RestsElsewhere v m) (became : Became (part v m).state (part v m).limits p) (is : IsStepAt h.mutexes h.seats m (id + 1) p a) (i : ℕ) (inside : i < h.mutexes) (other : i ≢ m) where
+    (elsewhere : RestsElsewhere v m) (became : Became (part v m).state (part v m).limits p) (is : IsStepOf h.mutexes h.seats m (id + 1) p a) (i : ℕ) (inside : i < h.mutexes) (other : i ≢ m) where
   -- the step does not access a word of the other mutex
   step_differs : (n : ℕ) → n < 8 → own_at i n ≢ a.index
   step_differs n few e = elim is.1 [

@@ -27,7 +27,7 @@ use Rattle.lfm_table.proofs.tables.SettledKept.{settles_of}
 use Rattle.lfm_pool.specs.declared.accesses.PoolAccess.{PoolAccess}
 use Rattle.lfm_pool.specs.declared.view.PoolView.{PoolView}
 use Rattle.lfm_pool.specs.Rule.{HeldPool}
-use Rattle.lfm_pool.specs.Steps.{IsStepAt, is_at_seat_word}
+use Rattle.lfm_pool.specs.Steps.{IsStepOf, is_at_seat_word}
 use Rattle.lfm_pool.specs.Tables.{IsKept, has_link_at, part}
 use Rattle.lfm_pool.proofs.Lifting.{IsBusyIn}
 use Rattle.lfm_pool.proofs.Links.{link_of_begun, linked_busy}
@@ -42,7 +42,7 @@ has_number c zero has = absurd (false≢true (sym (ap (λ (x : SeatState). has_l
 has_number c (suc t) has = omega arith
 
 module _ (s : State ℕ PoolView) (h : HeldPool s) (id m : ℕ) (v : PoolView) (p : SeatState) (a : PoolAccess) (less : m < h.mutexes) (at : get_elem? s.views id ≡ some v)
-    (became : Became (part v m).state (part v m).limits p) (is : IsStepAt h.mutexes h.seats m (id + 1) p a) where
+    (became : Became (part v m).state (part v m).limits p) (is : IsStepOf h.mutexes h.seats m (id + 1) p a) where
   abbrev lone : IsKept (h.tables m)
   lone = h.kept m less
 

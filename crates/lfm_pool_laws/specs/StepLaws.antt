@@ -15,7 +15,7 @@ use Rattle.lfm_pool.specs.declared.view.PoolView.{PoolView}
 use Rattle.lfm_pool.specs.Chain.{HasRecord}
 use Rattle.lfm_pool.specs.Layout.{link_at, own_at, wake_at}
 use Rattle.lfm_pool.specs.Rule.{HeldPool}
-use Rattle.lfm_pool.specs.Steps.{IsStepAt, RestsElsewhere}
+use Rattle.lfm_pool.specs.Steps.{IsStepOf, RestsElsewhere}
 use Rattle.lfm_pool.specs.Tables.{known, part, rests, with_part}
 use Rattle.lfm_pool_laws.specs.Mutexes.{HasRunOf}
 
@@ -44,7 +44,7 @@ DifferIn m w k v u = u.parts ≡ (with_part v m w k).parts
 abbrev pub StepsAreInOneMutex : Type 0
 StepsAreInOneMutex =
     (s : State ℕ PoolView) (h : HeldPool s) (id m : ℕ) (v u : PoolView) (p : SeatState) (a : PoolAccess) (x : ℕ) (w : View ⊤) (k : Note)
-    → m < h.mutexes → get_elem? s.views id ≡ some v → RestsElsewhere v m → Became (part v m).state (part v m).limits p → IsStepAt h.mutexes h.seats m (id + 1) p a
+    → m < h.mutexes → get_elem? s.views id ≡ some v → RestsElsewhere v m → Became (part v m).state (part v m).limits p → IsStepOf h.mutexes h.seats m (id + 1) p a
     → DifferIn m w k v u → (i : ℕ) → i < h.mutexes → i ≢ m → IsSame s (stepped s a.index x id [] u keeps) h.mutexes i
 
 -- The seat with this view carries mutex m, or holds it, and the word at this index is one that no other seat touches then:

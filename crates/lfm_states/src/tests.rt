@@ -24,7 +24,7 @@ fn totals_of(alloc: Global, words: Words) -> Option<Totals> {
     print_graph(alloc, request, &mut text).ok()
 }
 
-/// The graph of these words has so many states and events.
+/// The graph of these words has these numbers of states and events.
 fn has_totals<R: Abort + AllocGlobal>(rt: &R, words: Words, states: usize, events: u64) {
     let found = totals_of(rt.alloc(), words);
     assert_eq!(rt;

@@ -5,10 +5,10 @@ use Rattle.lfm_core.specs.declared.text.faults.ReplayFault.{ReplayFault}
 use Rattle.lfm_core.specs.declared.text.faults.ReplayFault.TheVariants.{Write}
 use Rattle.lfm_core.specs.declared.text.schedule.Schedule.{Schedule}
 use Rattle.lfm_protocol.specs.Core.{Core}
-use Rattle.lfm_core.specs.text.Grammar.{Plan, plan_of}
+use Rattle.lfm_core.specs.text.Grammar.{Plan, plan_in, plan_of}
 use Rattle.lfm_core.specs.text.Replay.{Reads}
-use Rattle.lfm_core.specs.text.Trace.{answer_of, none_refused, opening}
-use Rattle.lfm_explain.specs.Verdicts.{AnswersVerdict, Judges}
+use Rattle.lfm_core.specs.text.Trace.{answer_of, none_refused, opening, verdict_of}
+use Rattle.lfm_explain.specs.Verdicts.{AnswersVerdict, Judges, SaysVerdict}
 
 -- the fault that `?` makes of a fault of the writer
 pub write_failed : (r verdict : Result Bool ReplayFault) (old new : Option (List ℕ)) → IsErrAnd r (λ y. y ≡ Write) → AnswersVerdict r verdict old new
@@ -28,3 +28,9 @@ judged None s r old between new reads unwritten answers = tt
 judged (Some xs) s r old between new reads unwritten answers =
     subst (λ said. AnswersVerdict r (answer_of said) old new) (sym reads)
     (subst (λ bytes. AnswersVerdict r (Ok (none_refused (opening (plan_of s)) (plan_of s).lines)) bytes new) unwritten answers)
+
+-- the same of a run of which nothing is known of what was written
+pub said : (before : Option (List ℕ)) (s : Schedule) (r : Result Bool ReplayFault) → IfSome before (λ xs. plan_in xs ≡ Ok (plan_of s))
+    → SaysVerdict r (Ok (none_refused (opening (plan_of s)) (plan_of s).lines)) → IfSome before (λ xs. SaysVerdict r (verdict_of xs))
+said None s r reads says = tt
+said (Some xs) s r reads says = subst (λ said. SaysVerdict r (answer_of said)) (sym reads) says

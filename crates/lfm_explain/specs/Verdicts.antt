@@ -17,3 +17,12 @@ AnswersVerdict (Err Memory) verdict old new = Keeps old new
 -- the result is the verdict of a replay of the input
 abbrev pub Judges : Result Bool ReplayFault → List ℕ → Option (List ℕ) → Option (List ℕ) → Type 0
 Judges result input old new = AnswersVerdict result (verdict_of input) old new
+
+-- the same if nothing is known of what was written
+abbrev pub SaysVerdict : Result Bool ReplayFault → Result Bool ReplayFault → Type 0
+SaysVerdict (Ok b) verdict = verdict ≡ Ok b
+SaysVerdict (Err (Syntax n)) verdict = verdict ≡ Err (Syntax n)
+SaysVerdict (Err Limit) verdict = verdict ≡ Err Limit
+SaysVerdict (Err Read) verdict = ⊤
+SaysVerdict (Err Write) verdict = ⊤
+SaysVerdict (Err Memory) verdict = ⊤

@@ -1,14 +1,16 @@
 //! What the program does with its arguments. Without arguments it explains a schedule. With the word `drive` it drives a
-//! running mutex through one. Its messages and statuses are those of `lfm replay`.
+//! running mutex through one, and with the word `states` it prints the states that one passes. Its messages and statuses are
+//! those of `lfm replay`.
 use crate::driving::drive;
 use crate::explaining::explain;
+use crate::passing::print_states;
 use lfm_core::{ReplayFault, report};
 use lfm_text::{CommandLine, read_command_line, standard_output, tell_usage};
 use std::io::Input;
 use std::rt::Env;
 
 /// The usage line of the program.
-const USAGE_LINE: &str = "usage: lfm_explain [drive]";
+const USAGE_LINE: &str = "usage: lfm_explain [drive | states]";
 
 /// Does what the command line asks for, and returns the exit status. Messages go to standard error.
 pub fn run<R: Env + AllocGlobal + Input + Print + Eprint>(rt: &R) -> u8 {
@@ -24,6 +26,7 @@ pub fn run<R: Env + AllocGlobal + Input + Print + Eprint>(rt: &R) -> u8 {
 fn run_command<R: AllocGlobal + Input + Print + Eprint>(rt: &R, command: &str) -> u8 {
     match command {
         "drive" => report_outcome(rt, &drive_streams(rt)),
+        "states" => report_outcome(rt, &print_streams(rt)),
         _ => tell_usage(rt, USAGE_LINE),
     }
 }
@@ -47,4 +50,12 @@ fn drive_streams<R: AllocGlobal + Input + Print>(rt: &R) -> Result<bool, ReplayF
         return Err(ReplayFault::Memory);
     };
     drive(rt.alloc(), &mut rt.reader(), &mut writer)
+}
+
+/// Prints the states that the schedule on standard input passes, as a graph on standard output.
+fn print_streams<R: AllocGlobal + Input + Print>(rt: &R) -> Result<bool, ReplayFault> {
+    let Ok(mut writer) = standard_output(rt) else {
+        return Err(ReplayFault::Memory);
+    };
+    print_states(rt.alloc(), &mut rt.reader(), &mut writer)
 }

@@ -1,4 +1,3 @@
-pub mod Happening
 pub mod Measures
 pub mod Counts
 pub mod Rows

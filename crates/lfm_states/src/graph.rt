@@ -22,8 +22,6 @@ pub struct Graph {
     pub nodes: Vec<Reading>,
     /// All edges.
     pub edges: Vec<Edge>,
-    /// The edge that first led to a node. The start has none.
-    origins: Vec<Option<Edge>>,
     /// The nodes by the hash code of their reading.
     by_code: BTreeMap<u64, Vec<usize>>,
 }
@@ -34,10 +32,9 @@ impl Graph {
         let mut graph = Graph {
             nodes: Vec::new(alloc),
             edges: Vec::new(alloc),
-            origins: Vec::new(alloc),
             by_code: BTreeMap::new(alloc),
         };
-        graph.add_node(start, None)?;
+        graph.add_node(start)?;
         Ok(graph)
     }
 
@@ -54,36 +51,27 @@ impl Graph {
         None
     }
 
-    /// Adds a node that was first reached by this edge.
-    fn add_node(&mut self, reading: Reading, origin: Option<Edge>) -> Result<(), AllocError> {
+    /// Adds a node.
+    fn add_node(&mut self, reading: Reading) -> Result<(), AllocError> {
         let node = self.nodes.len();
         let code = reading.code();
         self.nodes.push(reading)?;
-        self.origins.push(origin)?;
         self.by_code.entry(code)?.or_default().push(node)?;
         Ok(())
     }
 
-    /// Adds the edge by which this event leads from a node to this reading. Adds a node if the reading is new.
-    pub fn add(&mut self, from: usize, event: Event, reading: Reading) -> Result<(), AllocError> {
+    /// Adds the edge by which this event leads from a node to this reading. Adds a node if the reading is new, and returns
+    /// whether it is.
+    pub fn add(&mut self, from: usize, event: Event, reading: Reading) -> Result<bool, AllocError> {
         let known = self.node_of(&reading);
         let to = match known {
             Some(node) => node,
             None => self.nodes.len(),
         };
-        let edge = Edge { from, to, event };
-        self.edges.push(edge)?;
+        self.edges.push(Edge { from, to, event })?;
         if known.is_none() {
-            self.add_node(reading, Some(edge))?;
+            self.add_node(reading)?;
         }
-        Ok(())
-    }
-
-    /// The edge that first led to this node. None at the start.
-    pub fn origin(&self, node: usize) -> Option<Edge> {
-        match self.origins.get(node) {
-            Some(origin) => *origin,
-            None => None,
-        }
+        Ok(known.is_none())
     }
 }

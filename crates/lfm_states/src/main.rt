@@ -6,18 +6,23 @@
 #![tactic(auto)]
 
 mod arguments;
+mod calls;
 mod codes;
 mod commands;
 mod comparing;
 mod counts;
 mod events;
 mod graph;
+mod keys;
 mod measures;
 mod points;
+mod printing;
 mod readings;
 mod rows;
 mod search;
 mod service;
+#[cfg(test)]
+mod tests;
 mod weights;
 
 use std::process::ExitCode;

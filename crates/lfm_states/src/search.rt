@@ -1,103 +1,84 @@
-//! The search tries each event in each state that was found, until there is no new state. A state cannot be copied, so it is
-//! rebuilt from the start by the events that first led to it.
+//! The search tries each event in each state that was found, until there is no new state.
 use crate::events::{CALLS, Event, SEATS, is_left_out};
 use crate::graph::Graph;
 use crate::readings::Reading;
 use crate::weights::is_open;
 use lfm_core::{State, Turn};
 use std::alloc::{AllocError, Global};
+use std::collections::VecDeque;
 
 /// More states than there are at either budget.
 const MOST_STATES: usize = 4_000_000;
-
-/// More events than the first path to any state has. With a smaller limit the number of states would be wrong.
-const LONGEST_PATH: usize = 1_000;
 
 /// The data of a search.
 #[derive(Drop)]
 struct Search {
     alloc: Global,
-    budget: u64,
     graph: Graph,
-    /// The events that lead to the state to be rebuilt, the last one first.
-    path: Vec<Event>,
+    /// The states that were found and not visited yet, in the order of their nodes.
+    pending: VecDeque<State>,
 }
 
 /// All states of a mutex of two seats with this budget, and the events between them. It allocates memory.
 pub fn reachable(alloc: Global, budget: u64) -> Result<Graph, AllocError> {
-    let start = started(alloc, budget)?;
+    let Ok(start) = State::new(alloc, SEATS, budget) else {
+        return Err(AllocError);
+    };
     let mut search = Search {
         alloc,
-        budget,
         graph: Graph::new(alloc, Reading::of(&start))?,
-        path: Vec::new(alloc),
+        pending: VecDeque::new(alloc),
     };
-    'nodes: for node in 0..MOST_STATES {
-        if node >= search.graph.nodes.len() {
-            break 'nodes;
-        }
-        search.visit(node)?;
-    }
+    search.pending.push_back(start)?;
+    search.visit_all()?;
     let Search { graph, .. } = search;
     Ok(graph)
 }
 
-/// A mutex at its start.
-fn started(alloc: Global, budget: u64) -> Result<State, AllocError> {
-    State::new(alloc, SEATS, budget).map_err(|_| AllocError)
-}
-
 impl Search {
-    /// Tries each event of each seat at this node.
-    fn visit(&mut self, node: usize) -> Result<(), AllocError> {
-        self.find_path(node)?;
-        let mut state = self.again()?;
+    /// Visits all nodes, those that are found meanwhile too.
+    fn visit_all(&mut self) -> Result<(), AllocError> {
+        'nodes: for node in 0..MOST_STATES {
+            let Some(state) = self.pending.pop_front() else {
+                break 'nodes;
+            };
+            self.visit(node, &state)?;
+        }
+        Ok(())
+    }
+
+    /// Tries each event of each seat at this node, whose state this is.
+    fn visit(&mut self, node: usize, state: &State) -> Result<(), AllocError> {
         for seat in 1..SEATS + 1 {
-            if !is_open(state.point(seat)) {
-                for call in &CALLS {
-                    if !is_left_out(&state, seat, *call) {
-                        state = self.attempt(node, state, Event::Begin(seat, *call))?;
-                    }
-                }
+            if is_open(state.point(seat)) {
+                self.attempt(node, state, Event::Step(seat))?;
             } else {
-                state = self.attempt(node, state, Event::Step(seat))?;
+                self.begin_calls(node, state, seat)?;
             }
         }
         Ok(())
     }
 
-    /// Tries one event in a state of this node, and returns a state of the node again.
-    fn attempt(&mut self, node: usize, state: State, event: Event) -> Result<State, AllocError> {
-        let mut state = state;
-        let turn = event.happen(&mut state);
-        let reading = Reading::of(&state);
-        if let (Event::Begin(_, _), Turn::Refused(_)) = (event, turn) {
-            return Ok(state);
-        }
-        self.graph.add(node, event, reading)?;
-        self.again()
-    }
-
-    /// Finds the events that lead to this node.
-    fn find_path(&mut self, node: usize) -> Result<(), AllocError> {
-        self.path.clear();
-        let mut at = node;
-        'back: for _ in 0..LONGEST_PATH {
-            let Some(edge) = self.graph.origin(at) else {
-                break 'back;
-            };
-            self.path.push(edge.event)?;
-            at = edge.from;
+    /// Tries each call of a seat.
+    fn begin_calls(&mut self, node: usize, state: &State, seat: u64) -> Result<(), AllocError> {
+        for call in &CALLS {
+            if !is_left_out(state, seat, *call) {
+                self.attempt(node, state, Event::Begin(seat, *call))?;
+            }
         }
         Ok(())
     }
 
-    /// The state to which the path leads.
-    fn again(&self) -> Result<State, AllocError> {
-        let mut state = started(self.alloc, self.budget)?;
-        for event in self.path.iter().rev() {
-            let _ = event.happen(&mut state);
+    /// Tries one event in the state of this node. A state that is new is kept to be visited.
+    fn attempt(&mut self, node: usize, state: &State, event: Event) -> Result<(), AllocError> {
+        let mut next = state.copy(self.alloc)?;
+        let turn = event.happen(&mut next);
+        if let (Event::Begin(_, _), Turn::Refused(_)) = (event, turn) {
+            return Ok(());
         }
-        Ok(state)
+        if self.graph.add(node, event, Reading::of(&next))? {
+            self.pending.push_back(next)?;
+        }
+        Ok(())
     }
 }

@@ -83,7 +83,7 @@ function row_of(name, file, number,    at, definitions, proofs, crate, answers) 
     sub(/\.rt$/, "/" name "/Answers.antt", answers)
     proofs = is_file(answers) ? "[`Answers`](../" answers ")" : "tactics"
   }
-  return "| [`" name "`](../" file "#L" number ") | " said " | " definitions " | " proofs " |"
+  return "|[`" name "`](../" file "#L" number ")|" said "|" definitions "|" proofs "|"
 }
 
 FNR == 1 {
@@ -118,9 +118,9 @@ FILENAME != page { in_comment = 0; next }
 
 # ---- the page
 
-/^\| \[`[a-z_]+`\]\(\.\.\/crates\/[a-z_\/]*\.rt(#L[0-9]+)?\) \|/ {
+/^\| ?\[`[a-z_]+`\]\(\.\.\/crates\/[a-z_\/]*\.rt(#L[0-9]+)?\) ?\|/ {
   name = $0
-  sub(/^\| \[`/, "", name)
+  sub(/^\| ?\[`/, "", name)
   sub(/`.*/, "", name)
   file = $0
   sub(/^[^(]*\(\.\.\//, "", file)

@@ -12,7 +12,7 @@ use Rattle.lfm_table.specs.declared.seat_view.Action.{Action}
 use Rattle.lfm_mutex.specs.TableRuns.{HoldsAfter}
 use Rattle.lfm_pool.specs.declared.view.PoolView.{PoolView}
 use Rattle.lfm_pool.specs.Layout.{own_at, wake_at}
-use Rattle.lfm_pool.specs.Rule.{HeldPool}
+use Rattle.lfm_pool.specs.Posts.{HeldPosts}
 use Rattle.lfm_pool.specs.Tables.{MutexTable, any_fits, any_follows, part, rests}
 
 -- Mutex m, in this state of a pool of this many mutexes and seats, has the table t.
@@ -35,10 +35,10 @@ pub record HasTable (s : State ℕ PoolView) (mutexes seats m : ℕ) (t : MutexT
 -- The pool keeps its rule. Mutex m has a table that was opened with these limits, and these actions are the run of the table
 -- from its opening up to now.
 pub record HasRunOf (s : State ℕ PoolView) (m : ℕ) (l : Limits) (actions : List Action) : Type 0 where
-  pub rule : HeldPool s
-  pub inside : m < rule.mutexes
+  pub rule : HeldPosts s
+  pub inside : m < rule.held.mutexes
   pub table : MutexTable
-  pub has : HasTable s rule.mutexes rule.seats m table
+  pub has : HasTable s rule.held.mutexes rule.held.seats m table
   pub holds : HoldsAfter any_follows any_fits l actions table
 
 -- In this state of a pool of this many mutexes, mutex m is this state of the core.

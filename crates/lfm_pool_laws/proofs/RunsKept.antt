@@ -5,7 +5,7 @@ use Rattle.std.specs.Prelude.{⊤, false, slice_index}
 use mathlib.Core.Option.{some}
 use lib.ListN.{get_elem?}
 use Rattle.atomic_table.specs.Table.{State}
-use Rattle.lfm_words.specs.Words.{is_posted_word}
+use Rattle.lfm_words.specs.Words.{handoff_of, is_posted_word}
 use Rattle.lfm_protocol.specs.declared.limits.Limits.{Limits}
 use Rattle.lfm_table.specs.declared.seat_view.Action.{Action}
 use Rattle.lfm_table.specs.declared.seat_view.View.{View}
@@ -46,6 +46,7 @@ module _ (s t : State ℕ PoolView) (m : ℕ) (l : Limits) (actions : List Actio
     owner = agree.words 1 (omega arith) ∙ r.has.owner;
     push = agree.words 3 (omega arith) ∙ r.has.push;
     posted = ap is_posted_word (agree.words 2 (omega arith)) ∙ r.has.posted;
+    poster = ap (λ (n : ℕ). (handoff_of n).seat) (agree.words 2 (omega arith)) ∙ r.has.poster;
     wakes = λ j z e busy.
         let y = agree.knew j z e in
         let was = ap rests (sym y.2) ∙ busy in

@@ -1,15 +1,19 @@
 -- The table of a mutex of a pool, and the state of the core that it is.
-use Rattle.std.proofs.Common.{◌≡◌, ◌≢◌, ℕ, ◌+◌, ◌<◌, List, length, nat_eq, sym, ap, ◌∙◌, subst, arith}
+use Rattle.std.proofs.Common.{◌≡◌, ◌≢◌, ℕ, ◌+◌, ◌<◌, ◌≤◌, List, length, nat_eq, sym, ap, ◌∙◌, subst, arith}
 use Rattle.std.specs.Prelude.{not, slice_index}
 use mathlib.Core.Option.{some}
 use lib.ListN.{get_elem?}
 use Rattle.atomic_table.specs.Table.{State}
-use Rattle.lfm_words.specs.Words.{is_posted_word, wake_word}
+use Rattle.lfm_words.specs.declared.handoffs.Handoff.{Handoff}
+use Rattle.lfm_words.specs.Words.{handoff_of, is_posted_word, wake_word}
 use Rattle.lfm_protocol.specs.declared.kinds.Word.{Word}
 use Rattle.lfm_protocol.specs.declared.limits.Limits.{Limits}
+use Rattle.lfm_protocol.specs.declared.seats.SeatState.{SeatState}
 use Rattle.lfm_protocol.specs.Core.{Core}
+use Rattle.lfm_protocol.specs.Limits.{max_seats}
 use Rattle.lfm_protocol.specs.Seats.{wake}
-use Rattle.lfm_laws.specs.steady.Steady.{Steady}
+use Rattle.lfm_laws.specs.steady.Ghost.{Responsibility, posted}
+use Rattle.lfm_laws.specs.steady.Steady.{HandoffFits, Steady}
 use Rattle.lfm_laws.specs.table.Words.{words}
 use Rattle.lfm_laws.proofs.lawful.runs.LimitsKept.{limits_stay}
 use Rattle.lfm_laws.proofs.table.Reads.{read_word}
@@ -22,7 +26,7 @@ use Rattle.lfm_pool.specs.Layout.{own_at, wake_at}
 use Rattle.lfm_pool.specs.Posts.{HeldPosts, named}
 use Rattle.lfm_pool.specs.Tables.{IsKept, part}
 use Rattle.lfm_pool.proofs.LoneTables.{seats_of}
-use Rattle.lfm_pool.proofs.PostNumbers.{named_seat}
+use Rattle.lfm_pool.proofs.PostNumbers.{named_seat, seat_of}
 use Rattle.lfm_pool_laws.specs.Mutexes.{HasRunOf, HasTable, MutexIs}
 
 -- the state of a pool in which each handoff word is that of the table of its mutex
@@ -47,8 +51,14 @@ has_table s h m less = record {
   owner = h.same (own_at m 1) (λ n within e. omega (arith, e)) ∙ h.held.own m 1 less (omega arith);
   push = h.same (own_at m 3) (λ n within e. omega (arith, e)) ∙ h.held.own m 3 less (omega arith);
   posted = ap is_posted_word (h.handed m less) ∙ same_posted (h.names m) (slice_index h.own (own_at m 2)) ∙ ap is_posted_word (h.held.own m 2 less (omega arith));
+  poster = ap (λ (n : ℕ). (handoff_of n).seat) (h.handed m less) ∙ named_seat (h.names m) (slice_index h.own (own_at m 2)) ∙ ap (λ (n : ℕ). (handoff_of n).seat) (h.held.own m 2 less (omega arith));
   wakes = λ j v at busy. h.same (wake_at h.held.mutexes j) (not_handoff h.held.mutexes j) ∙ h.held.wakes m j v less at busy;
 }
+
+-- the seat of a post fits its word
+small_poster : (seats : List SeatState) (place : Responsibility) (h : Handoff) → length seats ≤ max_seats → HandoffFits seats place h → h.seat < 65536
+small_poster seats posted h few fits = let w = fits.within in omega (arith, few, w)
+small_poster seats _ h few fits = let e = ap (λ (x : Handoff). x.seat) fits in omega (arith, e)
 
 module _ (s : State ℕ PoolView) (m : ℕ) (l : Limits) (actions : List Action) (r : HasRunOf s m l actions) where
   abbrev pub kept : IsKept r.table
@@ -85,6 +95,8 @@ module _ (s : State ℕ PoolView) (m : ℕ) (l : Limits) (actions : List Action)
     owner = r.has.owner ∙ ap (λ (ws : List ℕ). slice_index ws 1) kept.words_are;
     push = r.has.push ∙ ap (λ (ws : List ℕ). slice_index ws 3) kept.words_are;
     posted = r.has.posted ∙ ap (λ (ws : List ℕ). is_posted_word (slice_index ws 2)) kept.words_are;
+    poster = r.has.poster ∙ ap (λ (ws : List ℕ). (handoff_of (slice_index ws 2)).seat) kept.words_are
+        ∙ seat_of kept.core.handoff (small_poster kept.core.seats kept.ghost_state.place kept.core.handoff kept.fits.sizes.seats kept.fits.words.handoff);
     seats_are = λ j v at. (kept.each j (part v m) (r.has.views j v at)).state;
     limits_are = λ j v at. (kept.each j (part v m) (r.has.views j v at)).limits_are;
     wakes = λ j v at busy. r.has.wakes j v at busy ∙ wake_there j v at;

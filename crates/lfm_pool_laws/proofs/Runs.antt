@@ -9,17 +9,17 @@ use Rattle.lfm_table.specs.declared.seat_view.Action.{Action}
 use Rattle.lfm_table.specs.Actions.{KnowsRun, part_of}
 use Rattle.lfm_mutex.proofs.TableRuns.{tables_end_calls, tables_overtake_once, tables_push_in_rounds, tables_run_as_the_abstract_mutex, tables_serve_in_push_order, tables_serve_in_rounds}
 use Rattle.lfm_pool.specs.declared.view.PoolView.{PoolView}
-use Rattle.lfm_pool.specs.Rule.{HeldPool}
+use Rattle.lfm_pool.specs.Posts.{HeldPosts}
 use Rattle.lfm_pool.specs.Tables.{any_fits, any_follows, part}
 use Rattle.lfm_pool_laws.specs.Mutexes.{HasRunOf}
 use Rattle.lfm_pool_laws.specs.RunLaws.{MutexesAreOvertakenOnce, MutexesEndCalls, MutexesPushInRounds, MutexesRunAsTheAbstractMutex, MutexesServeInPushOrder, MutexesServeInRounds}
 use Rattle.lfm_pool_laws.specs.StateLaws.{MutexesHaveARun}
 use Rattle.lfm_pool_laws.proofs.Tables.{as_many, has_table, mutex_is}
 
-run_of : (s : State ℕ PoolView) (h : HeldPool s) (m : ℕ) → m < h.mutexes → (l : Limits) × (actions : List Action) × HasRunOf s m l actions
+run_of : (s : State ℕ PoolView) (h : HeldPosts s) (m : ℕ) → m < h.held.mutexes → (l : Limits) × (actions : List Action) × HasRunOf s m l actions
 run_of s h m less =
-    let k = h.kept m less in
-    (k.opened, k.actions, record { rule = h; inside = less; table = h.tables m; has = has_table s h m less; holds = (k, refl, refl) })
+    let k = h.held.kept m less in
+    (k.opened, k.actions, record { rule = h; inside = less; table = h.held.tables m; has = has_table s h m less; holds = (k, refl, refl) })
 
 -- what the seat at this place has recorded in the mutex, and what it knows of the run
 abbrev Recorded : ℕ → PoolView → ℕ → Limits → List Action → Type 0

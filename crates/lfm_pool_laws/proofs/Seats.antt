@@ -20,13 +20,14 @@ use Rattle.lfm_laws.proofs.lawful.read.QueueRead.{waits_read}
 use Rattle.lfm_table.specs.declared.seat_view.Action.{Action}
 use Rattle.lfm_mutex.specs.TableRuns.{state_after}
 use Rattle.lfm_pool.specs.declared.view.PoolView.{PoolView}
+use Rattle.lfm_pool.specs.Layout.{wake_at}
 use Rattle.lfm_pool.specs.SeatWords.{Sleeps}
 use Rattle.lfm_pool.specs.Tables.{has_link_at, part, rests_at}
 use Rattle.lfm_pool.proofs.Resting.{resting_wakes_are_quiet}
 use Rattle.lfm_pool.proofs.Targets.{queued_linked}
 use Rattle.lfm_pool_laws.specs.Mutexes.{HasRunOf}
 use Rattle.lfm_pool_laws.specs.SeatLaws.{RestingSeatsAreQuiet, SeatsActInOneMutex, named_seat}
-use Rattle.lfm_pool_laws.proofs.Tables.{mutex_is, steady}
+use Rattle.lfm_pool_laws.proofs.Tables.{mutex_is, not_handoff, steady}
 
 busy_at : (q : Point) → q ≢ Rest → rests_at q ≡ false
 busy_at Rest other = absurd (other refl)
@@ -56,13 +57,13 @@ not_queued s m l actions r j v at rest waits =
 
 pub seats_act_in_one_mutex : SeatsActInOneMutex
 seats_act_in_one_mutex s h m n j v less less' at = (
-  (λ differ busy. resting (part v n).state.point (h.elsewhere m n j v less less' differ at (busy_at (part v m).state.point busy))),
+  (λ differ busy. resting (part v n).state.point (h.held.elsewhere m n j v less less' differ at (busy_at (part v m).state.point busy))),
   (λ differ l actions r waits.
-      resting (part v n).state.point (h.elsewhere m n j v less less' differ at (busy_at (part v m).state.point (λ rest. not_queued s m l actions r j v at rest waits)))),
+      resting (part v n).state.point (h.held.elsewhere m n j v less less' differ at (busy_at (part v m).state.point (λ rest. not_queued s m l actions r j v at rest waits)))),
   (λ here there. elim (cases_eq m n) [
     | inl same ↦ same
     | inr differ ↦
-        absurd (false≢true (sym (asleep (part v n).state there) ∙ h.elsewhere m n j v less less' differ at (asleep (part v m).state here)))
+        absurd (false≢true (sym (asleep (part v n).state there) ∙ h.held.elsewhere m n j v less less' differ at (asleep (part v m).state here)))
   ]),
 )
 
@@ -103,8 +104,8 @@ module _ (s : State ℕ PoolView) (m : ℕ) (l : Limits) (actions : List Action)
 
 pub resting_seats_are_quiet : RestingSeatsAreQuiet
 resting_seats_are_quiet s h j v at all = (
-  h.quiet j v at (λ m less. ap rests_at (all m less)),
+  h.same (wake_at h.held.mutexes j) (not_handoff h.held.mutexes j) ∙ h.held.quiet j v at (λ m less. ap rests_at (all m less)),
   (λ m l actions r.
-      let less : m < h.mutexes = let w = h.wide j v at in let w' = r.rule.wide j v at in omega (arith, w, w', r.inside) in
+      let less : m < h.held.mutexes = let w = h.held.wide j v at in let w' = r.rule.held.wide j v at in omega (arith, w, w', r.inside) in
       (not_queued s m l actions r j v at (all m less), λ flat. unnamed s m l actions r j v at (all m less) flat)),
 )

@@ -51,10 +51,10 @@ mutexes_are_steady s m l actions r =
 
 pub mutexes_have_one_owner : MutexesHaveOneOwner
 mutexes_have_one_owner s h m i j v w less at at' deep deep' =
-    let k = h.kept m less in
+    let k = h.held.kept m less in
     let is : Steady k.core = record { ghost_state = k.ghost_state; fits = k.fits } in
-    let first = ap (λ (x : SeatState). x.depth) (sym (k.each i (part v m) (h.parts m i v less at)).state) in
-    let second = ap (λ (x : SeatState). x.depth) (sym (k.each j (part w m) (h.parts m j w less at')).state) in
+    let first = ap (λ (x : SeatState). x.depth) (sym (k.each i (part v m) (h.held.parts m i v less at)).state) in
+    let second = ap (λ (x : SeatState). x.depth) (sym (k.each j (part w m) (h.held.parts m j w less at')).state) in
     let same = one_seat_owns k.core (i + 1) (j + 1) is (subst (λ (n : ℕ). 0 < n) first deep) (subst (λ (n : ℕ). 0 < n) second deep') in
     omega (arith, same)
 

@@ -21,7 +21,7 @@ use Rattle.lfm_pool.specs.declared.view.Note.{Note}
 use Rattle.lfm_pool.specs.declared.view.PoolView.{PoolView}
 use Rattle.lfm_pool.specs.Chain.{HasRecord}
 use Rattle.lfm_pool.specs.Layout.{link_at, own_at, wake_at}
-use Rattle.lfm_pool.specs.Rule.{HeldPool}
+use Rattle.lfm_pool.specs.Posts.{HeldPosts}
 use Rattle.lfm_pool.specs.Steps.{IsStepOf, RestsElsewhere}
 use Rattle.lfm_pool.specs.Tables.{has_link, known, part, rests, unnoted, with_part}
 use Rattle.lfm_pool.proofs.Links.{linked_busy}
@@ -31,6 +31,7 @@ use Rattle.lfm_pool.proofs.WordIndexes.{IsOfSeat}
 use Rattle.lfm_pool_laws.specs.Mutexes.{HasRunOf}
 use Rattle.lfm_pool_laws.specs.StepLaws.{CarriersWriteInOneMutex, DifferIn, IsCarriersWord, IsSame, StepsAreInOneMutex}
 use Rattle.lfm_pool_laws.proofs.RunsKept.{AgreeOn, run_kept, same_mutexes, same_seats}
+use Rattle.lfm_pool_laws.proofs.Tables.{inner}
 use Rattle.lfm_pool_laws.proofs.Targets.{is_busy}
 
 -- What a seat knows of a mutex, after what it knows of mutex m has become w and k
@@ -47,8 +48,8 @@ module _ (m : ℕ) (w : View ⊤) (k : Note) (v u : PoolView) (differ : DifferIn
 
 -- The seat at place id, whose view was v, has written x into the word at this index, and has the view u then. Mutex i is
 -- another one: the word is none of its words, and the seat whose word it is rests in this mutex.
-module _ (s : State ℕ PoolView) (h : HeldPool s) (id m : ℕ) (v u : PoolView) (index x : ℕ) (w : View ⊤) (k : Note) (differ : DifferIn m w k v u) (at : get_elem? s.views id ≡ some v) (i : ℕ) (inside : i < h.mutexes) (other : i ≢ m)
-    (own_differs : (n : ℕ) → n < 8 → own_at i n ≢ index) (away : (j : ℕ) (y : PoolView) → get_elem? s.views j ≡ some y → IsOfSeat h.mutexes index j → rests (part y i) ≡ true) where
+module _ (s : State ℕ PoolView) (h : HeldPosts s) (id m : ℕ) (v u : PoolView) (index x : ℕ) (w : View ⊤) (k : Note) (differ : DifferIn m w k v u) (at : get_elem? s.views id ≡ some v) (i : ℕ) (inside : i < h.held.mutexes) (other : i ≢ m)
+    (own_differs : (n : ℕ) → n < 8 → own_at i n ≢ index) (away : (j : ℕ) (y : PoolView) → get_elem? s.views j ≡ some y → IsOfSeat h.held.mutexes index j → rests (part y i) ≡ true) where
   abbrev t : State ℕ PoolView
   t = stepped s index x id [] u keeps
 
@@ -66,13 +67,13 @@ module _ (s : State ℕ PoolView) (h : HeldPool s) (id m : ℕ) (v u : PoolView)
     | inr apart ↦ (y, set_else s.views id j u apart ∙ e, refl)
   ]
 
-  links_same : (j : ℕ) (y : PoolView) → get_elem? s.views j ≡ some y → rests (part y i) ≡ false → slice_index t.words (link_at h.mutexes j) ≡ slice_index s.words (link_at h.mutexes j)
+  links_same : (j : ℕ) (y : PoolView) → get_elem? s.views j ≡ some y → rests (part y i) ≡ false → slice_index t.words (link_at h.held.mutexes j) ≡ slice_index s.words (link_at h.held.mutexes j)
   links_same j y e busy =
-      get_or-set_other s.words index (link_at h.mutexes j) x 0 (λ hit. false≢true (sym busy ∙ away j y e (inl hit)))
+      get_or-set_other s.words index (link_at h.held.mutexes j) x 0 (λ hit. false≢true (sym busy ∙ away j y e (inl hit)))
 
-  wakes_same : (j : ℕ) (y : PoolView) → get_elem? s.views j ≡ some y → rests (part y i) ≡ false → slice_index t.words (wake_at h.mutexes j) ≡ slice_index s.words (wake_at h.mutexes j)
+  wakes_same : (j : ℕ) (y : PoolView) → get_elem? s.views j ≡ some y → rests (part y i) ≡ false → slice_index t.words (wake_at h.held.mutexes j) ≡ slice_index s.words (wake_at h.held.mutexes j)
   wakes_same j y e busy =
-      get_or-set_other s.words index (wake_at h.mutexes j) x 0 (λ hit. false≢true (sym busy ∙ away j y e (inr hit)))
+      get_or-set_other s.words index (wake_at h.held.mutexes j) x 0 (λ hit. false≢true (sym busy ∙ away j y e (inr hit)))
 
   -- a seat after the step, as it was before
   knew : (j : ℕ) (z : PoolView) → get_elem? t.views j ≡ some z → (y : PoolView) × (get_elem? s.views j ≡ some y) × (known z i ≡ known y i)
@@ -89,7 +90,7 @@ module _ (s : State ℕ PoolView) (h : HeldPool s) (id m : ℕ) (v u : PoolView)
   own_now : get_elem? t.views id ≡ some u
   own_now = set_here s.views id u (length_at s.views id v at)
 
-  agree : AgreeOn s t h.mutexes i
+  agree : AgreeOn s t h.held.mutexes i
   agree = record {
     counted = counted_same;
     knew = λ j z e. let y = knew j z e in (y.0, y.1, ap (λ (q : Known). q.view) y.2);
@@ -97,21 +98,21 @@ module _ (s : State ℕ PoolView) (h : HeldPool s) (id m : ℕ) (v u : PoolView)
     wakes = wakes_same;
   }
 
-  run_same : (l : Limits) (actions : List Action) → HasRunOf s i l actions → HeldPool t → HasRunOf t i l actions
+  run_same : (l : Limits) (actions : List Action) → HasRunOf s i l actions → HeldPosts t → HasRunOf t i l actions
   run_same l actions r g =
       let wide = as_wide m w k v u differ in
       let long = length-set s.words index x in
-      let known_mutexes : h.mutexes ≡ r.rule.mutexes = let one = r.rule.wide id v at in let two = h.wide id v at in omega (arith, one, two) in
+      let known_mutexes : h.held.mutexes ≡ r.rule.held.mutexes = let one = r.rule.held.wide id v at in let two = h.held.wide id v at in omega (arith, one, two) in
       run_kept s t i l actions r g (same_mutexes s t r.rule g id v u at own_now wide long) (same_seats s t r.rule g id v u at own_now wide long)
       (subst (λ (n : ℕ). AgreeOn s t n i) known_mutexes agree)
 
-  pub is_same : IsSame s t h.mutexes i
+  pub is_same : IsSame s t h.held.mutexes i
   is_same = record { words = words_same; counted = counted_same; knows = knows_same; links = links_same; wakes = wakes_same; runs = run_same }
 
 -- A step
 
-module _ (s : State ℕ PoolView) (h : HeldPool s) (id m : ℕ) (v : PoolView) (p : SeatState) (a : PoolAccess) (less : m < h.mutexes) (at : get_elem? s.views id ≡ some v)
-    (elsewhere : RestsElsewhere v m) (became : Became (part v m).state (part v m).limits p) (is : IsStepOf h.mutexes h.seats m (id + 1) p a) (i : ℕ) (inside : i < h.mutexes) (other : i ≢ m) where
+module _ (s : State ℕ PoolView) (h : HeldPosts s) (id m : ℕ) (v : PoolView) (p : SeatState) (a : PoolAccess) (less : m < h.held.mutexes) (at : get_elem? s.views id ≡ some v)
+    (elsewhere : RestsElsewhere v m) (became : Became (part v m).state (part v m).limits p) (is : IsStepOf h.held.mutexes h.held.seats m (id + 1) p a) (i : ℕ) (inside : i < h.held.mutexes) (other : i ≢ m) where
   -- the step does not access a word of the other mutex
   step_differs : (n : ℕ) → n < 8 → own_at i n ≢ a.index
   step_differs n few e = elim is.1 [
@@ -120,14 +121,14 @@ module _ (s : State ℕ PoolView) (h : HeldPool s) (id m : ℕ) (v : PoolView) (
   ]
 
   -- the seat whose word the step accesses rests in the other mutex
-  target_rests : (j : ℕ) (y : PoolView) → get_elem? s.views j ≡ some y → IsOfSeat h.mutexes a.index j → rests (part y i) ≡ true
-  target_rests j y e hit = elim (is_busy s h id m v p a less at became is j hit) [
+  target_rests : (j : ℕ) (y : PoolView) → get_elem? s.views j ≡ some y → IsOfSeat h.held.mutexes a.index j → rests (part y i) ≡ true
+  target_rests j y e hit = elim (is_busy (inner s h) h.held id m v p a less at became is j hit) [
     | inl same ↦
         let one : v ≡ y = some-injective v y (sym at ∙ ap (λ (n : ℕ). get_elem? s.views n) (sym same) ∙ e) in
-        ap (λ (q : PoolView). rests (part q i)) (sym one) ∙ elsewhere i (let l = h.wide id v at in omega (arith, l, inside)) other
+        ap (λ (q : PoolView). rests (part q i)) (sym one) ∙ elsewhere i (let l = h.held.wide id v at in omega (arith, l, inside)) other
     | inr busy ↦
         let one : busy.0 ≡ y = some-injective busy.0 y (sym busy.1 ∙ e) in
-        h.elsewhere m i j y less inside (λ same. other (sym same)) e (ap (λ (q : PoolView). rests (part q m)) (sym one) ∙ busy.2)
+        h.held.elsewhere m i j y less inside (λ same. other (sym same)) e (ap (λ (q : PoolView). rests (part q m)) (sym one) ∙ busy.2)
   ]
 
 pub steps_are_in_one_mutex : StepsAreInOneMutex
@@ -137,8 +138,8 @@ steps_are_in_one_mutex s h id m v u p a x w k less at elsewhere became is differ
 
 -- A write of the seat that carries a mutex, or holds it
 
-module _ (s : State ℕ PoolView) (h : HeldPool s) (id m : ℕ) (v : PoolView) (index : ℕ) (less : m < h.mutexes) (at : get_elem? s.views id ≡ some v) (is : IsCarriersWord h.mutexes m v index)
-    (i : ℕ) (inside : i < h.mutexes) (other : i ≢ m) where
+module _ (s : State ℕ PoolView) (h : HeldPosts s) (id m : ℕ) (v : PoolView) (index : ℕ) (less : m < h.held.mutexes) (at : get_elem? s.views id ≡ some v) (is : IsCarriersWord h.held.mutexes m v index)
+    (i : ℕ) (inside : i < h.held.mutexes) (other : i ≢ m) where
   write_differs : (n : ℕ) → n < 8 → own_at i n ≢ index
   write_differs n few e = elim is.1 [
     | inl own ↦ other (omega (arith, own, e, few))
@@ -146,18 +147,18 @@ module _ (s : State ℕ PoolView) (h : HeldPool s) (id m : ℕ) (v : PoolView) (
   ]
 
   -- it knows the popped records
-  knows_popped : (part v m).popped ≡ h.popped m
-  knows_popped = ((h.kept m less).outside id (part v m) (h.parts m id v less at) is.0).popped ∙ h.listed m less
+  knows_popped : (part v m).popped ≡ h.held.popped m
+  knows_popped = ((h.held.kept m less).outside id (part v m) (h.held.parts m id v less at) is.0).popped ∙ h.held.listed m less
 
   -- the seat of a popped record does not rest in the mutex, and so it rests in the other one
   popped_rests : (j : ℕ) → HasRecord (j + 1) (part v m).popped → (y : PoolView) → get_elem? s.views j ≡ some y → rests (part y i) ≡ true
   popped_rests j has y e =
-      let z = popped_view s h m less (j + 1) (subst (λ (l : List Record). HasRecord (j + 1) l) knows_popped has) in
+      let z = popped_view (inner s h) h.held m less (j + 1) (subst (λ (l : List Record). HasRecord (j + 1) l) knows_popped has) in
       let place : z.0 ≡ j = omega (arith, z.1) in
       let one : z.2.0 ≡ y = some-injective z.2.0 y (sym z.2.1 ∙ ap (λ (n : ℕ). get_elem? s.views n) place ∙ e) in
-      h.elsewhere m i j y less inside (λ same. other (sym same)) e (linked_busy (part y m).state.point (ap (λ (q : PoolView). has_link (part q m)) (sym one) ∙ z.2.2))
+      h.held.elsewhere m i j y less inside (λ same. other (sym same)) e (linked_busy (part y m).state.point (ap (λ (q : PoolView). has_link (part q m)) (sym one) ∙ z.2.2))
 
-  written_rests : (j : ℕ) (y : PoolView) → get_elem? s.views j ≡ some y → IsOfSeat h.mutexes index j → rests (part y i) ≡ true
+  written_rests : (j : ℕ) (y : PoolView) → get_elem? s.views j ≡ some y → IsOfSeat h.held.mutexes index j → rests (part y i) ≡ true
   written_rests j y e hit = elim is.1 [
     | inl own ↦ elim hit [ inl link ↦ absurd (omega (arith, own, link, less)) | inr wake ↦ absurd (omega (arith, own, wake, less)) ]
     | inr seat ↦ elim hit [
@@ -170,7 +171,7 @@ module _ (s : State ℕ PoolView) (h : HeldPool s) (id m : ℕ) (v : PoolView) (
 
 -- The write is no step of the mutex
 
-module _ (s : State ℕ PoolView) (h : HeldPool s) (id m : ℕ) (v u : PoolView) (index x : ℕ) (k : Note) (less : m < h.mutexes) (at : get_elem? s.views id ≡ some v) (is : IsCarriersWord h.mutexes m v index)
+module _ (s : State ℕ PoolView) (h : HeldPosts s) (id m : ℕ) (v u : PoolView) (index x : ℕ) (k : Note) (less : m < h.held.mutexes) (at : get_elem? s.views id ≡ some v) (is : IsCarriersWord h.held.mutexes m v index)
     (differ : DifferIn m (part v m) k v u) where
   abbrev after : State ℕ PoolView
   after = stepped s index x id [] u keeps
@@ -179,7 +180,7 @@ module _ (s : State ℕ PoolView) (h : HeldPool s) (id m : ℕ) (v u : PoolView)
   now = set_here s.views id u (length_at s.views id v at)
 
   part_now : part u m ≡ part v m
-  part_now = ap (λ (q : Known). q.view) (as_known m (part v m) k v u differ m) ∙ part_same v m (part v m) k (let w = h.wide id v at in omega (arith, w, less))
+  part_now = ap (λ (q : Known). q.view) (as_known m (part v m) k v u differ m) ∙ part_same v m (part v m) k (let w = h.held.wide id v at in omega (arith, w, less))
 
   was : (j : ℕ) (z : PoolView) → get_elem? after.views j ≡ some z → (y : PoolView) × (get_elem? s.views j ≡ some y) × (part z m ≡ part y m)
   was j z e = elim (cases_eq j id) [
@@ -192,22 +193,22 @@ module _ (s : State ℕ PoolView) (h : HeldPool s) (id m : ℕ) (v u : PoolView)
   own_word : (n : ℕ) → n < 4 → own_at m n ≢ index
   own_word n few e = elim is.1 [ inl own ↦ omega (arith, own, e, few) | inr link ↦ omega (arith, link.1, e, few, less) ]
 
-  wake_word : (j : ℕ) → wake_at h.mutexes j ≢ index
+  wake_word : (j : ℕ) → wake_at h.held.mutexes j ≢ index
   wake_word j e = elim is.1 [ inl own ↦ omega (arith, own, e, less) | inr link ↦ omega (arith, link.1, e) ]
 
-  agrees : AgreeOn s after h.mutexes m
+  agrees : AgreeOn s after h.held.mutexes m
   agrees = record {
     counted = length-set s.views id u;
     knew = was;
     words = λ n few. get_or-set_other s.words index (own_at m n) x 0 (own_word n few);
-    wakes = λ j y e busy. get_or-set_other s.words index (wake_at h.mutexes j) x 0 (wake_word j);
+    wakes = λ j y e busy. get_or-set_other s.words index (wake_at h.held.mutexes j) x 0 (wake_word j);
   }
 
-  no_step : (l : Limits) (actions : List Action) → HasRunOf s m l actions → HeldPool after → HasRunOf after m l actions
+  no_step : (l : Limits) (actions : List Action) → HasRunOf s m l actions → HeldPosts after → HasRunOf after m l actions
   no_step l actions r g =
       let wide = as_wide m (part v m) k v u differ in
       let long = length-set s.words index x in
-      let known_mutexes : h.mutexes ≡ r.rule.mutexes = let one = r.rule.wide id v at in let two = h.wide id v at in omega (arith, one, two) in
+      let known_mutexes : h.held.mutexes ≡ r.rule.held.mutexes = let one = r.rule.held.wide id v at in let two = h.held.wide id v at in omega (arith, one, two) in
       run_kept s after m l actions r g (same_mutexes s after r.rule g id v u at now wide long) (same_seats s after r.rule g id v u at now wide long)
       (subst (λ (n : ℕ). AgreeOn s after n m) known_mutexes agrees)
 

@@ -14,7 +14,7 @@ use Rattle.lfm_table.specs.declared.seat_view.Action.{Action}
 use Rattle.lfm_mutex.specs.TableRuns.{state_after}
 use Rattle.lfm_pool.specs.declared.view.PoolView.{PoolView}
 use Rattle.lfm_pool.specs.Layout.{wake_at}
-use Rattle.lfm_pool.specs.Rule.{HeldPool}
+use Rattle.lfm_pool.specs.Posts.{HeldPosts}
 use Rattle.lfm_pool.specs.SeatWords.{Sleeps}
 use Rattle.lfm_pool.specs.Tables.{part}
 use Rattle.lfm_pool_laws.specs.Mutexes.{HasRunOf}
@@ -23,7 +23,7 @@ use Rattle.lfm_pool_laws.specs.Mutexes.{HasRunOf}
 -- one, and is in the queue of at most one.
 abbrev pub SeatsActInOneMutex : Type 0
 SeatsActInOneMutex =
-    (s : State ℕ PoolView) (h : HeldPool s) (m n j : ℕ) (v : PoolView) → m < h.mutexes → n < h.mutexes → get_elem? s.views j ≡ some v
+    (s : State ℕ PoolView) (h : HeldPosts s) (m n j : ℕ) (v : PoolView) → m < h.held.mutexes → n < h.held.mutexes → get_elem? s.views j ≡ some v
     → (m ≢ n → (part v m).state.point ≢ Rest → (part v n).state.point ≡ Rest)
     × (m ≢ n → (l : Limits) (actions : List Action) → HasRunOf s m l actions → IsQueued (state_after l actions) (j + 1) → (part v n).state.point ≡ Rest)
     × (Sleeps (part v m).state → Sleeps (part v n).state → m ≡ n)
@@ -44,8 +44,8 @@ named_seat (carried s how) = s
 -- mutex that the seat does not hold is not with this seat: no claim names it.
 abbrev pub RestingSeatsAreQuiet : Type 0
 RestingSeatsAreQuiet =
-    (s : State ℕ PoolView) (h : HeldPool s) (j : ℕ) (v : PoolView) → get_elem? s.views j ≡ some v → RestsInAll h.mutexes v
-    → (slice_index s.words (wake_at h.mutexes j) ≡ wake_word Quiet)
+    (s : State ℕ PoolView) (h : HeldPosts s) (j : ℕ) (v : PoolView) → get_elem? s.views j ≡ some v → RestsInAll h.held.mutexes v
+    → (slice_index s.words (wake_at h.held.mutexes j) ≡ wake_word Quiet)
     × ((m : ℕ) (l : Limits) (actions : List Action) → HasRunOf s m l actions
     → (IsQueued (state_after l actions) (j + 1) → ⊥)
     × ((part v m).state.depth ≡ 0 → (q : AbstractPlace) → Claims (state_after l actions) q → named_seat q ≢ j + 1))

@@ -22,7 +22,7 @@ use Rattle.lfm_table.specs.Actions.{KnowsRun, part_of}
 use Rattle.lfm_mutex.specs.TableRuns.{state_after}
 use Rattle.lfm_pool.specs.declared.view.PoolView.{PoolView}
 use Rattle.lfm_pool.specs.Layout.{own_at}
-use Rattle.lfm_pool.specs.Rule.{HeldPool}
+use Rattle.lfm_pool.specs.Posts.{HeldPosts}
 use Rattle.lfm_pool.specs.Tables.{part}
 use Rattle.lfm_pool_laws.specs.Mutexes.{HasRunOf, MutexIs}
 
@@ -31,9 +31,9 @@ use Rattle.lfm_pool_laws.specs.Mutexes.{HasRunOf, MutexIs}
 -- seat knows the run up to its own last step in the mutex.
 abbrev pub MutexesHaveARun : Type 0
 MutexesHaveARun =
-    ((s : State ℕ PoolView) (h : HeldPool s) (m : ℕ) → m < h.mutexes → (l : Limits) × (actions : List Action) × HasRunOf s m l actions)
+    ((s : State ℕ PoolView) (h : HeldPosts s) (m : ℕ) → m < h.held.mutexes → (l : Limits) × (actions : List Action) × HasRunOf s m l actions)
     × ((s : State ℕ PoolView) (m : ℕ) (l : Limits) (actions : List Action) (r : HasRunOf s m l actions)
-    → (l.seats ≡ r.rule.seats) × MutexIs s r.rule.mutexes m (state_after l actions)
+    → (l.seats ≡ r.rule.held.seats) × MutexIs s r.rule.held.mutexes m (state_after l actions)
     × ((j : ℕ) (v : PoolView) → get_elem? s.views j ≡ some v
     → ((part v m).trail ≡ part_of (start l) (j + 1) actions) × KnowsRun l actions (j + 1) (part v m).actions (part v m).trail))
 
@@ -47,7 +47,7 @@ MutexesAreSteady =
 -- no two seats of a pool own one mutex
 abbrev pub MutexesHaveOneOwner : Type 0
 MutexesHaveOneOwner =
-    (s : State ℕ PoolView) (h : HeldPool s) (m i j : ℕ) (v w : PoolView) → m < h.mutexes → get_elem? s.views i ≡ some v → get_elem? s.views j ≡ some w
+    (s : State ℕ PoolView) (h : HeldPosts s) (m i j : ℕ) (v w : PoolView) → m < h.held.mutexes → get_elem? s.views i ≡ some v → get_elem? s.views j ≡ some w
     → 0 < (part v m).state.depth → 0 < (part w m).state.depth → i ≡ j
 
 -- if the count of a mutex is above 0, exactly one owner, grant, posted handoff or call of that mutex has the responsibility

@@ -14,7 +14,7 @@ use Rattle.lfm_pool.specs.declared.view.Note.{Note}
 use Rattle.lfm_pool.specs.declared.view.PoolView.{PoolView}
 use Rattle.lfm_pool.specs.Chain.{HasRecord}
 use Rattle.lfm_pool.specs.Layout.{link_at, own_at, wake_at}
-use Rattle.lfm_pool.specs.Rule.{HeldPool}
+use Rattle.lfm_pool.specs.Posts.{HeldPosts}
 use Rattle.lfm_pool.specs.Steps.{IsStepOf, RestsElsewhere}
 use Rattle.lfm_pool.specs.Tables.{known, part, rests, with_part}
 use Rattle.lfm_pool_laws.specs.Mutexes.{HasRunOf}
@@ -32,20 +32,21 @@ pub record IsSame (s t : State ℕ PoolView) (mutexes m : ℕ) : Type 0 where
       → slice_index t.words (link_at mutexes j) ≡ slice_index s.words (link_at mutexes j)
   pub wakes : (j : ℕ) (v : PoolView) → get_elem? s.views j ≡ some v → rests (part v m) ≡ false
       → slice_index t.words (wake_at mutexes j) ≡ slice_index s.words (wake_at mutexes j)
-  pub runs : (l : Limits) (actions : List Action) → HasRunOf s m l actions → HeldPool t → HasRunOf t m l actions
+  pub runs : (l : Limits) (actions : List Action) → HasRunOf s m l actions → HeldPosts t → HasRunOf t m l actions
 
 -- the views v and u of a seat differ only in what it knows of mutex m: by u, that is the view w and the note k
 abbrev pub DifferIn : ℕ → View ⊤ → Note → PoolView → PoolView → Type 0
 DifferIn m w k v u = u.parts ≡ (with_part v m w k).parts
 
 -- The seat at place id, whose view is v and whose data in mutex m have become p by starts of calls, makes its step in this
--- mutex. Whatever number x the step writes into the word that it accesses, and whatever the seat knows of this mutex after
--- it: each other mutex is the same after the step.
+-- mutex. Whatever number x the step writes into the word that it accesses, and whatever the seat knows of this mutex and of
+-- its posts after it: each other mutex is the same after the step. The access is as at the table of the mutex. For the
+-- handoff word x may be another number than the one that goes into the word of the table.
 abbrev pub StepsAreInOneMutex : Type 0
 StepsAreInOneMutex =
-    (s : State ℕ PoolView) (h : HeldPool s) (id m : ℕ) (v u : PoolView) (p : SeatState) (a : PoolAccess) (x : ℕ) (w : View ⊤) (k : Note)
-    → m < h.mutexes → get_elem? s.views id ≡ some v → RestsElsewhere v m → Became (part v m).state (part v m).limits p → IsStepOf h.mutexes h.seats m (id + 1) p a
-    → DifferIn m w k v u → (i : ℕ) → i < h.mutexes → i ≢ m → IsSame s (stepped s a.index x id [] u keeps) h.mutexes i
+    (s : State ℕ PoolView) (h : HeldPosts s) (id m : ℕ) (v u : PoolView) (p : SeatState) (a : PoolAccess) (x : ℕ) (w : View ⊤) (k : Note)
+    → m < h.held.mutexes → get_elem? s.views id ≡ some v → RestsElsewhere v m → Became (part v m).state (part v m).limits p → IsStepOf h.held.mutexes h.held.seats m (id + 1) p a
+    → DifferIn m w k v u → (i : ℕ) → i < h.held.mutexes → i ≢ m → IsSame s (stepped s a.index x id [] u keeps) h.held.mutexes i
 
 -- The seat with this view carries mutex m, or holds it, and the word at this index is one that no other seat touches then:
 -- the carried word of the mutex, or the link word of the seat of a popped record.
@@ -58,7 +59,7 @@ IsCarriersWord mutexes m v index =
 -- each run of the mutex before it is one after it, if the pool keeps its rule. And each other mutex is the same after it.
 abbrev pub CarriersWriteInOneMutex : Type 0
 CarriersWriteInOneMutex =
-    (s : State ℕ PoolView) (h : HeldPool s) (id m : ℕ) (v u : PoolView) (index x : ℕ) (k : Note)
-    → m < h.mutexes → get_elem? s.views id ≡ some v → IsCarriersWord h.mutexes m v index → DifferIn m (part v m) k v u
-    → ((i : ℕ) → i < h.mutexes → i ≢ m → IsSame s (stepped s index x id [] u keeps) h.mutexes i)
-    × ((l : Limits) (actions : List Action) → HasRunOf s m l actions → HeldPool (stepped s index x id [] u keeps) → HasRunOf (stepped s index x id [] u keeps) m l actions)
+    (s : State ℕ PoolView) (h : HeldPosts s) (id m : ℕ) (v u : PoolView) (index x : ℕ) (k : Note)
+    → m < h.held.mutexes → get_elem? s.views id ≡ some v → IsCarriersWord h.held.mutexes m v index → DifferIn m (part v m) k v u
+    → ((i : ℕ) → i < h.held.mutexes → i ≢ m → IsSame s (stepped s index x id [] u keeps) h.held.mutexes i)
+    × ((l : Limits) (actions : List Action) → HasRunOf s m l actions → HeldPosts (stepped s index x id [] u keeps) → HasRunOf (stepped s index x id [] u keeps) m l actions)

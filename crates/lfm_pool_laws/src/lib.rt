@@ -1,10 +1,14 @@
 //! The laws of a pool of mutexes. Each function here does nothing: its contract is the law, and its comment names the
 //! definition of the law and the file that proves it.
 //!
-//! The laws follow from the rule that the table of a pool keeps at every moment, whatever threads step on it: `HeldPool` in
-//! `specs/Rule.antt` of `lfm_pool`. By that rule each mutex has a table of its own, which keeps the rule of a running mutex.
-//! So what `lfm_mutex` states of such a table and of its run holds of each mutex of a pool. Other laws are of pools alone:
-//! what a seat may do in several mutexes, and that a step in one mutex is a step in no other.
+//! The laws follow from the rule that the table of a pool keeps at every moment, whatever threads step on it: `HeldPosts` in
+//! `specs/Posts.antt` of `lfm_pool`. By that rule each mutex has a table of its own, which keeps the rule of a running
+//! mutex. So what `lfm_mutex` states of such a table and of its run holds of each mutex of a pool. Other laws are of pools
+//! alone: what a seat may do in several mutexes, and that a step in one mutex is a step in no other.
+//!
+//! The words of these laws are those that the pool has in memory. A handoff word is posted exactly while that of its mutex's
+//! table is. The two words have different numbers for a post: a seat numbers the posts that it makes in all mutexes by one
+//! counter.
 #![tactic(auto)]
 
 pub mod run_laws;

@@ -1,5 +1,5 @@
 -- How waits and wakes end, by cases on the answer.
-use Rattle.std.proofs.Common.{◌≡◌, ◌⊎◌, ℕ, [], ◌∷◌, ◌++◌, List, Option, Some, Result, Ok, sym, ◌∙◌, ap, subst}
+use Rattle.std.proofs.Common.{◌≡◌, ◌⊎◌, ℕ, ◌+◌, ◌≤◌, [], ◌∷◌, ◌++◌, List, Option, Some, Result, Ok, sym, ◌∙◌, ap, subst}
 use Rattle.lfm_model.specs.declared.refusals.Refusal.{Refusal}
 use Rattle.lfm_protocol.specs.declared.limits.Limits.{Limits}
 use Rattle.lfm_mutex.specs.declared.seat.Seat.{Seat}
@@ -16,9 +16,9 @@ use Rattle.lfm_plain_condvar.specs.Wakes.{WakeLaterEnds, WakeOneEnds}
 
 -- the seat was added to the list, gave the user mutex up, slept and came back
 pub for_ends : {T : Type 0} (follows : ℕ → T → T → Type 0) (fits : T → ℕ → Type 0) (user own : Limits) (tries user_tries ticket : ℕ) (c e d : Sight Waiters) (s t : Sight T) (r : Waited) → Listed own tries c e ticket → SleepEnds own tries e d ticket r
-    → GivesUpAndComesBack follows fits user user_tries s t → WaitForEnds follows fits user own tries user_tries c d s t (Ok r)
-for_ends follows fits user own tries user_tries ticket c e d s t (Woken k) l h g = (e, subst (λ (i : ℕ). Listed own tries c e i) (sym h.0) l, subst (λ (i : ℕ). d ≡ e ⊎ NoLonger own tries e d i) (sym h.0) h.1, g)
-for_ends follows fits user own tries user_tries ticket c e d s t (TimedOut k) l h g = (e, subst (λ (i : ℕ). Listed own tries c e i) (sym h.0) l, subst (λ (i : ℕ). LeftList own tries e d i) (sym h.0) h.1, g)
+    → GivesUpAndComesBack follows fits user user_tries s t → c.takes + 2 ≤ own.budget → WaitForEnds follows fits user own tries user_tries c d s t (Ok r)
+for_ends follows fits user own tries user_tries ticket c e d s t (Woken k) l h g two = (e, subst (λ (i : ℕ). Listed own tries c e i) (sym h.0) l, subst (λ (i : ℕ). d ≡ e ⊎ NoLonger own tries e d i) (sym h.0) h.1, g, two)
+for_ends follows fits user own tries user_tries ticket c e d s t (TimedOut k) l h g two = (e, subst (λ (i : ℕ). Listed own tries c e i) (sym h.0) l, subst (λ (i : ℕ). LeftList own tries e d i) (sym h.0) h.1, g, two)
 
 -- the oldest was taken out of the list, and then notified
 pub one_ends : (own : Limits) (tries : ℕ) (c m d : PlainSeat) (q : Result (Option OwedWakeUp) Refusal) (r : OwedWakeUp) (ticket : ℕ) → q ≡ Ok (Some r) → WakeLaterEnds own tries c m q → d.seat ≡ m.seat → notified_by d ≡ notified_by m ++ r.waiter.waker.number ∷ [] → ticket ≡ r.waiter.ticket

@@ -13,6 +13,7 @@ mod open;
 pub mod parkers;
 pub mod plain_seat;
 pub mod tickets;
+mod unlocked_wait;
 mod user;
 mod wait;
 pub mod wait_for;

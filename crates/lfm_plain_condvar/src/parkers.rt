@@ -8,7 +8,9 @@
 ghost use Rattle.std.specs.Prelude.{◌≡◌, ◌+◌, ◌<◌, ◌≤◌, ℕ, [], ◌∷◌, ◌++◌, IfOk, IfSome};
 ghost use Rattle.lfm_plain_condvar.specs.Parkers.{HasEachOnce, IsWakerOf, Notifies, ParkersHold, Retires, StartsWithNone, TakesIfNotified, no_notices, times, with_those};
 
+use crate::unlocked_wait::UnlockedWait;
 use atomic_table::{Join, Play, Seat, Table, TableRule};
+use lfm_mutex::Kept;
 use lfm_mutex::deadlines::{Deadline, time_left};
 use std::alloc::{AllocError, Global};
 use std::collections::LinkedList;
@@ -92,7 +94,7 @@ impl Join<Notices> for NoticesJoined {
 /// The right to notify one parker. There is only one waker for each parker.
 #[derive(Drop)]
 pub struct Waker {
-    pub(crate) seat: Seat<(), Notices>,
+    seat: Seat<(), Notices>,
     pub(crate) number: u64,
     pub ghost its: { IsWakerOf number seat.me },
 }
@@ -101,26 +103,32 @@ pub struct Waker {
 /// table that notifies.
 #[derive(Drop)]
 pub struct NoticeLog {
-    pub(crate) seat: Seat<(), Notices>,
+    seat: Seat<(), Notices>,
     pub ghost free: { seat.me.1 ≡ [] },
 }
 
 /// The wakers of a condvar that is being closed. It takes no bytes.
 #[derive(Drop)]
 pub(crate) struct GatheredWakers {
-    pub(crate) seat: Seat<(), Notices>,
+    seat: Seat<(), Notices>,
+}
+
+/// The right to take the wakers of new parkers out of the table. Only `Parkers::new` gives it. It takes no bytes.
+#[derive(Drop)]
+pub(crate) struct FirstWakers {
+    of: NoticeLog,
 }
 
 /// Names the parkers in contracts. It takes no bytes.
 #[derive(Drop)]
 pub struct ParkersName {
-    pub(crate) root: Seat<(), Notices>,
+    root: Seat<(), Notices>,
 }
 
 /// The parkers of all seats. Word 0 is unused.
 #[derive(Drop)]
 pub struct Parkers {
-    pub(crate) table: Table<(), Notices, (), ParkerRule, Global>,
+    table: Table<(), Notices, (), ParkerRule, Global>,
     pub(crate) seats: u64,
     pub ghost words: { table.shared.table_id.words ≡ seats + 1 },
     pub ghost slots: { table.shared.table_id.slots ≡ seats + 1 },
@@ -128,15 +136,22 @@ pub struct Parkers {
 
 impl Parkers {
     /// Parkers for this number of seats. Each starts as notified, so its waker is in the table. The second value names them
-    /// in contracts. It allocates three times.
-    pub(crate) fn new(alloc: Global, seats: u64) -> Result<(Parkers, ParkersName), AllocError>
+    /// in contracts, and the third is needed to take their wakers. It allocates three times.
+    pub(crate) fn new(
+        alloc: Global,
+        seats: u64,
+    ) -> Result<(Parkers, ParkersName, FirstWakers), AllocError>
         requires { seats ≤ 4095 }
-        ensures { IfOk result (λ p. (p.0.seats ≡ seats) × (p.1.root.table_id ≡ p.0.table.shared.table_id)) }
+        ensures { IfOk result (λ p. (p.0.seats ≡ seats) × (p.1.root.table_id ≡ p.0.table.shared.table_id) × (p.2.of.seat.table_id ≡ p.0.table.shared.table_id)) }
     {
         let words = Vec::from_elem(alloc, NOTIFIED, seats as usize + 1)?;
         let wakers = Vec::from_elem(alloc, (), seats as usize + 1)?;
         match Table::new(alloc, words.as_slice(), wakers, &()) {
-            Ok((table, root)) => Ok((Parkers { table, seats }, ParkersName { root })),
+            Ok((table, root)) => {
+                let parkers = Parkers { table, seats };
+                let of = parkers.new_log();
+                Ok((parkers, ParkersName { root }, FirstWakers { of }))
+            }
             Err(_refused) => Err(AllocError),
         }
     }
@@ -166,7 +181,7 @@ impl Parkers {
     }
 
     /// The waker of a parker that was notified, whose word is then EMPTY. A parker that was not notified is only read.
-    pub(crate) fn take_if_notified(&self, number: u64) -> Option<Waker>
+    fn take_if_notified(&self, number: u64) -> Option<Waker>
         requires { number ≤ self.now.seats }
         ensures { IfSome result (λ w. (w.number ≡ number) × (w.seat.table_id ≡ self.now.table.shared.table_id)) }
     {
@@ -174,6 +189,15 @@ impl Parkers {
             return None;
         }
         self.take(number, EMPTY)
+    }
+
+    /// The waker of a new parker, if it is in the table. A caller that has no `FirstWakers` takes its waker only by `park` or
+    /// `park_until`.
+    pub(crate) fn first_waker(&self, number: u64, _first: &FirstWakers) -> Option<Waker>
+        requires { (number ≤ self.now.seats) × (_first.now.of.seat.table_id ≡ self.now.table.shared.table_id) }
+        ensures { IfSome result (λ w. (w.number ≡ number) × (w.seat.table_id ≡ self.now.table.shared.table_id)) }
+    {
+        self.take_if_notified(number)
     }
 
     /// Notifies the parker of this waker, and wakes its thread if that is parked. It makes one swap, one load, and a system
@@ -224,11 +248,13 @@ impl Parkers {
         }
     }
 
-    /// Parks until the parker is notified, and takes its waker. The thread polls at most `polls` times before it parks.
-    pub(crate) fn park<R: Wait>(&self, rt: &R, number: u64, polls: u32) -> Waker
-        requires { number ≤ self.now.seats }
-        ensures { (result.number ≡ number) × (result.seat.table_id ≡ self.now.table.shared.table_id) }
+    /// Parks until the parker of the seat that waits is notified, and takes its waker. The thread polls at most `polls` times
+    /// before it parks.
+    pub(crate) fn park<T: Kept, R: Wait>(&self, rt: &R, wait: &UnlockedWait<T>, polls: u32) -> Waker
+        requires { wait.now.listed.number ≤ self.now.seats }
+        ensures { (result.number ≡ wait.now.listed.number) × (result.seat.table_id ≡ self.now.table.shared.table_id) }
     {
+        let number = wait.number();
         if let Some(waker) = self.poll_and_announce(number, polls) {
             return waker;
         }
@@ -243,16 +269,17 @@ impl Parkers {
 
     /// `park` until the deadline. Returns None if the parker was not notified by then. If the system ends the sleep for no
     /// reason, the thread parks again for the time that is left.
-    pub(crate) fn park_until<R: Wait + Clock>(
+    pub(crate) fn park_until<T: Kept, R: Wait + Clock>(
         &self,
         rt: &R,
-        number: u64,
+        wait: &UnlockedWait<T>,
         polls: u32,
         deadline: Deadline,
     ) -> Option<Waker>
-        requires { number ≤ self.now.seats }
-        ensures { IfSome result (λ w. (w.number ≡ number) × (w.seat.table_id ≡ self.now.table.shared.table_id)) }
+        requires { wait.now.listed.number ≤ self.now.seats }
+        ensures { IfSome result (λ w. (w.number ≡ wait.now.listed.number) × (w.seat.table_id ≡ self.now.table.shared.table_id)) }
     {
+        let number = wait.number();
         if let Some(waker) = self.poll_and_announce(number, polls) {
             return Some(waker);
         }
@@ -303,10 +330,10 @@ impl Parkers {
         let _found = self.table.shared.load::<EachWakerOnce>(&mut all.seat, 0);
     }
 
-    /// Sets the word of the parker to EMPTY, for a seat that has its waker already.
-    pub(crate) fn clear(&self, number: u64)
-        requires { number ≤ self.now.seats }
+    /// Sets the word of this waker's parker to EMPTY. Its waker isn't in the table, so none is taken.
+    pub(crate) fn clear(&self, waker: &Waker)
+        requires { waker.now.number ≤ self.now.seats }
     {
-        let _none = self.take(number, EMPTY);
+        let _none = self.take(waker.number, EMPTY);
     }
 }

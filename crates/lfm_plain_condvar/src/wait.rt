@@ -9,9 +9,10 @@ ghost use Rattle.lfm_plain_condvar.specs.Belongs.{NotifiesNobody, OfPlain, Waits
 ghost use Rattle.lfm_plain_condvar.specs.Waits.{Enlists, WaitEnds};
 
 use crate::condvar::PlainCondvar;
+use crate::hold::ListedWait;
 use crate::plain_seat::PlainSeat;
+use crate::unlocked_wait::UnlockedWait;
 use crate::user::{bars_wait, come_back, give_up};
-use crate::waiters::Enlisted;
 use lfm_model::Refusal;
 use lfm_mutex::{Kept, Mutex, Pace, Seat};
 use std::mem::replace;
@@ -34,7 +35,7 @@ impl PlainCondvar {
         rt: &R,
         cond: &mut PlainSeat,
         holder: &Seat<T>,
-    ) -> Result<Enlisted, Refusal>
+    ) -> Result<ListedWait<T>, Refusal>
         requires belongs { OfPlain cond.old self.now }
         requires holder { (sight holder.now).depth ≡ 1 }
         requires spare { (sight cond.old.seat).takes < (limits_of self.now.inner).budget }
@@ -56,13 +57,19 @@ impl PlainCondvar {
     }
 
     /// Sleeps until the seat is notified, and takes its waker back.
-    pub(crate) fn sleep<R: Wait>(&self, rt: &R, cond: &mut PlainSeat, polls: u32)
+    pub(crate) fn sleep<T: Kept, R: Wait>(
+        &self,
+        rt: &R,
+        cond: &mut PlainSeat,
+        wait: UnlockedWait<T>,
+        polls: u32,
+    )
         requires waits { WaitsAt cond.old self.now }
+        requires own { wait.listed.number ≡ (sight cond.old.seat).number }
         ensures belongs { OfPlain cond.new self.now × NotifiesNobody cond.old cond.new }
         ensures same { cond.new.seat ≡ cond.old.seat }
     {
-        let number = cond.seat.number().get();
-        let waker = self.parkers.park(rt, number, polls);
+        let waker = self.parkers.park(rt, &wait, polls);
         cond.waker = Some(waker);
     }
 
@@ -102,8 +109,10 @@ impl PlainCondvar {
         }
         let enlisted = self.enlist(rt, cond, seat)?;
         give_up(mutex, seat);
-        self.sleep(rt, cond, polls_behind(mutex.pace(), enlisted.ahead));
+        let polls = polls_behind(mutex.pace(), enlisted.ahead());
+        let ticket = enlisted.ticket();
+        self.sleep(rt, cond, UnlockedWait::new(enlisted, seat), polls);
         come_back(rt, mutex, seat);
-        Ok(enlisted.ticket)
+        Ok(ticket)
     }
 }

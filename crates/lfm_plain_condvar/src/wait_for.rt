@@ -10,6 +10,7 @@ ghost use Rattle.lfm_plain_condvar.specs.Waits.{LeftList, NoLonger, SleepEnds, W
 
 use crate::condvar::PlainCondvar;
 use crate::plain_seat::PlainSeat;
+use crate::unlocked_wait::UnlockedWait;
 use crate::user::{bars_wait, come_back, give_up};
 use crate::wait::polls_behind;
 use crate::waiters::Waiter;
@@ -30,19 +31,20 @@ pub enum Waited {
 
 impl PlainCondvar {
     /// Sleeps until the seat is notified, or the deadline. Returns whether it was notified. It then has its waker back.
-    fn sleep_until<R: Wait + Clock>(
+    fn sleep_until<T: Kept, R: Wait + Clock>(
         &self,
         rt: &R,
         cond: &mut PlainSeat,
+        wait: &UnlockedWait<T>,
         polls: u32,
         deadline: Deadline,
     ) -> bool
         requires waits { WaitsAt cond.old self.now }
+        requires own { wait.now.listed.number ≡ (sight cond.old.seat).number }
         ensures belongs { MatchBool result (OfPlain cond.new self.now) (WaitsAt cond.new self.now) }
         ensures same { (cond.new.seat ≡ cond.old.seat) × NotifiesNobody cond.old cond.new }
     {
-        let number = cond.seat.number().get();
-        match self.parkers.park_until(rt, number, polls, deadline) {
+        match self.parkers.park_until(rt, wait, polls, deadline) {
             Some(waker) => {
                 cond.waker = Some(waker);
                 true
@@ -65,8 +67,8 @@ impl PlainCondvar {
         match self.take_out_in_one_hold(rt, &mut cond.seat, number, ticket) {
             Some(waiter) => {
                 let Waiter { waker, ticket: _ } = waiter;
+                self.parkers.clear(&waker);
                 cond.waker = Some(waker);
-                self.parkers.clear(number);
                 true
             }
             None => false,
@@ -75,39 +77,47 @@ impl PlainCondvar {
 
     /// The time is over: the seat takes itself out of the list. If it isn't there, a wake has taken it out and is about to
     /// notify it, and it sleeps until then.
-    fn end_at_deadline<R: Wait>(&self, rt: &R, cond: &mut PlainSeat, ticket: u64) -> Waited
+    fn end_at_deadline<T: Kept, R: Wait>(
+        &self,
+        rt: &R,
+        cond: &mut PlainSeat,
+        wait: UnlockedWait<T>,
+    ) -> Waited
         requires waits { WaitsAt cond.old self.now }
+        requires own { wait.listed.number ≡ (sight cond.old.seat).number }
         requires spare { (sight cond.old.seat).takes < (limits_of self.now.inner).budget }
         ensures cond_woken { LooksAndWakesAsGranted cond.old.seat cond.new.seat }
         ensures belongs { OfPlain cond.new self.now × NotifiesNobody cond.old cond.new }
-        ensures ends { SleepEnds (limits_of self.now.inner) (tries_of self.now.inner) (sight cond.old.seat) (sight cond.new.seat) ticket result }
+        ensures ends { SleepEnds (limits_of self.now.inner) (tries_of self.now.inner) (sight cond.old.seat) (sight cond.new.seat) wait.entry.listed.enlisted.ticket result }
     {
+        let ticket = wait.ticket();
         if self.leave(rt, cond, ticket) {
             return Waited::TimedOut(ticket);
         }
-        self.sleep(rt, cond, 0);
+        self.sleep(rt, cond, wait, 0);
         Waited::Woken(ticket)
     }
 
     /// Sleeps until the seat is notified, or has taken itself out of the list after the deadline.
-    fn sleep_or_leave<R: Wait + Clock>(
+    fn sleep_or_leave<T: Kept, R: Wait + Clock>(
         &self,
         rt: &R,
         cond: &mut PlainSeat,
-        ticket: u64,
+        wait: UnlockedWait<T>,
         polls: u32,
         deadline: Deadline,
     ) -> Waited
         requires waits { WaitsAt cond.old self.now }
+        requires own { wait.listed.number ≡ (sight cond.old.seat).number }
         requires spare { (sight cond.old.seat).takes < (limits_of self.now.inner).budget }
         ensures cond_woken { LooksAndWakesAsGranted cond.old.seat cond.new.seat }
         ensures belongs { OfPlain cond.new self.now × NotifiesNobody cond.old cond.new }
-        ensures ends { SleepEnds (limits_of self.now.inner) (tries_of self.now.inner) (sight cond.old.seat) (sight cond.new.seat) ticket result }
+        ensures ends { SleepEnds (limits_of self.now.inner) (tries_of self.now.inner) (sight cond.old.seat) (sight cond.new.seat) wait.entry.listed.enlisted.ticket result }
     {
-        if self.sleep_until(rt, cond, polls, deadline) {
-            return Waited::Woken(ticket);
+        if self.sleep_until(rt, cond, &wait, polls, deadline) {
+            return Waited::Woken(wait.ticket());
         }
-        self.end_at_deadline(rt, cond, ticket)
+        self.end_at_deadline(rt, cond, wait)
     }
 
     /// `wait` until the deadline.
@@ -136,8 +146,9 @@ impl PlainCondvar {
         }
         let enlisted = self.enlist(rt, cond, seat)?;
         give_up(mutex, seat);
-        let polls = polls_behind(mutex.pace(), enlisted.ahead);
-        let waited = self.sleep_or_leave(rt, cond, enlisted.ticket, polls, deadline);
+        let polls = polls_behind(mutex.pace(), enlisted.ahead());
+        let wait = UnlockedWait::new(enlisted, seat);
+        let waited = self.sleep_or_leave(rt, cond, wait, polls, deadline);
         come_back(rt, mutex, seat);
         Ok(waited)
     }

@@ -46,6 +46,11 @@ abbrev pub SleepEnds : Limits → ℕ → Sight Waiters → Sight Waiters → �
 SleepEnds own tries c d ticket (Waited.Woken t) = (t ≡ ticket) × (d ≡ c ⊎ NoLonger own tries c d ticket)
 SleepEnds own tries c d ticket (Waited.TimedOut t) = (t ≡ ticket) × LeftList own tries c d ticket
 
+-- how a wait ended, without how the seat acquired the user mutex again
+abbrev pub waited_of : Result (How × Waited) Refusal → Result Waited Refusal
+waited_of (Ok r) = Ok r.1
+waited_of (Err r) = Err r
+
 module _ {T : Type 0} where
   -- the seat could wait
   abbrev pub MayWait : ℕ → Sight T → Type 0
@@ -56,13 +61,17 @@ module _ {T : Type 0} where
   GivesUp user s t = LeavesOff s t × (t.takes ≡ s.takes) × Unlocks user s t
 
 module _ {T : Type 0} (follows : ℕ → T → T → Type 0) (fits : T → ℕ → Type 0) where
-  -- the seat acquired its mutex by one lock_barging
-  abbrev pub ComesBack : Limits → ℕ → Sight T → Sight T → Type 0
-  ComesBack user tries s t = (how : How) × Gains follows fits user.budget how s t × BargesBy user tries s t (Ok (Locked.Held how))
+  -- the seat acquired its mutex in this way, by one lock_barging
+  abbrev pub ComesBackAs : Limits → ℕ → How → Sight T → Sight T → Type 0
+  ComesBackAs user tries how s t = Gains follows fits user.budget how s t × BargesBy user tries s t (Ok (Locked.Held how))
+
+  -- the seat gave up its mutex by one unlock, and acquired it again in this way, by one lock_barging
+  abbrev pub GivesUpAndComesBackAs : Limits → ℕ → How → Sight T → Sight T → Type 0
+  GivesUpAndComesBackAs user tries how s t = (m : Sight T) × GivesUp user s m × ComesBackAs user tries how m t
 
   -- the seat gave up its mutex by one unlock, and acquired it again by one lock_barging
   abbrev pub GivesUpAndComesBack : Limits → ℕ → Sight T → Sight T → Type 0
-  GivesUpAndComesBack user tries s t = (m : Sight T) × GivesUp user s m × ComesBack user tries m t
+  GivesUpAndComesBack user tries s t = (m : Sight T) × GivesUp user s m × ((how : How) × ComesBackAs user tries how m t)
 
   -- why a wait is refused that needs this number of takes of the plain seat
   abbrev pub Refuses : Limits → Limits → ℕ → ℕ → Sight Waiters → Sight Waiters → Sight T → Sight T → Refusal → Type 0
@@ -76,6 +85,11 @@ module _ {T : Type 0} (follows : ℕ → T → T → Type 0) (fits : T → ℕ �
   WaitEnds user own tries user_tries c d s t (Ok ticket) = Listed own tries c d ticket × GivesUpAndComesBack user user_tries s t
   WaitEnds user own tries user_tries c d s t (Err r) = Refuses user own 1 tries c d s t r
 
+  -- the same for wait_with_how, which also returns how the seat acquired the user mutex again
+  abbrev pub WaitWithHowEnds : Limits → Limits → ℕ → ℕ → Sight Waiters → Sight Waiters → Sight T → Sight T → Result (How × ℕ) Refusal → Type 0
+  WaitWithHowEnds user own tries user_tries c d s t (Ok r) = Listed own tries c d r.1 × GivesUpAndComesBackAs user user_tries r.0 s t
+  WaitWithHowEnds user own tries user_tries c d s t (Err r) = Refuses user own 1 tries c d s t r
+
   -- How wait_for ends. Woken: as wait, and maybe a second hold found that a wake had taken the seat out of the list.
   -- TimedOut: a second hold took it out of the list. In both cases two takes of the plain seat were left before
   abbrev pub WaitForEnds : Limits → Limits → ℕ → ℕ → Sight Waiters → Sight Waiters → Sight T → Sight T → Result Waited Refusal → Type 0
@@ -84,3 +98,9 @@ module _ {T : Type 0} (follows : ℕ → T → T → Type 0) (fits : T → ℕ �
   WaitForEnds user own tries user_tries c d s t (Ok (Waited.TimedOut ticket)) =
       (e : Sight Waiters) × Listed own tries c e ticket × LeftList own tries e d ticket × GivesUpAndComesBack user user_tries s t × (c.takes + 2 ≤ own.budget)
   WaitForEnds user own tries user_tries c d s t (Err r) = Refuses user own 2 tries c d s t r
+
+  -- the same for wait_within, which also returns how the seat acquired the user mutex again
+  abbrev pub WaitWithinEnds : Limits → Limits → ℕ → ℕ → Sight Waiters → Sight Waiters → Sight T → Sight T → Result (How × Waited) Refusal → Type 0
+  WaitWithinEnds user own tries user_tries c d s t (Ok r) =
+      (ticket : ℕ) × (e : Sight Waiters) × Listed own tries c e ticket × SleepEnds own tries e d ticket r.1 × GivesUpAndComesBackAs user user_tries r.0 s t × (c.takes + 2 ≤ own.budget)
+  WaitWithinEnds user own tries user_tries c d s t (Err r) = Refuses user own 2 tries c d s t r

@@ -6,14 +6,14 @@ ghost use Rattle.lfm_mutex.specs.calls.RunGoesOn.{RunGoesOnFrom};
 ghost use Rattle.lfm_mutex.specs.calls.Sight.{sight, MayRelease};
 ghost use Rattle.lfm_mutex.specs.calls.Woken.{LooksAndWakesAsGranted};
 ghost use Rattle.lfm_plain_condvar.specs.Belongs.{NotifiesNobody, OfPlain, WaitsAt};
-ghost use Rattle.lfm_plain_condvar.specs.Waits.{Enlists, WaitEnds};
+ghost use Rattle.lfm_plain_condvar.specs.Waits.{Enlists, WaitEnds, WaitWithHowEnds};
 
 use crate::condvar::PlainCondvar;
 use crate::hold::ListedWait;
 use crate::plain_seat::PlainSeat;
 use crate::unlocked_wait::UnlockedWait;
 use crate::user::{bars_wait, come_back, give_up};
-use lfm_model::Refusal;
+use lfm_model::{How, Refusal};
 use lfm_mutex::{Kept, Mutex, Pace, Seat};
 use std::mem::replace;
 use std::sync::Wait;
@@ -101,6 +101,29 @@ impl PlainCondvar {
         ensures notifies { NotifiesNobody cond.old cond.new }
         ensures waits { WaitEnds T.follows T.fits (limits_of mutex.now) (limits_of self.now.inner) (tries_of self.now.inner) (tries_of mutex.now) (sight cond.old.seat) (sight cond.new.seat) (sight seat.old) (sight seat.new) result }
     {
+        match self.wait_with_how(rt, cond, mutex, seat) {
+            Ok((_, ticket)) => Ok(ticket),
+            Err(refusal) => Err(refusal),
+        }
+    }
+
+    /// `wait`, which also returns how the seat acquired the user mutex again.
+    pub fn wait_with_how<T: Kept, R: Wait>(
+        &self,
+        rt: &R,
+        cond: &mut PlainSeat,
+        mutex: &Mutex<T>,
+        seat: &mut Seat<T>,
+    ) -> Result<(How, u64), Refusal>
+        requires belongs { OfPlain cond.old self.now × OfMutex seat.old mutex.now }
+        requires leaves { MayRelease T.follows T.fits (sight seat.old) }
+        ensures belongs { OfPlain cond.new self.now × Beside seat.old seat.new }
+        ensures run { RunGoesOnFrom seat.old seat.new }
+        ensures cond_woken { LooksAndWakesAsGranted cond.old.seat cond.new.seat }
+        ensures woken { LooksAndWakesAsGranted seat.old seat.new }
+        ensures notifies { NotifiesNobody cond.old cond.new }
+        ensures waits { WaitWithHowEnds T.follows T.fits (limits_of mutex.now) (limits_of self.now.inner) (tries_of self.now.inner) (tries_of mutex.now) (sight cond.old.seat) (sight cond.new.seat) (sight seat.old) (sight seat.new) result }
+    {
         if let Some(refusal) = bars_wait(seat) {
             return Err(refusal);
         }
@@ -112,7 +135,7 @@ impl PlainCondvar {
         let polls = polls_behind(mutex.pace(), enlisted.ahead());
         let ticket = enlisted.ticket();
         self.sleep(rt, cond, UnlockedWait::new(enlisted, seat), polls);
-        come_back(rt, mutex, seat);
-        Ok(ticket)
+        let how = come_back(rt, mutex, seat);
+        Ok((how, ticket))
     }
 }

@@ -6,7 +6,7 @@ ghost use Rattle.lfm_mutex.specs.calls.RunGoesOn.{RunGoesOnFrom};
 ghost use Rattle.lfm_mutex.specs.calls.Sight.{sight, MayRelease};
 ghost use Rattle.lfm_mutex.specs.calls.Woken.{LooksAndWakesAsGranted};
 ghost use Rattle.lfm_plain_condvar.specs.Belongs.{NotifiesNobody, OfPlain, WaitsAt};
-ghost use Rattle.lfm_plain_condvar.specs.Waits.{LeftList, NoLonger, SleepEnds, WaitForEnds};
+ghost use Rattle.lfm_plain_condvar.specs.Waits.{LeftList, NoLonger, SleepEnds, WaitForEnds, WaitWithinEnds, waited_of};
 
 use crate::condvar::PlainCondvar;
 use crate::plain_seat::PlainSeat;
@@ -14,7 +14,7 @@ use crate::unlocked_wait::UnlockedWait;
 use crate::user::{bars_wait, come_back, give_up};
 use crate::wait::polls_behind;
 use crate::waiters::Waiter;
-use lfm_model::Refusal;
+use lfm_model::{How, Refusal};
 use lfm_mutex::deadlines::{Deadline, deadline_after};
 use lfm_mutex::{Kept, Mutex, Seat};
 use std::sync::Wait;
@@ -27,6 +27,16 @@ pub enum Waited {
     Woken(u64),
     /// It took itself out of the list. No wake had done so.
     TimedOut(u64),
+}
+
+/// How a wait ended, without how the seat acquired the user mutex again.
+fn without_how(ended: Result<(How, Waited), Refusal>) -> Result<Waited, Refusal>
+    ensures { result ≡ waited_of ended }
+{
+    match ended {
+        Ok((_, waited)) => Ok(waited),
+        Err(refusal) => Err(refusal),
+    }
 }
 
 impl PlainCondvar {
@@ -120,15 +130,15 @@ impl PlainCondvar {
         self.end_at_deadline(rt, cond, wait)
     }
 
-    /// `wait` until the deadline.
-    fn wait_within<T: Kept, R: Wait + Clock>(
+    /// `wait` until the deadline, as `wait_for` does. It also returns how the seat acquired the user mutex again.
+    pub fn wait_within<T: Kept, R: Wait + Clock>(
         &self,
         rt: &R,
         cond: &mut PlainSeat,
         mutex: &Mutex<T>,
         seat: &mut Seat<T>,
         deadline: Deadline,
-    ) -> Result<Waited, Refusal>
+    ) -> Result<(How, Waited), Refusal>
         requires belongs { OfPlain cond.old self.now × OfMutex seat.old mutex.now }
         requires leaves { MayRelease T.follows T.fits (sight seat.old) }
         ensures belongs { OfPlain cond.new self.now × Beside seat.old seat.new }
@@ -136,7 +146,7 @@ impl PlainCondvar {
         ensures cond_woken { LooksAndWakesAsGranted cond.old.seat cond.new.seat }
         ensures woken { LooksAndWakesAsGranted seat.old seat.new }
         ensures notifies { NotifiesNobody cond.old cond.new }
-        ensures waits { WaitForEnds T.follows T.fits (limits_of mutex.now) (limits_of self.now.inner) (tries_of self.now.inner) (tries_of mutex.now) (sight cond.old.seat) (sight cond.new.seat) (sight seat.old) (sight seat.new) result }
+        ensures waits { WaitWithinEnds T.follows T.fits (limits_of mutex.now) (limits_of self.now.inner) (tries_of self.now.inner) (tries_of mutex.now) (sight cond.old.seat) (sight cond.new.seat) (sight seat.old) (sight seat.new) result }
     {
         if let Some(refusal) = bars_wait(seat) {
             return Err(refusal);
@@ -149,8 +159,8 @@ impl PlainCondvar {
         let polls = polls_behind(mutex.pace(), enlisted.ahead());
         let wait = UnlockedWait::new(enlisted, seat);
         let waited = self.sleep_or_leave(rt, cond, wait, polls, deadline);
-        come_back(rt, mutex, seat);
-        Ok(waited)
+        let how = come_back(rt, mutex, seat);
+        Ok((how, waited))
     }
 
     /// `wait` for at most this time from now. Returns Woken as `wait` does. Returns TimedOut if the time was over and no
@@ -176,7 +186,7 @@ impl PlainCondvar {
         ensures notifies { NotifiesNobody cond.old cond.new }
         ensures waits { WaitForEnds T.follows T.fits (limits_of mutex.now) (limits_of self.now.inner) (tries_of self.now.inner) (tries_of mutex.now) (sight cond.old.seat) (sight cond.new.seat) (sight seat.old) (sight seat.new) result }
     {
-        self.wait_within(rt, cond, mutex, seat, deadline_after(rt, time))
+        without_how(self.wait_within(rt, cond, mutex, seat, deadline_after(rt, time)))
     }
 
     /// `wait_for` until this time of the monotonic clock.
@@ -197,6 +207,6 @@ impl PlainCondvar {
         ensures notifies { NotifiesNobody cond.old cond.new }
         ensures waits { WaitForEnds T.follows T.fits (limits_of mutex.now) (limits_of self.now.inner) (tries_of self.now.inner) (tries_of mutex.now) (sight cond.old.seat) (sight cond.new.seat) (sight seat.old) (sight seat.new) result }
     {
-        self.wait_within(rt, cond, mutex, seat, Deadline::At(end))
+        without_how(self.wait_within(rt, cond, mutex, seat, Deadline::At(end)))
     }
 }

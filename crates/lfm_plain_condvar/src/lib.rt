@@ -12,6 +12,7 @@ mod kept;
 mod open;
 pub mod parkers;
 pub mod plain_seat;
+pub mod polls;
 pub mod tickets;
 mod user;
 mod wait;

@@ -14,6 +14,7 @@ ghost use Rattle.lfm_plain_condvar.specs.Keeping.{IsNew};
 use crate::condvar::PlainCondvar;
 use crate::parkers::Parkers;
 use crate::plain_seat::PlainSeat;
+use crate::polls::PollCredit;
 use crate::waiters::Waiters;
 use lfm_model::NewFault;
 use lfm_mutex::{Mutex, Seat};
@@ -32,6 +33,7 @@ fn with_waker(parkers: &Parkers, seat: Seat<Waiters>) -> Option<PlainSeat>
             seat,
             waker: Some(waker),
             log: parkers.new_log(),
+            credit: PollCredit::NEW,
         }),
         None => None,
     }

@@ -13,6 +13,7 @@ mod open;
 pub mod owed;
 pub mod parkers;
 pub mod plain_seat;
+pub mod polls;
 pub mod tickets;
 mod unlocked_wait;
 mod user;

@@ -14,6 +14,7 @@ ghost use Rattle.lfm_plain_condvar.specs.Keeping.{IsNew};
 use crate::condvar::PlainCondvar;
 use crate::parkers::{FirstWakers, Parkers};
 use crate::plain_seat::PlainSeat;
+use crate::polls::PollCredit;
 use crate::waiters::Waiters;
 use lfm_model::NewFault;
 use lfm_mutex::{Mutex, Seat};
@@ -33,6 +34,7 @@ fn with_waker(parkers: &Parkers, first: &FirstWakers, seat: Seat<Waiters>) -> Op
             seat,
             waker: Some(waker),
             log: parkers.new_log(),
+            credit: PollCredit::NEW,
         }),
         None => None,
     }

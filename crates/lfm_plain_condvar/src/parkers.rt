@@ -8,6 +8,7 @@
 ghost use Rattle.std.specs.Prelude.{◌≡◌, ◌+◌, ◌<◌, ◌≤◌, ℕ, [], ◌∷◌, ◌++◌, IfOk, IfSome};
 ghost use Rattle.lfm_plain_condvar.specs.Parkers.{HasEachOnce, IsWakerOf, Notifies, ParkersHold, Retires, StartsWithNone, TakesIfNotified, no_notices, times, with_those};
 
+use crate::polls::PollCredit;
 use crate::unlocked_wait::UnlockedWait;
 use atomic_table::{Join, Play, Seat, Table, TableRule};
 use lfm_mutex::Kept;
@@ -119,6 +120,28 @@ pub(crate) struct FirstWakers {
     of: NoticeLog,
 }
 
+/// Among which numbers those parkers are whose threads were parked when they were notified, and are still to be woken. If
+/// there is none, `first` is above `last`.
+#[derive(Clone, Copy)]
+pub(crate) struct ParkedRange {
+    first: u64,
+    last: u64,
+}
+
+impl ParkedRange {
+    /// No parker.
+    pub(crate) const NONE: ParkedRange = ParkedRange {
+        first: u64::MAX,
+        last: 0,
+    };
+
+    /// Adds a parker.
+    fn add(&mut self, number: u64) {
+        self.first = self.first.min(number);
+        self.last = self.last.max(number);
+    }
+}
+
 /// Names the parkers in contracts. It takes no bytes.
 #[derive(Drop)]
 pub struct ParkersName {
@@ -200,9 +223,9 @@ impl Parkers {
         self.take_if_notified(number)
     }
 
-    /// Notifies the parker of this waker, and wakes its thread if that is parked. It makes one swap, one load, and a system
-    /// call if the thread is parked.
-    pub(crate) fn notify(&self, waker: Waker, log: &mut NoticeLog)
+    /// Notifies the parker of this waker, and returns whether its thread is parked and has to be woken. It makes one swap
+    /// and one load.
+    fn set_notified(&self, waker: Waker, log: &mut NoticeLog) -> bool
         requires waker { (waker.number ≤ self.now.seats) × (waker.seat.table_id ≡ self.now.table.shared.table_id) }
         requires log { log.old.seat.table_id ≡ self.now.table.shared.table_id }
         ensures log { log.new.seat.table_id ≡ log.old.seat.table_id }
@@ -213,12 +236,54 @@ impl Parkers {
             .table
             .shared
             .swap::<ParkerNotified>(&mut seat, number as usize, NOTIFIED);
-        if found == PARKED {
-            self.table.shared.wake_one(number as usize);
-        }
         self.table
             .shared
             .join_seat::<NoticesJoined>(&mut log.seat, seat);
+        found == PARKED
+    }
+
+    /// Notifies the parker of this waker, and wakes its thread if that is parked. It makes one swap, one load, and a system
+    /// call if the thread is parked.
+    pub(crate) fn notify(&self, waker: Waker, log: &mut NoticeLog)
+        requires waker { (waker.number ≤ self.now.seats) × (waker.seat.table_id ≡ self.now.table.shared.table_id) }
+        requires log { log.old.seat.table_id ≡ self.now.table.shared.table_id }
+        ensures log { log.new.seat.table_id ≡ log.old.seat.table_id }
+        ensures notified { log.new.seat.me.0.parkers ≡ log.old.seat.me.0.parkers ++ waker.number ∷ [] }
+    {
+        let number = waker.number;
+        if self.set_notified(waker, log) {
+            self.table.shared.wake_one(number as usize);
+        }
+    }
+
+    /// Notifies the parker of this waker. If its thread is parked, it is added to `parked`, and `wake_parked` is to wake it.
+    pub(crate) fn notify_before_wake(
+        &self,
+        waker: Waker,
+        log: &mut NoticeLog,
+        parked: &mut ParkedRange,
+    )
+        requires waker { (waker.number ≤ self.now.seats) × (waker.seat.table_id ≡ self.now.table.shared.table_id) }
+        requires log { log.old.seat.table_id ≡ self.now.table.shared.table_id }
+        ensures log { log.new.seat.table_id ≡ log.old.seat.table_id }
+        ensures notified { log.new.seat.me.0.parkers ≡ log.old.seat.me.0.parkers ++ waker.number ∷ [] }
+    {
+        let number = waker.number;
+        if self.set_notified(waker, log) {
+            parked.add(number);
+        }
+    }
+
+    /// Wakes the threads of these parkers that were notified and have not gone on since. It may wake a thread that another
+    /// seat has notified, which only goes on earlier. It makes a load for each number of the range, and a system call for
+    /// each thread.
+    pub(crate) fn wake_parked(&self, parked: ParkedRange) {
+        let last = parked.last.min(self.seats);
+        for number in parked.first..=last {
+            if self.table.shared.peek(number as usize) >= NOTIFIED {
+                self.table.shared.wake_one(number as usize);
+            }
+        }
     }
 
     /// Polls the parker at most this often, with pauses, for a thread that may be notified soon.
@@ -237,25 +302,45 @@ impl Parkers {
         None
     }
 
-    /// Polls, and then says that the thread is about to park. Returns the waker if the parker was notified before.
-    fn poll_and_announce(&self, number: u64, polls: u32) -> Option<Waker>
+    /// Polls at most this often, or not at all if the credit says so, and tells the credit whether the parker was notified
+    /// meanwhile.
+    fn poll_with_credit(&self, number: u64, polls: u32, credit: &mut PollCredit) -> Option<Waker>
         requires { number ≤ self.now.seats }
         ensures { IfSome result (λ w. (w.number ≡ number) × (w.seat.table_id ≡ self.now.table.shared.table_id)) }
     {
-        match self.poll(number, polls) {
+        if polls == 0 || !credit.allows() {
+            return None;
+        }
+        let found = self.poll(number, polls);
+        credit.tell(found.is_some());
+        found
+    }
+
+    /// Polls, and then says that the thread is about to park. Returns the waker if the parker was notified before.
+    fn poll_and_announce(&self, number: u64, polls: u32, credit: &mut PollCredit) -> Option<Waker>
+        requires { number ≤ self.now.seats }
+        ensures { IfSome result (λ w. (w.number ≡ number) × (w.seat.table_id ≡ self.now.table.shared.table_id)) }
+    {
+        match self.poll_with_credit(number, polls, credit) {
             Some(waker) => Some(waker),
             None => self.take(number, PARKED),
         }
     }
 
     /// Parks until the parker of the seat that waits is notified, and takes its waker. The thread polls at most `polls` times
-    /// before it parks.
-    pub(crate) fn park<T: Kept, R: Wait>(&self, rt: &R, wait: &UnlockedWait<T>, polls: u32) -> Waker
+    /// before it parks, if the credit allows it.
+    pub(crate) fn park<T: Kept, R: Wait>(
+        &self,
+        rt: &R,
+        wait: &UnlockedWait<T>,
+        polls: u32,
+        credit: &mut PollCredit,
+    ) -> Waker
         requires { wait.now.listed.number ≤ self.now.seats }
         ensures { (result.number ≡ wait.now.listed.number) × (result.seat.table_id ≡ self.now.table.shared.table_id) }
     {
         let number = wait.number();
-        if let Some(waker) = self.poll_and_announce(number, polls) {
+        if let Some(waker) = self.poll_and_announce(number, polls, credit) {
             return waker;
         }
         for _ in rt.forever() {
@@ -274,13 +359,14 @@ impl Parkers {
         rt: &R,
         wait: &UnlockedWait<T>,
         polls: u32,
+        credit: &mut PollCredit,
         deadline: Deadline,
     ) -> Option<Waker>
         requires { wait.now.listed.number ≤ self.now.seats }
         ensures { IfSome result (λ w. (w.number ≡ wait.now.listed.number) × (w.seat.table_id ≡ self.now.table.shared.table_id)) }
     {
         let number = wait.number();
-        if let Some(waker) = self.poll_and_announce(number, polls) {
+        if let Some(waker) = self.poll_and_announce(number, polls, credit) {
             return Some(waker);
         }
         for _ in rt.forever() {

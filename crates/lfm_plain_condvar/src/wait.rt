@@ -18,8 +18,8 @@ use lfm_mutex::{Kept, Mutex, Pace, Seat};
 use std::mem::replace;
 use std::sync::Wait;
 
-/// How many times a seat polls before it sleeps. A seat that waits alone may be woken soon, as when two threads take turns.
-/// Its polls then cost less than a sleep and a wake-up. If others wait ahead of it, it sleeps at once.
+/// How many times a seat polls at most before it sleeps. A seat that waits alone may be woken soon, as when two threads take
+/// turns. Its polls then cost less than a sleep and a wake-up. If others wait ahead of it, it sleeps at once.
 pub(crate) fn polls_behind(pace: Pace, ahead: usize) -> u32
     ensures alone { ahead ≡ 0 → result ≡ pace.looks }
     ensures behind { 0 < ahead → result ≡ 0 }
@@ -69,7 +69,7 @@ impl PlainCondvar {
         ensures belongs { OfPlain cond.new self.now × NotifiesNobody cond.old cond.new }
         ensures same { cond.new.seat ≡ cond.old.seat }
     {
-        let waker = self.parkers.park(rt, &wait, polls);
+        let waker = self.parkers.park(rt, &wait, polls, &mut cond.credit);
         cond.waker = Some(waker);
     }
 
@@ -83,8 +83,9 @@ impl PlainCondvar {
     /// reached: as many would have to wait as there are seats.
     ///
     /// A wait costs each seat one take. It allocates no memory, sleeps, and wakes the seat that it grants a mutex, if any.
-    /// If no other seat waited when this one was added to the list, it polls before it sleeps, as often as the pace of the
-    /// user mutex says. Otherwise it sleeps at once.
+    /// If no other seat waited when this one was added to the list, it may poll before it sleeps, as often as the pace of
+    /// the user mutex says: if it was notified during its last polls, and otherwise at one of 32 waits. It sleeps at once if
+    /// others wait.
     pub fn wait<T: Kept, R: Wait>(
         &self,
         rt: &R,

@@ -54,7 +54,10 @@ impl PlainCondvar {
         ensures belongs { MatchBool result (OfPlain cond.new self.now) (WaitsAt cond.new self.now) }
         ensures same { (cond.new.seat ≡ cond.old.seat) × NotifiesNobody cond.old cond.new }
     {
-        match self.parkers.park_until(rt, wait, polls, deadline) {
+        match self
+            .parkers
+            .park_until(rt, wait, polls, &mut cond.credit, deadline)
+        {
             Some(waker) => {
                 cond.waker = Some(waker);
                 true
@@ -169,6 +172,13 @@ impl PlainCondvar {
     ///
     /// Refuses as `wait`, in the same order, but as Spent also if the plain seat has only one take left. A wait costs the
     /// user seat one take, and the plain seat one, or two if it looked for itself in the list.
+    ///
+    /// ```
+    /// match condvar.wait_for(rt, cond, mutex, seat, Duration::from_millis(10))? {
+    ///     Waited::Woken(ticket) => .. // a wake took this wait out of the list
+    ///     Waited::TimedOut(ticket) => .. // none did, and the time is over
+    /// }
+    /// ```
     pub fn wait_for<T: Kept, R: Wait + Clock>(
         &self,
         rt: &R,

@@ -110,8 +110,9 @@ impl PlainCondvar {
         }
     }
 
-    /// Wakes all that wait, oldest first, and returns how many there were. The list is held until all are notified, which
-    /// takes one system call for each thread that is parked. The caller need not hold the user mutex.
+    /// Wakes all that wait, and returns how many there were. They are notified in one hold of the list, oldest first. After
+    /// it the threads that are parked are woken, in the order of their seats, by one system call each. The caller need not
+    /// hold the user mutex.
     ///
     /// Refuses with Spent if the plain seat has no take left. It costs one take, however many are woken. It allocates no
     /// memory and may sleep until it has the list.

@@ -1,7 +1,7 @@
 use Rattle.std.proofs.Common.{◌∙◌, ap, arith}
 use Rattle.lfm_plain_condvar.specs.declared.parkers.Notices.{Notices}
 use Rattle.lfm_plain_condvar.proofs.Rule.{joins, notifies}
-use Rattle.lfm_plain_condvar.proofs.parkers.Parkers.notify.Goals as goal
+use Rattle.lfm_plain_condvar.proofs.parkers.Parkers.set_notified.Goals as goal
 
 pub swap-found-requires : goal.swap-found-requires
 swap-found-requires c = let w = c.args.waker in let z = c.args.self.now.table.shared.table_id in let words = c.args.self.now.words in let slots = c.args.self.now.slots in let few = c.requires.waker.0 in

@@ -4,14 +4,12 @@ ghost use mathlib.Core.Option.{some};
 ghost use lib.ListN.{get_elem?};
 ghost use Rattle.lfm_mutex.specs.Belongs.{OfMutex};
 ghost use Rattle.lfm_plain_condvar.specs.Belongs.{OfPlain};
-ghost use Rattle.lfm_plain_condvar_tests.specs.Hands.{IsHandOf};
+ghost use Rattle.lfm_plain_test_tools.specs.Hands.{IsHandOf};
 
 use lfm_mutex::{Mutex, Seat};
 use lfm_plain_condvar::{PlainCondvar, PlainSeat};
+use lfm_protocol::MAX_BUDGET;
 use std::alloc::Global;
-
-/// How many takes each seat has.
-const BUDGET: u64 = 1_000_000;
 
 /// A thread's seats.
 #[derive(Drop)]
@@ -54,10 +52,10 @@ fn last_plain_seats(
 pub fn three_hands(alloc: Global) -> Option<(Mutex<u64>, PlainCondvar, Hand, Hand, Hand)>
     ensures { IfSome result (λ r. IsHandOf r.2 r.0 r.1 × IsHandOf r.3 r.0 r.1 × IsHandOf r.4 r.0 r.1) }
 {
-    let Ok((mutex, seats)) = Mutex::new(alloc, 3, BUDGET, 0u64) else {
+    let Ok((mutex, seats)) = Mutex::new(alloc, 3, MAX_BUDGET, 0u64) else {
         return None;
     };
-    let Ok((condvar, plain_seats)) = PlainCondvar::new(alloc, 3, BUDGET) else {
+    let Ok((condvar, plain_seats)) = PlainCondvar::new(alloc, 3, MAX_BUDGET) else {
         return None;
     };
     let (seat_1, seat_2, seat_3) = last_seats(&mutex, seats)?;

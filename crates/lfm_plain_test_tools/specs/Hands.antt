@@ -3,7 +3,7 @@ use Rattle.lfm_mutex.specs.declared.mutex.Mutex.{Mutex}
 use Rattle.lfm_mutex.specs.Belongs.{OfMutex}
 use Rattle.lfm_plain_condvar.specs.declared.condvar.PlainCondvar.{PlainCondvar}
 use Rattle.lfm_plain_condvar.specs.Belongs.{OfPlain}
-use Rattle.lfm_plain_condvar_tests.specs.declared.hands.Hand.{Hand}
+use Rattle.lfm_plain_test_tools.specs.declared.hands.Hand.{Hand}
 use Rattle.std.specs.Prelude.{ℕ}
 
 -- its seats are of this mutex and this condvar

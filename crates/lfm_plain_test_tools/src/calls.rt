@@ -1,7 +1,7 @@
 //! Calls of a mutex around a number and of a plain condvar, with no more of their contracts than the tests need: a hand
 //! stays one of the mutex and the condvar. It has no test.
 ghost use Rattle.lfm_mutex.specs.Belongs.{Beside};
-ghost use Rattle.lfm_plain_condvar_tests.specs.Hands.{IsHandOf};
+ghost use Rattle.lfm_plain_test_tools.specs.Hands.{IsHandOf};
 
 use crate::hands::Hand;
 use lfm_mutex::{Mutex, Seat};
@@ -16,6 +16,15 @@ pub fn lock<R: Wait>(rt: &R, mutex: &Mutex<u64>, condvar: &PlainCondvar, hand: &
 {
     let _condvar = condvar;
     let _ = mutex.lock(rt, &mut hand.seat);
+}
+
+/// Locks the mutex by `lock_barging`.
+pub fn lock_barging<R: Wait>(rt: &R, mutex: &Mutex<u64>, condvar: &PlainCondvar, hand: &mut Hand)
+    requires { IsHandOf hand.old mutex.now condvar.now }
+    ensures { IsHandOf hand.new mutex.now condvar.now }
+{
+    let _condvar = condvar;
+    let _ = mutex.lock_barging(rt, &mut hand.seat);
 }
 
 /// Unlocks the mutex.

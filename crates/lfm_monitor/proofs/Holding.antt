@@ -8,7 +8,7 @@ use Rattle.lfm_monitor.specs.declared.monitor.Monitor.{Monitor}
 use Rattle.lfm_monitor.specs.declared.pass.Pass.{Pass}
 use Rattle.lfm_mutex.proofs.runs.RunGoesOn.{run_next, run_same}
 use Rattle.lfm_mutex.proofs.runs.Woken.{woken_join, woken_none}
-use Rattle.lfm_monitor.specs.Belongs.{PassRunGoesOnFrom, PassWokenAsGranted, cond_seats_of, mine_of, pass_sight, seen_of}
+use Rattle.lfm_monitor.specs.Belongs.{PassRunGoesOnFrom, PassWokenAsGranted, SameCondSeats, mine_of, pass_sight, seen_of}
 use Rattle.lfm_monitor.specs.Passes.{LeaveEnds, journal_of}
 use Rattle.lfm_monitor.specs.Sections.{GivesUp, HoldEnds, Holds}
 
@@ -53,10 +53,10 @@ module _ {O A R : Type 0} {K : _} where
   leaves_one Unlocked.TakenOver s t seen seen' h = given_back s t seen seen' h
 
   pub gives_up_none : (p : Pass O A R K) → GivesUp p p
-  gives_up_none p = record { no_more = omega arith; number = refl; takes = refl; asleep = refl; sends = refl; journal = refl; woken = woken_none p.seat p.seat refl refl; run = run_same; seen = λ _. refl; mine = refl; cond_seats = refl }
+  gives_up_none p = record { no_more = omega arith; number = refl; takes = refl; asleep = refl; sends = refl; journal = refl; woken = woken_none p.seat p.seat refl refl; run = run_same; seen = λ _. refl; mine = refl; cond_seats = (refl, refl) }
 
   -- some holds were given up, and then one more
-  pub gives_up_one : (p m q : Pass O A R K) → GivesUp p m → LeavesOne (pass_sight m) (pass_sight q) (seen_of m) (seen_of q) → mine_of q ≡ mine_of m → cond_seats_of q ≡ cond_seats_of m → PassWokenAsGranted m q → PassRunGoesOnFrom m q → GivesUp p q
+  pub gives_up_one : (p m q : Pass O A R K) → GivesUp p m → LeavesOne (pass_sight m) (pass_sight q) (seen_of m) (seen_of q) → mine_of q ≡ mine_of m → SameCondSeats m q → PassWokenAsGranted m q → PassRunGoesOnFrom m q → GivesUp p q
   gives_up_one p m q before one mine cond_seats woken run = let few = before.no_more in let less = one.depth in record {
     no_more = omega arith;
     number = one.number ∙ before.number;
@@ -68,7 +68,7 @@ module _ {O A R : Type 0} {K : _} where
     run = run_next before.run run;
     seen = λ deep. one.still deep ∙ before.seen (omega arith);
     mine = mine ∙ before.mine;
-    cond_seats = cond_seats ∙ before.cond_seats;
+    cond_seats = (cond_seats.0 ∙ before.cond_seats.0, cond_seats.1 ∙ before.cond_seats.1);
   }
 
 module _ {O A R U : Type 0} {K : _} (m : Monitor O A R K) (makes : Pass O A R K → Pass O A R K → Result U Refusal → Type 0) where

@@ -7,7 +7,10 @@ pub mod Knowing
 pub mod Moving
 pub mod NewSeats
 pub mod Paces
+pub mod Pairing
 pub mod Places
+pub mod PlainReturning
+pub mod PlainWaking
 pub mod Refusing
 pub mod Returning
 pub mod Sending
@@ -15,3 +18,4 @@ pub mod Starting
 pub mod Trails
 pub mod Trying
 pub mod UsedConditions
+pub mod UsedPlainConditions

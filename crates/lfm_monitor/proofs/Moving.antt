@@ -3,6 +3,10 @@ use Rattle.lfm_condvar.specs.contracts.condvar.Condvar as Condvar
 use Rattle.lfm_condvar.specs.contracts.cond_seat.CondSeat as CondSeat
 use Rattle.lfm_condvar.proofs.condvar.Condvar.TheSendSync as CondvarSend
 use Rattle.lfm_condvar.proofs.cond_seat.CondSeat.TheSendSync as CondSeatSend
+use Rattle.lfm_plain_condvar.specs.contracts.condvar.PlainCondvar as PlainCondvar
+use Rattle.lfm_plain_condvar.specs.contracts.plain_seat.PlainSeat as PlainSeat
+use Rattle.lfm_plain_condvar.proofs.condvar.PlainCondvar.TheSendSync as PlainCondvarSend
+use Rattle.lfm_plain_condvar.proofs.plain_seat.PlainSeat.TheSendSync as PlainSeatSend
 use Rattle.lfm_model.specs.contracts.journals.Entry as Entry
 use Rattle.lfm_model.specs.declared.objects.Object.{Ghosts}
 use Rattle.lfm_model.proofs.journals.Entry.TheSendSync as EntrySend
@@ -55,7 +59,10 @@ module _ (O A R : RattleType) (g : Ghosts O.Denot A.Denot R.Denot) where
           Send.plain_send _ _ _ _ _,
           (
             Send.plain_send _ _ _ _ _,
-            (VecSend.the_send CondSeat.the_row Global.the_row GlobalImpl.ghosts CondSeatSend.the_send GlobalSend.the_send GlobalFrees.the_frees, tt),
+            (
+              VecSend.the_send CondSeat.the_row Global.the_row GlobalImpl.ghosts CondSeatSend.the_send GlobalSend.the_send GlobalFrees.the_frees,
+              (VecSend.the_send PlainSeat.the_row Global.the_row GlobalImpl.ghosts PlainSeatSend.the_send GlobalSend.the_send GlobalFrees.the_frees, tt),
+            ),
           ),
         ),
       ))
@@ -69,7 +76,10 @@ module _ (O A R : RattleType) (g : Ghosts O.Denot A.Denot R.Denot) where
           search crosses,
           (
             Send.plain_sync _ _ _ _ _,
-            (VecSend.the_sync Condvar.the_row Global.the_row GlobalImpl.ghosts CondvarSend.the_sync GlobalSend.the_sync, tt),
+            (
+              VecSend.the_sync Condvar.the_row Global.the_row GlobalImpl.ghosts CondvarSend.the_sync GlobalSend.the_sync,
+              (VecSend.the_sync PlainCondvar.the_row Global.the_row GlobalImpl.ghosts PlainCondvarSend.the_sync GlobalSend.the_sync, tt),
+            ),
           ),
         ),
       ))

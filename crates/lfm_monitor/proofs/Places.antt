@@ -55,3 +55,22 @@ stand_both [] ys i x y h e = absurd (omega arith)
 stand_both (z ∷ xs) [] i x y h e = absurd (omega arith)
 stand_both (z ∷ xs) (w ∷ ys) zero x y h e = (ap (λ p. some p.0) (sym e), ap (λ p. some p.1) (sym e))
 stand_both (z ∷ xs) (w ∷ ys) (suc i) x y h e = stand_both xs ys i x y (omega arith) e
+
+pub zipped : {A B : Type 0} (xs : List A) (ys : List B) (i : ℕ) (x : A) (y : B) → get_elem? (zip xs ys) i ≡ some (x, y) → (get_elem? xs i ≡ some x) × (get_elem? ys i ≡ some y)
+zipped [] ys i x y e = absurd (some-ne-none (x, y) (sym e))
+zipped (z ∷ xs) [] i x y e = absurd (some-ne-none (x, y) (sym e))
+zipped (z ∷ xs) (w ∷ ys) zero x y e = let q = some-injective (z, w) (x, y) e in (ap (λ p. some p.0) q, ap (λ p. some p.1) q)
+zipped (z ∷ xs) (w ∷ ys) (suc i) x y e = zipped xs ys i x y e
+
+-- a triple in the zip of three lists has the items of all three at the same index
+pub stand_all : {A B C : Type 0} (xs : List A) (ys : List B) (zs : List C) (i : ℕ) (x : A) (y : B) (z : C) → i < length (zip (zip xs ys) zs) → ((x, y), z) ≡ get_or (zip (zip xs ys) zs) i ((x, y), z)
+    → (get_elem? xs i ≡ some x) × (get_elem? ys i ≡ some y) × (get_elem? zs i ≡ some z)
+stand_all xs ys zs i x y z h e = let outer = stand_both (zip xs ys) zs i (x, y) z h e in let inner = zipped xs ys i x y outer.0 in (inner.0, inner.1, outer.1)
+
+length_zip : {A B : Type 0} (xs : List A) (ys : List B) → length xs ≡ length ys → length (zip xs ys) ≡ length xs
+length_zip [] ys e = refl
+length_zip (x ∷ xs) [] e = absurd (omega arith)
+length_zip (x ∷ xs) (y ∷ ys) e = ap suc (length_zip xs ys (omega arith))
+
+pub length_zips : {A B C : Type 0} (xs : List A) (ys : List B) (zs : List C) → length xs ≡ length ys → length xs ≡ length zs → length (zip (zip xs ys) zs) ≡ length xs
+length_zips xs ys zs e f = let l = length_zip xs ys e in length_zip (zip xs ys) zs (l ∙ f) ∙ l

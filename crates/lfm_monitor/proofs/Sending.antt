@@ -13,7 +13,7 @@ use Rattle.lfm_monitor.specs.Conditions.{OnCondition, OnlySends, WakeOneEnds, Wa
 use Rattle.lfm_monitor.specs.Passes.{PassKept, Began}
 
 module _ {T : Type 0} where
-  only : (s t : Sight T) (trail : List Seen) (sends : List ℕ) → t ≡ record s { trail = trail; sends = sends } → OnlySends s t
+  pub only : (s t : Sight T) (trail : List Seen) (sends : List ℕ) → t ≡ record s { trail = trail; sends = sends } → OnlySends s t
   only s t trail sends e = e ∙ ap (λ (u : Sight T). record s { trail = u.trail; sends = u.sends }) (sym e)
 
   not_waiting : (n : ℕ) (s t : Sight T) (v : Waiters) → OldestNotWaiting n s t v → OnlySends s t

@@ -5,8 +5,9 @@ use Rattle.lfm_mutex.specs.calls.Sight.{new_sight}
 use Rattle.lfm_monitor.specs.declared.journaled.Journaled.{Journaled}
 use Rattle.lfm_monitor.specs.declared.monitor.Monitor.{Monitor}
 use Rattle.lfm_monitor.specs.declared.pass.Pass.{Pass}
-use Rattle.lfm_monitor.specs.Belongs.{OfMonitor, cond_seats_of, mine_of, pass_sight, passes_of, seen_of}
+use Rattle.lfm_monitor.specs.Belongs.{OfMonitor, cond_seats_of, mine_of, pass_sight, passes_of, plain_seats_of, seen_of}
 use Rattle.lfm_monitor.specs.CondSeats.{AreNewSeats}
+use Rattle.lfm_monitor.specs.PlainSeats.{AreNewPlainSeats}
 
 -- the greatest number of entries of a journal
 abbrev pub max_entries : ℕ
@@ -36,3 +37,4 @@ module _ {O A R : Type 0} {K : _} where
     pub sees : pass_sight p ≡ new_sight empty (passes_of m) number
     pub counts : (seen_of p ≡ 0) × (mine_of p ≡ 0)
     pub cond_seats : AreNewSeats (passes_of m) number (cond_seats_of p)
+    pub plain_seats : AreNewPlainSeats (passes_of m) number (plain_seats_of p)

@@ -11,6 +11,7 @@ use Rattle.lfm_condvar.specs.declared.cond_seat.CondSeat.{CondSeat}
 use Rattle.lfm_condvar.specs.declared.waiters.Waiters.{Waiters}
 use Rattle.lfm_condvar.specs.Belongs.{CondWokenAsGranted, OfCondvar, cond_limits, cond_sight}
 use Rattle.lfm_condvar.specs.Keeping.{IsNew}
+use Rattle.lfm_monitor.specs.Pairs.{Pairwise}
 
 -- the limits of a condition of a monitor with this number of passes: a seat for each, and the greatest budget of waits and
 -- wakes
@@ -32,19 +33,16 @@ pub record SameButPace (u v : Condvar) : Type 0 where
   pub seats : v.seats ≡ u.seats
 
 -- both are the same list of conditions, with possibly different paces
-pub record SameButPaces (us vs : List Condvar) : Type 0 where
-  pub long : length vs ≡ length us
-  pub each : (i : ℕ) (v : Condvar) → get_elem? vs i ≡ some v → (u : Condvar) × (get_elem? us i ≡ some u) × SameButPace u v
+abbrev pub SameButPaces : List Condvar → List Condvar → Type 0
+SameButPaces us vs = Pairwise (λ (u v : Condvar). SameButPace u v) us vs
 
 -- there is a cond seat for each condition, at the same index
-pub record OfConditions (seats : List CondSeat) (conditions : List Condvar) : Type 0 where
-  pub long : length seats ≡ length conditions
-  pub each : (i : ℕ) (c : CondSeat) (v : Condvar) → get_elem? seats i ≡ some c → get_elem? conditions i ≡ some v → OfCondvar c v
+abbrev pub OfConditions : List CondSeat → List Condvar → Type 0
+OfConditions seats conditions = Pairwise (λ (c : CondSeat) (v : Condvar). OfCondvar c v) seats conditions
 
 -- from one list to the other, each cond seat has woken exactly those that it granted the list of its condition, in order
-pub record CondsWokenAsGranted (cs ds : List CondSeat) : Type 0 where
-  pub long : length ds ≡ length cs
-  pub each : (i : ℕ) (c d : CondSeat) → get_elem? cs i ≡ some c → get_elem? ds i ≡ some d → CondWokenAsGranted c d
+abbrev pub CondsWokenAsGranted : List CondSeat → List CondSeat → Type 0
+CondsWokenAsGranted cs ds = Pairwise (λ (c d : CondSeat). CondWokenAsGranted c d) cs ds
 
 -- the cond seat with this number, one of `passes`, has done nothing, and no pass has waited on its condition
 abbrev pub IsNewSeat : ℕ → ℕ → CondSeat → Type 0

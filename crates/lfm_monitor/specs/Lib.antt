@@ -4,9 +4,13 @@ pub mod CondSeats
 pub mod Conditions
 pub mod Dealing
 pub mod Journaled
+pub mod Pairs
 pub mod Passes
+pub mod PlainConditions
+pub mod PlainSeats
 pub mod Rounds
 pub mod Sections
 pub mod Steps
+pub mod TimedTries
 pub mod Tries
 pub mod Writes

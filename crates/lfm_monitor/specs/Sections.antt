@@ -5,14 +5,14 @@ use Rattle.lfm_model.specs.declared.answers.Locked.{Locked}
 use Rattle.lfm_model.specs.declared.refusals.Refusal.{Refusal}
 use Rattle.lfm_monitor.specs.declared.monitor.Monitor.{Monitor}
 use Rattle.lfm_monitor.specs.declared.pass.Pass.{Pass}
-use Rattle.lfm_monitor.specs.Belongs.{OfMonitor, PassLooksAndWakesAsGranted, PassRunGoesOnFrom, PassWokenAsGranted, cond_seats_of, mine_of, mutex_limits, pass_sight, seen_of, share_of, tries_in}
+use Rattle.lfm_monitor.specs.Belongs.{OfMonitor, PassLooksAndWakesAsGranted, PassRunGoesOnFrom, PassWokenAsGranted, SameCondSeats, mine_of, mutex_limits, pass_sight, seen_of, share_of, tries_in}
 use Rattle.lfm_monitor.specs.Passes.{EnterEnds, EnterRefused, journal_of}
 use Rattle.lfm_monitor.specs.Steps.{ByBarging, ByUnlocks}
 
 module _ {O A R : Type 0} {K : _} where
   -- nothing that can be read from a pass has changed
   abbrev pub SamePass : Pass O A R K → Pass O A R K → Type 0
-  SamePass p q = (pass_sight q ≡ pass_sight p) × (mine_of q ≡ mine_of p) × (seen_of q ≡ seen_of p) × (cond_seats_of q ≡ cond_seats_of p)
+  SamePass p q = (pass_sight q ≡ pass_sight p) × (mine_of q ≡ mine_of p) × (seen_of q ≡ seen_of p) × SameCondSeats p q
 
   -- The pass has given up some of its holds, or none, and has woken exactly those that it granted the monitor. The journal that
   -- it holds, or last left, is the one that it held, and nothing else of it has changed
@@ -27,7 +27,7 @@ module _ {O A R : Type 0} {K : _} where
     pub run : PassRunGoesOnFrom p q
     pub seen : 0 < (pass_sight q).depth → seen_of q ≡ seen_of p
     pub mine : mine_of q ≡ mine_of p
-    pub cond_seats : cond_seats_of q ≡ cond_seats_of p
+    pub cond_seats : SameCondSeats p q
 
   -- the pass has given up each of its holds above this depth
   abbrev pub GivesUpTo : ℕ → Pass O A R K → Pass O A R K → Type 0
@@ -42,7 +42,7 @@ module _ {O A R U : Type 0} {K : _} (m : Monitor O A R K) (makes : Pass O A R K 
     pub locked : Locked
     pub enters : EnterEnds (share_of m) (pass_sight p) (pass_sight entered) (mine_of p) (mine_of entered) (Ok locked)
     pub steps : ByBarging (mutex_limits m) (tries_in m) (pass_sight p) (pass_sight entered) (Ok locked)
-    pub keeps : (seen_of entered ≡ seen_of p) × (cond_seats_of entered ≡ cond_seats_of p)
+    pub keeps : (seen_of entered ≡ seen_of p) × SameCondSeats p entered
     pub woken : PassLooksAndWakesAsGranted p entered
     pub run : PassRunGoesOnFrom p entered
     pub belong : OfMonitor entered m × OfMonitor executed m

@@ -1,5 +1,5 @@
 //! `apply`: a pass that holds applies an op to the object, and the op is written into the journal.
-ghost use Rattle.lfm_monitor.specs.Belongs.{OfMonitor, PassRunGoesOnFrom, PassWokenAsGranted, cond_seats_of, mine_of, pass_sight, seen_of, share_of};
+ghost use Rattle.lfm_monitor.specs.Belongs.{OfMonitor, PassRunGoesOnFrom, PassWokenAsGranted, SameCondSeats, mine_of, pass_sight, seen_of, share_of};
 ghost use Rattle.lfm_monitor.specs.Passes.{ApplyEnds};
 ghost use Rattle.std.specs.Prelude.{◌≡◌};
 
@@ -21,7 +21,7 @@ impl<O: Object> Monitor<O> {
         ensures woken { PassWokenAsGranted pass.old pass.new }
         ensures applies { ApplyEnds O.after O.reply (share_of self.now) op (pass_sight pass.old) (pass_sight pass.new) (mine_of pass.old) (mine_of pass.new) result }
         ensures seen { seen_of pass.new ≡ seen_of pass.old }
-        ensures conditions { cond_seats_of pass.new ≡ cond_seats_of pass.old }
+        ensures conditions { SameCondSeats pass.old pass.new }
     {
         if pass.seat.asleep() {
             return Err(Refusal::Asleep);

@@ -1,8 +1,9 @@
 //! `apply_until`: a pass that holds applies an op again and again, and waits on a condition in between.
 ghost use Rattle.std.specs.Prelude.{◌≡◌, IfOk, true};
 ghost use Rattle.std.specs.Fn.{FnReturnsAt};
-ghost use Rattle.lfm_monitor.specs.Belongs.{OfMonitor, PassLooksAndWakesAsGranted, PassRunGoesOnFrom, cond_seats_of, pass_sight};
+ghost use Rattle.lfm_monitor.specs.Belongs.{OfMonitor, PassLooksAndWakesAsGranted, PassRunGoesOnFrom, cond_seats_of, pass_sight, plain_seats_of};
 ghost use Rattle.lfm_monitor.specs.CondSeats.{CondsWokenAsGranted};
+ghost use Rattle.lfm_monitor.specs.PlainSeats.{PlainSeatsWokenAsGranted};
 ghost use Rattle.lfm_monitor.specs.Tries.{AppliedLast, ApplyUntilEnds};
 
 use crate::monitor::Monitor;
@@ -11,7 +12,7 @@ use lfm_model::{Object, Refusal};
 use std::sync::Wait;
 
 /// Whether `done` accepts the reply.
-fn accepts<T, F: Fn(&T) -> bool>(done: &F, reply: &T) -> bool
+pub(crate) fn accepts<T, F: Fn(&T) -> bool>(done: &F, reply: &T) -> bool
     requires { F.IsAlwaysCallable done.now }
     ensures { FnReturnsAt F.Fn done.now reply.now result }
 {
@@ -46,6 +47,7 @@ impl<O: Object> Monitor<O> {
         ensures run { PassRunGoesOnFrom pass.old pass.new }
         ensures woken { PassLooksAndWakesAsGranted pass.old pass.new }
         ensures cond_woken { CondsWokenAsGranted (cond_seats_of pass.old) (cond_seats_of pass.new) }
+        ensures plain_woken { PlainSeatsWokenAsGranted (plain_seats_of pass.old) (plain_seats_of pass.new) }
         ensures done { IfOk result (λ r. FnReturnsAt F.Fn done r true) }
         ensures applied { IfOk result (λ r. AppliedLast O.after O.reply self.now op pass.new r) }
         ensures depth { (pass_sight pass.new).depth ≡ (pass_sight pass.old).depth }

@@ -40,6 +40,7 @@ impl<O: Object> Monitor<O> {
             opening,
             share,
             conditions,
+            plain_conditions,
         } = self;
         match mutex.close(passes) {
             Err((mutex, passes, missing)) => Err((
@@ -48,6 +49,7 @@ impl<O: Object> Monitor<O> {
                     opening,
                     share,
                     conditions,
+                    plain_conditions,
                 },
                 passes,
                 missing,

@@ -5,14 +5,15 @@ use crate::pass::Pass;
 use lfm_model::Object;
 use std::fmt::{Debug, Formatter, Result, Write};
 
-/// Shows how many entries each pass may write, and how many conditions there are. The object belongs to the pass that holds it,
+/// Shows how many entries each pass may write, and how many conditions of each kind there are. The object belongs to the pass that holds it,
 /// so it isn't shown.
 impl<O: Object> Debug for Monitor<O> {
-    /// Writes the share of each pass and the number of conditions.
+    /// Writes the share of each pass and the numbers of conditions.
     fn fmt<W: Write>(&self, f: &mut Formatter<W>) -> Result {
         f.debug_struct("Monitor")
             .field("share", &self.share)
             .field("conditions", &self.conditions.len())
+            .field("plain_conditions", &self.plain_conditions.len())
             .finish_non_exhaustive()
     }
 }

@@ -7,7 +7,7 @@ ghost use Rattle.lfm_mutex.specs.calls.RunGoesOn.{RunGoesOnFrom};
 ghost use Rattle.lfm_mutex.specs.calls.Sight.{LocksWaiting, sight};
 ghost use Rattle.lfm_mutex.specs.calls.Trails.{MakesAtMost};
 ghost use Rattle.lfm_mutex.specs.calls.Woken.{LooksAndWakesAsGranted};
-ghost use Rattle.lfm_monitor.specs.Belongs.{OfMonitor, PassLooksAndWakesAsGranted, PassRunGoesOnFrom, PassWokenAsGranted, cond_seats_of, mine_of, mutex_limits, pass_sight, seen_of, share_of, tries_in};
+ghost use Rattle.lfm_monitor.specs.Belongs.{OfMonitor, PassLooksAndWakesAsGranted, PassRunGoesOnFrom, PassWokenAsGranted, SameCondSeats, mine_of, mutex_limits, pass_sight, seen_of, share_of, tries_in};
 ghost use Rattle.lfm_monitor.specs.Journaled.{JournalFits, JournalFollows};
 ghost use Rattle.lfm_monitor.specs.Passes.{AskEnds, EnterEnds, ReceiveEnds, TryEnds};
 ghost use Rattle.lfm_monitor.specs.Steps.{ByLocking, ByLockingAs, BySteps};
@@ -44,7 +44,7 @@ impl<O: Object> Monitor<O> {
         ensures woken { PassLooksAndWakesAsGranted pass.old pass.new }
         ensures enters { EnterEnds (share_of self.now) (pass_sight pass.old) (pass_sight pass.new) (mine_of pass.old) (mine_of pass.new) result }
         ensures seen { seen_of pass.new ≡ seen_of pass.old }
-        ensures conditions { cond_seats_of pass.new ≡ cond_seats_of pass.old }
+        ensures conditions { SameCondSeats pass.old pass.new }
         ensures steps { ByLocking (mutex_limits self.now) (pass_sight pass.old) (pass_sight pass.new) result }
     {
         self.enter_by(rt, pass, Locking::InOrder)
@@ -63,7 +63,7 @@ impl<O: Object> Monitor<O> {
         ensures woken { PassWokenAsGranted pass.old pass.new }
         ensures enters { AskEnds (share_of self.now) (pass_sight pass.old) (pass_sight pass.new) (mine_of pass.old) (mine_of pass.new) result }
         ensures seen { seen_of pass.new ≡ seen_of pass.old }
-        ensures conditions { cond_seats_of pass.new ≡ cond_seats_of pass.old }
+        ensures conditions { SameCondSeats pass.old pass.new }
         ensures steps { BySteps (mutex_limits self.now) (λ x. Answered.Asked x) Call.Lock (pass_sight pass.old) (pass_sight pass.new) result }
     {
         if pass.lacks_entry(self.share) {
@@ -92,7 +92,7 @@ impl<O: Object> Monitor<O> {
         ensures woken { PassWokenAsGranted pass.old pass.new }
         ensures enters { ReceiveEnds (pass_sight pass.old) (pass_sight pass.new) (mine_of pass.old) (mine_of pass.new) result }
         ensures seen { seen_of pass.new ≡ seen_of pass.old }
-        ensures conditions { cond_seats_of pass.new ≡ cond_seats_of pass.old }
+        ensures conditions { SameCondSeats pass.old pass.new }
         ensures steps { BySteps (mutex_limits self.now) (λ x. Answered.Got x) Call.Receive (pass_sight pass.old) (pass_sight pass.new) result }
     {
         let received = self.mutex.try_receive(&mut pass.seat)?;
@@ -119,7 +119,7 @@ impl<O: Object> Monitor<O> {
         ensures woken { PassWokenAsGranted pass.old pass.new }
         ensures enters { TryEnds (share_of self.now) (pass_sight pass.old) (pass_sight pass.new) (mine_of pass.old) (mine_of pass.new) result }
         ensures seen { seen_of pass.new ≡ seen_of pass.old }
-        ensures conditions { cond_seats_of pass.new ≡ cond_seats_of pass.old }
+        ensures conditions { SameCondSeats pass.old pass.new }
         ensures steps { BySteps (mutex_limits self.now) (λ x. Answered.Locked x) Call.TryLock (pass_sight pass.old) (pass_sight pass.new) result }
         ensures bounded { MakesAtMost 6 (pass_sight pass.old) (pass_sight pass.new) }
     {
@@ -151,7 +151,7 @@ impl<O: Object> Monitor<O> {
         ensures woken { PassLooksAndWakesAsGranted pass.old pass.new }
         ensures enters { EnterEnds (share_of self.now) (pass_sight pass.old) (pass_sight pass.new) (mine_of pass.old) (mine_of pass.new) result }
         ensures seen { seen_of pass.new ≡ seen_of pass.old }
-        ensures conditions { cond_seats_of pass.new ≡ cond_seats_of pass.old }
+        ensures conditions { SameCondSeats pass.old pass.new }
         ensures steps { ByLockingAs (mutex_limits self.now) locking (tries_in self.now) (pass_sight pass.old) (pass_sight pass.new) result }
     {
         if pass.lacks_entry(self.share) {

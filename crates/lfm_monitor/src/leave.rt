@@ -2,7 +2,7 @@
 ghost use Rattle.lfm_protocol.specs.declared.answers.Answer.TheVariants as Answered;
 ghost use Rattle.lfm_protocol.specs.declared.answers.Call.{Call};
 ghost use Rattle.lfm_mutex.specs.calls.Trails.{MakesAtMost};
-ghost use Rattle.lfm_monitor.specs.Belongs.{OfMonitor, PassRunGoesOnFrom, PassWokenAsGranted, cond_seats_of, mine_of, mutex_limits, pass_sight, passes_of, seen_of};
+ghost use Rattle.lfm_monitor.specs.Belongs.{OfMonitor, PassRunGoesOnFrom, PassWokenAsGranted, SameCondSeats, mine_of, mutex_limits, pass_sight, passes_of, seen_of};
 ghost use Rattle.lfm_monitor.specs.Passes.{LeaveEnds};
 ghost use Rattle.lfm_monitor.specs.Steps.{BySteps};
 ghost use Rattle.std.specs.Prelude.{◌≡◌, ◌+◌};
@@ -26,7 +26,7 @@ impl<O: Object> Monitor<O> {
         ensures woken { PassWokenAsGranted pass.old pass.new }
         ensures leaves { LeaveEnds (pass_sight pass.old) (pass_sight pass.new) (seen_of pass.old) (seen_of pass.new) result }
         ensures mine { mine_of pass.new ≡ mine_of pass.old }
-        ensures conditions { cond_seats_of pass.new ≡ cond_seats_of pass.old }
+        ensures conditions { SameCondSeats pass.old pass.new }
         ensures steps { BySteps (mutex_limits self.now) (λ x. Answered.Unlocked x) Call.Unlock (pass_sight pass.old) (pass_sight pass.new) result }
         ensures bounded { MakesAtMost (passes_of self.now + 7) (pass_sight pass.old) (pass_sight pass.new) }
     {

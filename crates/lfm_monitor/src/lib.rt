@@ -4,6 +4,7 @@
 
 mod apply;
 mod apply_until;
+pub mod apply_until_for;
 mod close;
 mod debug;
 mod enter;
@@ -14,13 +15,20 @@ mod leave;
 pub mod monitor;
 mod open;
 pub mod pass;
+mod plain_open;
+mod plain_paces;
+mod plain_wait;
+mod plain_wake;
 mod run;
+mod timed_wait;
 mod wait;
 mod wake;
 mod write;
 
+pub use apply_until_for::LastReply;
 pub use hold::CriticalSection;
 pub use journaled::Journaled;
+pub use lfm_plain_condvar::Waited;
 pub use monitor::Monitor;
 pub use open::{MAX_CONDITIONS, MAX_ENTRIES};
 pub use pass::Pass;

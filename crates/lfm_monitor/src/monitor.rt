@@ -1,13 +1,16 @@
 //! The monitor, its pace, and the numbers of its conditions. It is made in `open`. Its calls are in `enter`, `apply`,
 //! `apply_until`, `leave`, `hold`, `run`, `wait`, `wake` and `close`.
-ghost use Rattle.std.specs.Prelude.{◌≡◌};
+ghost use Rattle.std.specs.Prelude.{◌≡◌, ◌<◌, vec_len};
 ghost use Rattle.lfm_mutex.specs.Belongs.{limits_of};
-ghost use Rattle.lfm_monitor.specs.CondSeats.{AreConditions, ArePaced};
+ghost use Rattle.lfm_monitor.specs.CondSeats.{AreConditions, ArePaced, SameButPaces};
+ghost use Rattle.lfm_monitor.specs.PlainSeats.{ArePlainConditions, ArePlainPaced, SamePlainButPaces};
 
 use crate::journaled::Journaled;
+use crate::plain_paces::set_plain_paces;
 use lfm_condvar::Condvar;
 use lfm_model::Object;
 use lfm_mutex::{Mutex, Pace};
+use lfm_plain_condvar::PlainCondvar;
 use std::snapshot::Snapshot;
 
 /// A guarded object with a journal: at most one pass at a time holds it, and applies ops to it. Its calls are made through a
@@ -42,15 +45,28 @@ pub struct Monitor<O: Object> {
     pub(crate) opening: Snapshot<O>,
     pub(crate) share: u64,
     pub(crate) conditions: Vec<Condvar>,
+    pub(crate) plain_conditions: Vec<PlainCondvar>,
     pub ghost shared: { (limits_of mutex).budget ≡ share },
     pub ghost wide: { AreConditions (limits_of mutex).seats conditions.items },
     pub ghost paced: { ArePaced mutex.pace conditions.items },
+    pub ghost plain_wide: { ArePlainConditions (limits_of mutex).seats plain_conditions.items },
+    pub ghost plain_paced: { ArePlainPaced mutex.pace plain_conditions.items },
+    pub ghost one_kind: { 0 < vec_len plain_conditions → vec_len conditions ≡ 0 },
+}
+
+/// Sets the pace of each of these conditions.
+fn set_paces(conditions: &mut Vec<Condvar>, pace: Pace)
+    ensures paced { ArePaced pace conditions.new.items }
+    ensures same { SameButPaces conditions.old.items conditions.new.items }
+{
+    'setting: for condition in conditions.iter_mut() {
+        condition.set_pace(pace);
+    }
 }
 
 impl<O: Object> Monitor<O> {
-    ghost use Rattle.std.specs.Prelude.{◌+◌, ◌<◌, MatchOption};
-    ghost use Rattle.lfm_monitor.specs.Belongs.{OfMonitor, conditions_in, conditions_of};
-    ghost use Rattle.lfm_monitor.specs.CondSeats.{SameButPaces};
+    ghost use Rattle.std.specs.Prelude.{◌+◌, MatchBool, MatchOption};
+    ghost use Rattle.lfm_monitor.specs.Belongs.{OfMonitor, conditions_in, conditions_of, plain_conditions_in, plain_conditions_of};
     ghost use Rattle.lfm_monitor.specs.Conditions.{IsMissing};
 
     /// Sets the pace of the monitor's mutex and of the list of each condition: how often a pass tries before it queues, and how
@@ -61,16 +77,35 @@ impl<O: Object> Monitor<O> {
     /// The passes of the monitor still belong to it. The pace is set before threads share the monitor.
     pub fn set_pace(&mut self, pace: Pace)
         ensures pace { (self.new.mutex.pace ≡ pace) × ArePaced pace (conditions_in self.new) }
+        ensures plain_pace { ArePlainPaced pace (plain_conditions_in self.new) }
         ensures same { (self.new.mutex.table ≡ self.old.mutex.table) × (self.new.mutex.limits ≡ self.old.mutex.limits) × (self.new.opening ≡ self.old.opening) × (self.new.share ≡ self.old.share) × SameButPaces (conditions_in self.old) (conditions_in self.new) }
+        ensures plain_same { SamePlainButPaces (plain_conditions_in self.old) (plain_conditions_in self.new) }
         ensures belongs { (p : _) → OfMonitor p self.old → OfMonitor p self.new }
     {
         self.mutex.set_pace(pace);
-        'setting: for condition in self.conditions.iter_mut() {
-            condition.set_pace(pace);
-        }
+        set_paces(&mut self.conditions, pace);
+        set_plain_paces(&mut self.plain_conditions, pace);
     }
 
-    /// The index of the condition with this number, which is one less, or None if there is no such condition.
+    /// Whether the conditions of the monitor are plain. A monitor without conditions is not.
+    pub(crate) fn is_plain(&self) -> bool
+        ensures { MatchBool result (0 < plain_conditions_of self.now) (plain_conditions_of self.now ≡ 0) }
+    {
+        self.plain_conditions.len() > 0
+    }
+
+    /// The index of the plain condition with this number, which is one less, or None if there is no such condition.
+    pub(crate) fn plain_index_of(&self, condition: u64) -> Option<usize>
+        ensures { MatchOption result (IsMissing (plain_conditions_of self.now) condition) (λ n. (condition ≡ n + 1) × (n < plain_conditions_of self.now)) }
+    {
+        if condition == 0 || condition > self.plain_conditions.len() as u64 {
+            return None;
+        }
+        Some((condition - 1) as usize)
+    }
+
+    /// The index of the condition with this number among those that are not plain, which is one less, or None if there is no
+    /// such condition.
     pub(crate) fn index_of(&self, condition: u64) -> Option<usize>
         ensures { MatchOption result (IsMissing (conditions_of self.now) condition) (λ n. (condition ≡ n + 1) × (n < conditions_of self.now)) }
     {

@@ -7,6 +7,7 @@ use crate::journaled::Journaled;
 use lfm_condvar::CondSeat;
 use lfm_model::{Object, SeatNo};
 use lfm_mutex::{Holder, Seat};
+use lfm_plain_condvar::PlainSeat;
 
 /// A thread's handle of a monitor. A pass may move between threads, and each call borrows it until the call returns. If it is
 /// dropped while it holds, no other pass can ever acquire the monitor again. If it is dropped while it sleeps, this is so after
@@ -24,6 +25,7 @@ pub struct Pass<O: Object> {
     pub(crate) seen: u64,
     pub(crate) mine: u64,
     pub(crate) cond_seats: Vec<CondSeat>,
+    pub(crate) plain_seats: Vec<PlainSeat>,
     pub ghost kept: { PassKept (sight seat) seen mine },
 }
 
@@ -35,13 +37,14 @@ impl<O: Object> Holder<Journaled<O>> for Pass<O> {
         &self.seat
     }
 
-    /// The seat of the mutex. What the pass knows of the journal, and its cond seats, are dropped.
+    /// The seat of the mutex. What the pass knows of the journal, and its seats of conditions, are dropped.
     fn into_seat(self) -> Seat<Journaled<O>> {
         let Pass {
             seat,
             seen: _,
             mine: _,
             cond_seats: _,
+            plain_seats: _,
         } = self;
         seat
     }

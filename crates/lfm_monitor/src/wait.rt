@@ -1,11 +1,13 @@
 //! How a pass waits on a condition: it leaves, sleeps until it is sent, and acquires the monitor again, which is written into
 //! the journal.
-ghost use Rattle.lfm_monitor.specs.Belongs.{OfMonitor, PassLooksAndWakesAsGranted, PassRunGoesOnFrom, cond_seats_of, conditions_of, mine_of, mutex_limits, pass_sight, passes_of, seen_of, share_of, tries_in};
-ghost use Rattle.lfm_monitor.specs.CondSeats.{CondsWokenAsGranted, condition_limits};
-ghost use Rattle.lfm_monitor.specs.Conditions.{MayWait, WaitEnds, WaitRefused, WaitReturns};
+ghost use Rattle.lfm_monitor.specs.Belongs.{OfMonitor, PassLooksAndWakesAsGranted, PassRunGoesOnFrom, cond_seats_of, mine_of, pass_sight, plain_conditions_of, plain_seats_of, seen_of};
+ghost use Rattle.lfm_monitor.specs.CondSeats.{CondsWokenAsGranted};
+ghost use Rattle.lfm_monitor.specs.Conditions.{MayWait, WaitRefused, WaitReturns};
+ghost use Rattle.lfm_monitor.specs.PlainSeats.{PlainSeatsWokenAsGranted};
+ghost use Rattle.lfm_monitor.specs.Tries.{WaitsOn, WaitsOnPlain};
 ghost use Rattle.lfm_mutex.specs.Belongs.{budget_of};
 ghost use Rattle.lfm_mutex.specs.calls.Sight.{sight};
-ghost use Rattle.std.specs.Prelude.{◌≡◌, MatchOption};
+ghost use Rattle.std.specs.Prelude.{◌≡◌, ◌<◌, MatchOption};
 
 use crate::monitor::Monitor;
 use crate::pass::Pass;
@@ -16,7 +18,7 @@ use std::sync::Wait;
 
 impl<O: Object> Pass<O> {
     /// Why the pass can't wait on any condition, if it can't: the refusal of its seat, or Spent if it has no entry left.
-    fn bars_wait(&self, share: u64) -> Option<Refusal>
+    pub(crate) fn bars_wait(&self, share: u64) -> Option<Refusal>
         requires { budget_of self.now.seat ≡ share }
         ensures { MatchOption result (MayWait share (sight self.now.seat) self.now.mine) (λ r. WaitRefused share (sight self.now.seat) self.now.mine r) }
     {
@@ -44,6 +46,10 @@ impl<O: Object> Monitor<O> {
     /// one take. It allocates no memory, and sleeps. If no other pass waits on the condition when this one is added to its
     /// list, and at most one other holds or wants the monitor, it polls before it sleeps, as often as the pace says. Otherwise
     /// it sleeps at once. A wait wakes the pass that it grants the monitor, if any, after it has released the list.
+    ///
+    /// On a plain condition a wake notifies the pass, which then acquires the monitor as in `hold`. How many others hold or
+    /// want the monitor makes no difference to its polls. The wait unlocks the monitor after it has released the list. The
+    /// contract has Busy, but it is not reached.
     pub fn wait<R: Wait>(
         &self,
         rt: &R,
@@ -56,7 +62,32 @@ impl<O: Object> Monitor<O> {
         ensures run { PassRunGoesOnFrom pass.old pass.new }
         ensures woken { PassLooksAndWakesAsGranted pass.old pass.new }
         ensures cond_woken { CondsWokenAsGranted (cond_seats_of pass.old) (cond_seats_of pass.new) }
-        ensures waits { WaitEnds (mutex_limits self.now) (condition_limits (passes_of self.now)) (tries_in self.now) (share_of self.now) (conditions_of self.now) condition (cond_seats_of pass.old) (cond_seats_of pass.new) (pass_sight pass.old) (pass_sight pass.new) (mine_of pass.old) result }
+        ensures plain_woken { PlainSeatsWokenAsGranted (plain_seats_of pass.old) (plain_seats_of pass.new) }
+        ensures waits { plain_conditions_of self.now ≡ 0 → WaitsOn self.now condition pass.old pass.new result }
+        ensures plain_waits { 0 < plain_conditions_of self.now → WaitsOnPlain self.now condition pass.old pass.new result }
+        ensures returns { WaitReturns (pass_sight pass.old) (pass_sight pass.new) (seen_of pass.old) (seen_of pass.new) (mine_of pass.old) (mine_of pass.new) result }
+    {
+        if self.is_plain() {
+            return self.wait_until_notified(rt, pass, condition);
+        }
+        self.wait_until_sent(rt, pass, condition)
+    }
+
+    /// `wait` on a condition that is not plain.
+    fn wait_until_sent<R: Wait>(
+        &self,
+        rt: &R,
+        pass: &mut Pass<O>,
+        condition: u64,
+    ) -> Result<(How, u64), Refusal>
+        requires belongs { OfMonitor pass.old self.now }
+        ensures belongs { OfMonitor pass.new self.now }
+        ensures number { (pass_sight pass.new).number ≡ (pass_sight pass.old).number }
+        ensures run { PassRunGoesOnFrom pass.old pass.new }
+        ensures woken { PassLooksAndWakesAsGranted pass.old pass.new }
+        ensures cond_woken { CondsWokenAsGranted (cond_seats_of pass.old) (cond_seats_of pass.new) }
+        ensures plain { plain_seats_of pass.new ≡ plain_seats_of pass.old }
+        ensures waits { WaitsOn self.now condition pass.old pass.new result }
         ensures returns { WaitReturns (pass_sight pass.old) (pass_sight pass.new) (seen_of pass.old) (seen_of pass.new) (mine_of pass.old) (mine_of pass.new) result }
     {
         // The condvar's wait checks the seat too. It is checked here because these refusals come before that of a missing

@@ -1,9 +1,11 @@
 //! How a pass wakes those that wait on a condition.
 ghost use Rattle.lfm_condvar.specs.Wakes.{SendsBy};
-ghost use Rattle.lfm_monitor.specs.Belongs.{OfMonitor, PassRunGoesOnFrom, PassWokenAsGranted, cond_seats_of, conditions_of, mine_of, mutex_limits, pass_sight, passes_of, seen_of, tries_in};
+ghost use Rattle.lfm_monitor.specs.Belongs.{OfMonitor, PassRunGoesOnFrom, PassWokenAsGranted, cond_seats_of, conditions_of, mine_of, mutex_limits, pass_sight, passes_of, plain_conditions_of, plain_seats_of, seen_of, tries_in};
 ghost use Rattle.lfm_monitor.specs.CondSeats.{CondsWokenAsGranted, condition_limits};
 ghost use Rattle.lfm_monitor.specs.Conditions.{OnlySends, WakeAllEnds, WakeOneEnds};
-ghost use Rattle.std.specs.Prelude.{◌≡◌};
+ghost use Rattle.lfm_monitor.specs.PlainConditions.{PlainWakeAllEnds, PlainWakeOneEnds};
+ghost use Rattle.lfm_monitor.specs.PlainSeats.{PlainSeatsWokenAsGranted};
+ghost use Rattle.std.specs.Prelude.{◌≡◌, ◌<◌};
 
 use crate::monitor::Monitor;
 use crate::pass::Pass;
@@ -21,6 +23,8 @@ impl<O: Object> Monitor<O> {
     ///
     /// A wake costs the pass's seat of this condition one take, and allocates no memory. It may sleep until it has the
     /// condition's list, and wakes the pass that it grants the monitor, if any, after it has released the list.
+    ///
+    /// On a plain condition it notifies that pass and sends nobody, and is never refused as NotWaiting.
     pub fn wake_one<R: Wait>(
         &self,
         rt: &R,
@@ -33,6 +37,33 @@ impl<O: Object> Monitor<O> {
         ensures run { PassRunGoesOnFrom pass.old pass.new }
         ensures woken { PassWokenAsGranted pass.old pass.new }
         ensures cond_woken { CondsWokenAsGranted (cond_seats_of pass.old) (cond_seats_of pass.new) }
+        ensures plain_woken { PlainSeatsWokenAsGranted (plain_seats_of pass.old) (plain_seats_of pass.new) }
+        ensures wakes { plain_conditions_of self.now ≡ 0 → WakeOneEnds (passes_of self.now) (condition_limits (passes_of self.now)) (tries_in self.now) (conditions_of self.now) condition (cond_seats_of pass.old) (cond_seats_of pass.new) (pass_sight pass.old) (pass_sight pass.new) result }
+        ensures plain_wakes { 0 < plain_conditions_of self.now → PlainWakeOneEnds (condition_limits (passes_of self.now)) (tries_in self.now) (plain_conditions_of self.now) condition (plain_seats_of pass.old) (plain_seats_of pass.new) (pass_sight pass.old) (pass_sight pass.new) result }
+        ensures sends { OnlySends (pass_sight pass.old) (pass_sight pass.new) }
+        ensures steps { SendsBy (mutex_limits self.now) (pass_sight pass.old) (pass_sight pass.new) result }
+        ensures same { (seen_of pass.new ≡ seen_of pass.old) × (mine_of pass.new ≡ mine_of pass.old) }
+    {
+        if self.is_plain() {
+            return self.notify_one(rt, pass, condition);
+        }
+        self.send_one(rt, pass, condition)
+    }
+
+    /// `wake_one` of a condition that is not plain.
+    fn send_one<R: Wait>(
+        &self,
+        rt: &R,
+        pass: &mut Pass<O>,
+        condition: u64,
+    ) -> Result<Option<(SeatNo, u64)>, Refusal>
+        requires belongs { OfMonitor pass.old self.now }
+        ensures belongs { OfMonitor pass.new self.now }
+        ensures number { (pass_sight pass.new).number ≡ (pass_sight pass.old).number }
+        ensures run { PassRunGoesOnFrom pass.old pass.new }
+        ensures woken { PassWokenAsGranted pass.old pass.new }
+        ensures cond_woken { CondsWokenAsGranted (cond_seats_of pass.old) (cond_seats_of pass.new) }
+        ensures plain { plain_seats_of pass.new ≡ plain_seats_of pass.old }
         ensures wakes { WakeOneEnds (passes_of self.now) (condition_limits (passes_of self.now)) (tries_in self.now) (conditions_of self.now) condition (cond_seats_of pass.old) (cond_seats_of pass.new) (pass_sight pass.old) (pass_sight pass.new) result }
         ensures sends { OnlySends (pass_sight pass.old) (pass_sight pass.new) }
         ensures steps { SendsBy (mutex_limits self.now) (pass_sight pass.old) (pass_sight pass.new) result }
@@ -59,6 +90,8 @@ impl<O: Object> Monitor<O> {
     /// It costs the pass's seat of this condition one take, however many are sent, and allocates no memory. It may sleep until
     /// it has the condition's list, and wakes the passes that it grants the monitor, if any. The last of these is woken after
     /// the list is released.
+    ///
+    /// On plain conditions it notifies them and sends nobody, while it has the list, and is never refused as NotWaiting.
     pub fn wake_all<R: Wait>(
         &self,
         rt: &R,
@@ -71,6 +104,28 @@ impl<O: Object> Monitor<O> {
         ensures run { PassRunGoesOnFrom pass.old pass.new }
         ensures woken { PassWokenAsGranted pass.old pass.new }
         ensures cond_woken { CondsWokenAsGranted (cond_seats_of pass.old) (cond_seats_of pass.new) }
+        ensures plain_woken { PlainSeatsWokenAsGranted (plain_seats_of pass.old) (plain_seats_of pass.new) }
+        ensures wakes { plain_conditions_of self.now ≡ 0 → WakeAllEnds (passes_of self.now) (condition_limits (passes_of self.now)) (tries_in self.now) (conditions_of self.now) condition (cond_seats_of pass.old) (cond_seats_of pass.new) (pass_sight pass.old) (pass_sight pass.new) result }
+        ensures plain_wakes { 0 < plain_conditions_of self.now → PlainWakeAllEnds (condition_limits (passes_of self.now)) (tries_in self.now) (plain_conditions_of self.now) condition (plain_seats_of pass.old) (plain_seats_of pass.new) (pass_sight pass.old) (pass_sight pass.new) result }
+        ensures sends { OnlySends (pass_sight pass.old) (pass_sight pass.new) }
+        ensures steps { SendsBy (mutex_limits self.now) (pass_sight pass.old) (pass_sight pass.new) result }
+        ensures same { (seen_of pass.new ≡ seen_of pass.old) × (mine_of pass.new ≡ mine_of pass.old) }
+    {
+        if self.is_plain() {
+            return self.notify_all(rt, pass, condition);
+        }
+        self.send_all(rt, pass, condition)
+    }
+
+    /// `wake_all` of a condition that is not plain.
+    fn send_all<R: Wait>(&self, rt: &R, pass: &mut Pass<O>, condition: u64) -> Result<u64, Refusal>
+        requires belongs { OfMonitor pass.old self.now }
+        ensures belongs { OfMonitor pass.new self.now }
+        ensures number { (pass_sight pass.new).number ≡ (pass_sight pass.old).number }
+        ensures run { PassRunGoesOnFrom pass.old pass.new }
+        ensures woken { PassWokenAsGranted pass.old pass.new }
+        ensures cond_woken { CondsWokenAsGranted (cond_seats_of pass.old) (cond_seats_of pass.new) }
+        ensures plain { plain_seats_of pass.new ≡ plain_seats_of pass.old }
         ensures wakes { WakeAllEnds (passes_of self.now) (condition_limits (passes_of self.now)) (tries_in self.now) (conditions_of self.now) condition (cond_seats_of pass.old) (cond_seats_of pass.new) (pass_sight pass.old) (pass_sight pass.new) result }
         ensures sends { OnlySends (pass_sight pass.old) (pass_sight pass.new) }
         ensures steps { SendsBy (mutex_limits self.now) (pass_sight pass.old) (pass_sight pass.new) result }

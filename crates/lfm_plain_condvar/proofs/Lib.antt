@@ -3,6 +3,7 @@ pub mod Closing
 pub mod Ends
 pub mod Followed
 pub mod ListFacts
+pub mod ListedWaits
 pub mod Modelled
 pub mod OneHold
 pub mod Order

@@ -21,8 +21,8 @@ module _ {T : Type 0} (follows : ℕ → T → T → Type 0) (fits : T → ℕ �
 
   -- after a wait the depth is as it was before
   pub as_deep : (ticket : ℕ) (c d : Sight Waiters) (s t : Sight T) → WaitEnds follows fits user own tries user_tries c d s t (Ok ticket) → t.depth ≡ s.depth
-  as_deep ticket c d s t h = h.1.2.1.4 ∙ sym h.1.1.0.1
+  as_deep ticket c d s t h = h.1.2.1.0.4 ∙ sym h.1.1.0.1
 
   -- after a wait the seat may leave the value as it found it
   pub may_again : (ticket : ℕ) (c d : Sight Waiters) (s t : Sight T) → FoundMayBeLeft follows fits → WaitEnds follows fits user own tries user_tries c d s t (Ok ticket) → MayRelease follows fits t
-  may_again ticket c d s t keeps h = λ _. let back = h.1.2 in keeps back.0 h.1.0 t back.1.8 back.1.3
+  may_again ticket c d s t keeps h = λ _. let back = h.1.2 in keeps back.0 h.1.0 t back.1.0.8 back.1.0.3

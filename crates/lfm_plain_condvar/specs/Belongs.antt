@@ -11,7 +11,7 @@ use Rattle.lfm_plain_condvar.specs.declared.parkers.Waker.{Waker}
 use Rattle.lfm_plain_condvar.specs.declared.plain_seat.PlainSeat.{PlainSeat}
 use Rattle.lfm_plain_condvar.specs.declared.waiters.Waiter.{Waiter}
 use Rattle.lfm_plain_condvar.specs.declared.waiters.Waiters.{Waiters}
-use Rattle.lfm_plain_condvar.specs.declared.wake.OwedWakeUp.{OwedWakeUp}
+use Rattle.lfm_plain_condvar.specs.declared.owed.OwedWakeUp.{OwedWakeUp}
 use Rattle.lfm_plain_condvar.specs.Holds.{SeatKept}
 
 -- its parkers, and how many seats it has

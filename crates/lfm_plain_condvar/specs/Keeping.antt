@@ -1,5 +1,5 @@
 -- How the list is changed, by a call and by other seats.
-use Rattle.std.specs.Prelude.{◌≡◌, ◌≢◌, ℕ, ◌+◌, ◌<◌, ◌≤◌, List, [], ◌∷◌, ◌++◌, Option, Some, None, Result, Ok, Err, length, remove}
+use Rattle.std.specs.Prelude.{◌≡◌, ◌≢◌, ◌⊎◌, ℕ, ◌+◌, ◌^◌, ◌<◌, ◌≤◌, List, [], ◌∷◌, ◌++◌, Option, Some, None, Result, Ok, Err, length, remove}
 use mathlib.Core.Option.{some}
 use lib.ListN.{get_elem?}
 use Rattle.lfm_plain_condvar.specs.declared.parkers.Waker.{Waker}
@@ -64,10 +64,14 @@ WaitersFollow s = GoesOn (λ k. k ≡ s)
 abbrev pub Since : ℕ → Waiters → Waiters → Type 0
 Since s = GoesOn (λ k. k ≢ s)
 
--- how an append ends
+-- as many wait as there are seats, or no ticket is left
+abbrev pub IsFull : Waiters → Type 0
+IsFull v = (v.seats ≤ length v.list.items) ⊎ (2 ^ 64 ≤ v.added + 1)
+
+-- how an append ends: the waker is handed back only if nobody can be added
 abbrev pub Adds : Waker → Waiters → Waiters → Result Enlisted Waker → Type 0
 Adds k v w (Ok e) = Puts k e.ticket v w × (e.ahead ≡ length v.list.items)
-Adds k v w (Err back) = (back ≡ k) × (w ≡ v)
+Adds k v w (Err back) = (back ≡ k) × (w ≡ v) × IsFull v
 
 -- how a waiter whose time is over leaves: it was taken out, with its waker, or it was not in the list any more
 abbrev pub Leaves : ℕ → ℕ → Waiters → Waiters → Option Waiter → Type 0

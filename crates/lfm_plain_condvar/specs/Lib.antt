@@ -1,6 +1,7 @@
 pub mod Belongs
 pub mod Holds
 pub mod Keeping
+pub mod ListedWaits
 pub mod Lists
 pub mod Modelled
 pub mod Order

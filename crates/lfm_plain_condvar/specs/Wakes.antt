@@ -7,7 +7,7 @@ use Rattle.lfm_mutex.specs.calls.Sight.{sight}
 use Rattle.lfm_plain_condvar.specs.declared.plain_seat.PlainSeat.{PlainSeat}
 use Rattle.lfm_plain_condvar.specs.declared.waiters.Waiter.{Waiter}
 use Rattle.lfm_plain_condvar.specs.declared.waiters.Waiters.{Waiters}
-use Rattle.lfm_plain_condvar.specs.declared.wake.OwedWakeUp.{OwedWakeUp}
+use Rattle.lfm_plain_condvar.specs.declared.owed.OwedWakeUp.{OwedWakeUp}
 use Rattle.lfm_plain_condvar.specs.Belongs.{NotifiesNobody, notified_by, numbers_of}
 use Rattle.lfm_plain_condvar.specs.Keeping.{TakesFirst}
 use Rattle.lfm_plain_condvar.specs.Waits.{OneHold}
@@ -39,6 +39,19 @@ abbrev pub WakeOneEnds : Limits → ℕ → PlainSeat → PlainSeat → Result (
 WakeOneEnds own tries c d (Ok None) = FindsNone own tries c d × NotifiesNobody c d
 WakeOneEnds own tries c d (Ok (Some ticket)) = (x : Waiter) × (x.ticket ≡ ticket) × TakesInOneHold own tries c d (x ∷ []) × NotifiesThese (x ∷ []) c d
 WakeOneEnds own tries c d (Err r) = WakeRefused own c d r
+
+-- the same for wake_one_with_number, which also returns the number of the plain seat that was woken
+abbrev pub WakeOneWithNumberEnds : Limits → ℕ → PlainSeat → PlainSeat → Result (Option (ℕ × ℕ)) Refusal → Type 0
+WakeOneWithNumberEnds own tries c d (Ok None) = FindsNone own tries c d × NotifiesNobody c d
+WakeOneWithNumberEnds own tries c d (Ok (Some p)) =
+    (x : Waiter) × (x.waker.number ≡ p.0) × (x.ticket ≡ p.1) × TakesInOneHold own tries c d (x ∷ []) × NotifiesThese (x ∷ []) c d
+WakeOneWithNumberEnds own tries c d (Err r) = WakeRefused own c d r
+
+-- the ticket that a wake returned, without the number of the seat
+abbrev pub ticket_in : Result (Option (ℕ × ℕ)) Refusal → Result (Option ℕ) Refusal
+ticket_in (Ok None) = Ok None
+ticket_in (Ok (Some p)) = Ok (Some p.1)
+ticket_in (Err r) = Err r
 
 -- all were taken out of the list in one hold, and notified, the oldest first
 abbrev pub WakeAllEnds : Limits → ℕ → PlainSeat → PlainSeat → Result ℕ Refusal → Type 0

@@ -15,6 +15,7 @@ mod take_out;
 
 use crate::condvar::PlainCondvar;
 use crate::waiters::Waiters;
+pub(crate) use append::ListedWait;
 use lfm_model::Locked;
 use lfm_mutex::{Mutex, Seat};
 use std::sync::Wait;

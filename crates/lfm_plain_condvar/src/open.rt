@@ -12,8 +12,9 @@ ghost use Rattle.lfm_plain_condvar.specs.Belongs.{IsNewSeat, OfPlain, notified_b
 ghost use Rattle.lfm_plain_condvar.specs.Keeping.{IsNew};
 
 use crate::condvar::PlainCondvar;
-use crate::parkers::Parkers;
+use crate::parkers::{FirstWakers, Parkers};
 use crate::plain_seat::PlainSeat;
+use crate::polls::PollCredit;
 use crate::waiters::Waiters;
 use lfm_model::NewFault;
 use lfm_mutex::{Mutex, Seat};
@@ -22,16 +23,18 @@ use std::alloc::Global;
 
 /// A plain seat around a seat of the inner mutex, with the waker of its parker. It returns None if the waker is not in the
 /// table. It is there: a new parker is notified, and no other seat takes its waker.
-fn with_waker(parkers: &Parkers, seat: Seat<Waiters>) -> Option<PlainSeat>
+fn with_waker(parkers: &Parkers, first: &FirstWakers, seat: Seat<Waiters>) -> Option<PlainSeat>
     requires number { (sight seat).number ≤ parkers.now.seats }
+    requires first { first.now.of.seat.table_id ≡ parkers.now.table.shared.table_id }
     ensures { IfSome result (λ p. IsNewSeat p seat parkers.now) }
 {
     let number = seat.number().get();
-    match parkers.take_if_notified(number) {
+    match parkers.first_waker(number, first) {
         Some(waker) => Some(PlainSeat {
             seat,
             waker: Some(waker),
             log: parkers.new_log(),
+            credit: PollCredit::NEW,
         }),
         None => None,
     }
@@ -40,17 +43,19 @@ fn with_waker(parkers: &Parkers, seat: Seat<Waiters>) -> Option<PlainSeat>
 /// Makes each seat of an inner mutex a plain seat.
 fn with_wakers(
     parkers: &Parkers,
+    first: &FirstWakers,
     seats: Vec<Seat<Waiters>>,
     mut plain_seats: Vec<PlainSeat>,
 ) -> Option<Vec<PlainSeat>>
     requires room { vec_len seats ≤ vec_capacity plain_seats }
     requires none { plain_seats.items ≡ [] }
+    requires first { first.now.of.seat.table_id ≡ parkers.now.table.shared.table_id }
     requires numbers { (j : ℕ) (s : _) → get_elem? seats.items j ≡ some s → (sight s).number ≤ parkers.now.seats }
     ensures len { IfSome result (λ v. vec_len v ≡ vec_len seats) }
     ensures wraps { IfSome result (λ v. (j : ℕ) (p : _) → get_elem? v.items j ≡ some p → (get_elem? seats.items j ≡ some p.seat) × IsNewSeat p p.seat parkers.now) }
 {
     'wrapped: for seat in seats {
-        let Some(plain_seat) = with_waker(parkers, seat) else {
+        let Some(plain_seat) = with_waker(parkers, first, seat) else {
             return None;
         };
         plain_seats.push_reserved(plain_seat);
@@ -85,14 +90,14 @@ impl PlainCondvar {
         let Ok(plain_seats) = Vec::with_capacity(alloc, seats as usize) else {
             return Err(NewFault::Memory);
         };
-        let Ok((parkers, name)) = Parkers::new(alloc, seats) else {
+        let Ok((parkers, name, first)) = Parkers::new(alloc, seats) else {
             return Err(NewFault::Memory);
         };
         let Ok(waiters) = Waiters::empty(alloc, seats, name) else {
             return Err(NewFault::Memory);
         };
         let (inner, inner_seats) = Mutex::new(alloc, seats, budget, waiters)?;
-        let Some(plain_seats) = with_wakers(&parkers, inner_seats, plain_seats) else {
+        let Some(plain_seats) = with_wakers(&parkers, &first, inner_seats, plain_seats) else {
             return Err(NewFault::Memory);
         };
         Ok((PlainCondvar { inner, parkers }, plain_seats))

@@ -8,7 +8,10 @@
 ghost use Rattle.std.specs.Prelude.{◌≡◌, ◌+◌, ◌<◌, ◌≤◌, ℕ, [], ◌∷◌, ◌++◌, IfOk, IfSome};
 ghost use Rattle.lfm_plain_condvar.specs.Parkers.{HasEachOnce, IsWakerOf, Notifies, ParkersHold, Retires, StartsWithNone, TakesIfNotified, no_notices, times, with_those};
 
+use crate::polls::PollCredit;
+use crate::unlocked_wait::UnlockedWait;
 use atomic_table::{Join, Play, Seat, Table, TableRule};
+use lfm_mutex::Kept;
 use lfm_mutex::deadlines::{Deadline, time_left};
 use std::alloc::{AllocError, Global};
 use std::collections::LinkedList;
@@ -92,7 +95,7 @@ impl Join<Notices> for NoticesJoined {
 /// The right to notify one parker. There is only one waker for each parker.
 #[derive(Drop)]
 pub struct Waker {
-    pub(crate) seat: Seat<(), Notices>,
+    seat: Seat<(), Notices>,
     pub(crate) number: u64,
     pub ghost its: { IsWakerOf number seat.me },
 }
@@ -101,26 +104,54 @@ pub struct Waker {
 /// table that notifies.
 #[derive(Drop)]
 pub struct NoticeLog {
-    pub(crate) seat: Seat<(), Notices>,
+    seat: Seat<(), Notices>,
     pub ghost free: { seat.me.1 ≡ [] },
 }
 
 /// The wakers of a condvar that is being closed. It takes no bytes.
 #[derive(Drop)]
 pub(crate) struct GatheredWakers {
-    pub(crate) seat: Seat<(), Notices>,
+    seat: Seat<(), Notices>,
+}
+
+/// The right to take the wakers of new parkers out of the table. Only `Parkers::new` gives it. It takes no bytes.
+#[derive(Drop)]
+pub(crate) struct FirstWakers {
+    of: NoticeLog,
+}
+
+/// Among which numbers those parkers are whose threads were parked when they were notified, and are still to be woken. If
+/// there is none, `first` is above `last`.
+#[derive(Clone, Copy)]
+pub(crate) struct ParkedRange {
+    first: u64,
+    last: u64,
+}
+
+impl ParkedRange {
+    /// No parker.
+    pub(crate) const NONE: ParkedRange = ParkedRange {
+        first: u64::MAX,
+        last: 0,
+    };
+
+    /// Adds a parker.
+    fn add(&mut self, number: u64) {
+        self.first = self.first.min(number);
+        self.last = self.last.max(number);
+    }
 }
 
 /// Names the parkers in contracts. It takes no bytes.
 #[derive(Drop)]
 pub struct ParkersName {
-    pub(crate) root: Seat<(), Notices>,
+    root: Seat<(), Notices>,
 }
 
 /// The parkers of all seats. Word 0 is unused.
 #[derive(Drop)]
 pub struct Parkers {
-    pub(crate) table: Table<(), Notices, (), ParkerRule, Global>,
+    table: Table<(), Notices, (), ParkerRule, Global>,
     pub(crate) seats: u64,
     pub ghost words: { table.shared.table_id.words ≡ seats + 1 },
     pub ghost slots: { table.shared.table_id.slots ≡ seats + 1 },
@@ -128,15 +159,22 @@ pub struct Parkers {
 
 impl Parkers {
     /// Parkers for this number of seats. Each starts as notified, so its waker is in the table. The second value names them
-    /// in contracts. It allocates three times.
-    pub(crate) fn new(alloc: Global, seats: u64) -> Result<(Parkers, ParkersName), AllocError>
+    /// in contracts, and the third is needed to take their wakers. It allocates three times.
+    pub(crate) fn new(
+        alloc: Global,
+        seats: u64,
+    ) -> Result<(Parkers, ParkersName, FirstWakers), AllocError>
         requires { seats ≤ 4095 }
-        ensures { IfOk result (λ p. (p.0.seats ≡ seats) × (p.1.root.table_id ≡ p.0.table.shared.table_id)) }
+        ensures { IfOk result (λ p. (p.0.seats ≡ seats) × (p.1.root.table_id ≡ p.0.table.shared.table_id) × (p.2.of.seat.table_id ≡ p.0.table.shared.table_id)) }
     {
         let words = Vec::from_elem(alloc, NOTIFIED, seats as usize + 1)?;
         let wakers = Vec::from_elem(alloc, (), seats as usize + 1)?;
         match Table::new(alloc, words.as_slice(), wakers, &()) {
-            Ok((table, root)) => Ok((Parkers { table, seats }, ParkersName { root })),
+            Ok((table, root)) => {
+                let parkers = Parkers { table, seats };
+                let of = parkers.new_log();
+                Ok((parkers, ParkersName { root }, FirstWakers { of }))
+            }
             Err(_refused) => Err(AllocError),
         }
     }
@@ -166,7 +204,7 @@ impl Parkers {
     }
 
     /// The waker of a parker that was notified, whose word is then EMPTY. A parker that was not notified is only read.
-    pub(crate) fn take_if_notified(&self, number: u64) -> Option<Waker>
+    fn take_if_notified(&self, number: u64) -> Option<Waker>
         requires { number ≤ self.now.seats }
         ensures { IfSome result (λ w. (w.number ≡ number) × (w.seat.table_id ≡ self.now.table.shared.table_id)) }
     {
@@ -176,9 +214,18 @@ impl Parkers {
         self.take(number, EMPTY)
     }
 
-    /// Notifies the parker of this waker, and wakes its thread if that is parked. It makes one swap, one load, and a system
-    /// call if the thread is parked.
-    pub(crate) fn notify(&self, waker: Waker, log: &mut NoticeLog)
+    /// The waker of a new parker, if it is in the table. A caller that has no `FirstWakers` takes its waker only by `park` or
+    /// `park_until`.
+    pub(crate) fn first_waker(&self, number: u64, _first: &FirstWakers) -> Option<Waker>
+        requires { (number ≤ self.now.seats) × (_first.now.of.seat.table_id ≡ self.now.table.shared.table_id) }
+        ensures { IfSome result (λ w. (w.number ≡ number) × (w.seat.table_id ≡ self.now.table.shared.table_id)) }
+    {
+        self.take_if_notified(number)
+    }
+
+    /// Notifies the parker of this waker, and returns whether its thread is parked and has to be woken. It makes one swap
+    /// and one load.
+    fn set_notified(&self, waker: Waker, log: &mut NoticeLog) -> bool
         requires waker { (waker.number ≤ self.now.seats) × (waker.seat.table_id ≡ self.now.table.shared.table_id) }
         requires log { log.old.seat.table_id ≡ self.now.table.shared.table_id }
         ensures log { log.new.seat.table_id ≡ log.old.seat.table_id }
@@ -189,12 +236,54 @@ impl Parkers {
             .table
             .shared
             .swap::<ParkerNotified>(&mut seat, number as usize, NOTIFIED);
-        if found == PARKED {
-            self.table.shared.wake_one(number as usize);
-        }
         self.table
             .shared
             .join_seat::<NoticesJoined>(&mut log.seat, seat);
+        found == PARKED
+    }
+
+    /// Notifies the parker of this waker, and wakes its thread if that is parked. It makes one swap, one load, and a system
+    /// call if the thread is parked.
+    pub(crate) fn notify(&self, waker: Waker, log: &mut NoticeLog)
+        requires waker { (waker.number ≤ self.now.seats) × (waker.seat.table_id ≡ self.now.table.shared.table_id) }
+        requires log { log.old.seat.table_id ≡ self.now.table.shared.table_id }
+        ensures log { log.new.seat.table_id ≡ log.old.seat.table_id }
+        ensures notified { log.new.seat.me.0.parkers ≡ log.old.seat.me.0.parkers ++ waker.number ∷ [] }
+    {
+        let number = waker.number;
+        if self.set_notified(waker, log) {
+            self.table.shared.wake_one(number as usize);
+        }
+    }
+
+    /// Notifies the parker of this waker. If its thread is parked, it is added to `parked`, and `wake_parked` is to wake it.
+    pub(crate) fn notify_before_wake(
+        &self,
+        waker: Waker,
+        log: &mut NoticeLog,
+        parked: &mut ParkedRange,
+    )
+        requires waker { (waker.number ≤ self.now.seats) × (waker.seat.table_id ≡ self.now.table.shared.table_id) }
+        requires log { log.old.seat.table_id ≡ self.now.table.shared.table_id }
+        ensures log { log.new.seat.table_id ≡ log.old.seat.table_id }
+        ensures notified { log.new.seat.me.0.parkers ≡ log.old.seat.me.0.parkers ++ waker.number ∷ [] }
+    {
+        let number = waker.number;
+        if self.set_notified(waker, log) {
+            parked.add(number);
+        }
+    }
+
+    /// Wakes the threads of these parkers that were notified and have not gone on since. It may wake a thread that another
+    /// seat has notified, which only goes on earlier. It makes a load for each number of the range, and a system call for
+    /// each thread.
+    pub(crate) fn wake_parked(&self, parked: ParkedRange) {
+        let last = parked.last.min(self.seats);
+        for number in parked.first..=last {
+            if self.table.shared.peek(number as usize) >= NOTIFIED {
+                self.table.shared.wake_one(number as usize);
+            }
+        }
     }
 
     /// Polls the parker at most this often, with pauses, for a thread that may be notified soon.
@@ -213,23 +302,45 @@ impl Parkers {
         None
     }
 
-    /// Polls, and then says that the thread is about to park. Returns the waker if the parker was notified before.
-    fn poll_and_announce(&self, number: u64, polls: u32) -> Option<Waker>
+    /// Polls at most this often, or not at all if the credit says so, and tells the credit whether the parker was notified
+    /// meanwhile.
+    fn poll_with_credit(&self, number: u64, polls: u32, credit: &mut PollCredit) -> Option<Waker>
         requires { number ≤ self.now.seats }
         ensures { IfSome result (λ w. (w.number ≡ number) × (w.seat.table_id ≡ self.now.table.shared.table_id)) }
     {
-        match self.poll(number, polls) {
+        if polls == 0 || !credit.allows() {
+            return None;
+        }
+        let found = self.poll(number, polls);
+        credit.tell(found.is_some());
+        found
+    }
+
+    /// Polls, and then says that the thread is about to park. Returns the waker if the parker was notified before.
+    fn poll_and_announce(&self, number: u64, polls: u32, credit: &mut PollCredit) -> Option<Waker>
+        requires { number ≤ self.now.seats }
+        ensures { IfSome result (λ w. (w.number ≡ number) × (w.seat.table_id ≡ self.now.table.shared.table_id)) }
+    {
+        match self.poll_with_credit(number, polls, credit) {
             Some(waker) => Some(waker),
             None => self.take(number, PARKED),
         }
     }
 
-    /// Parks until the parker is notified, and takes its waker. The thread polls at most `polls` times before it parks.
-    pub(crate) fn park<R: Wait>(&self, rt: &R, number: u64, polls: u32) -> Waker
-        requires { number ≤ self.now.seats }
-        ensures { (result.number ≡ number) × (result.seat.table_id ≡ self.now.table.shared.table_id) }
+    /// Parks until the parker of the seat that waits is notified, and takes its waker. The thread polls at most `polls` times
+    /// before it parks, if the credit allows it.
+    pub(crate) fn park<T: Kept, R: Wait>(
+        &self,
+        rt: &R,
+        wait: &UnlockedWait<T>,
+        polls: u32,
+        credit: &mut PollCredit,
+    ) -> Waker
+        requires { wait.now.listed.number ≤ self.now.seats }
+        ensures { (result.number ≡ wait.now.listed.number) × (result.seat.table_id ≡ self.now.table.shared.table_id) }
     {
-        if let Some(waker) = self.poll_and_announce(number, polls) {
+        let number = wait.number();
+        if let Some(waker) = self.poll_and_announce(number, polls, credit) {
             return waker;
         }
         for _ in rt.forever() {
@@ -243,17 +354,19 @@ impl Parkers {
 
     /// `park` until the deadline. Returns None if the parker was not notified by then. If the system ends the sleep for no
     /// reason, the thread parks again for the time that is left.
-    pub(crate) fn park_until<R: Wait + Clock>(
+    pub(crate) fn park_until<T: Kept, R: Wait + Clock>(
         &self,
         rt: &R,
-        number: u64,
+        wait: &UnlockedWait<T>,
         polls: u32,
+        credit: &mut PollCredit,
         deadline: Deadline,
     ) -> Option<Waker>
-        requires { number ≤ self.now.seats }
-        ensures { IfSome result (λ w. (w.number ≡ number) × (w.seat.table_id ≡ self.now.table.shared.table_id)) }
+        requires { wait.now.listed.number ≤ self.now.seats }
+        ensures { IfSome result (λ w. (w.number ≡ wait.now.listed.number) × (w.seat.table_id ≡ self.now.table.shared.table_id)) }
     {
-        if let Some(waker) = self.poll_and_announce(number, polls) {
+        let number = wait.number();
+        if let Some(waker) = self.poll_and_announce(number, polls, credit) {
             return Some(waker);
         }
         for _ in rt.forever() {
@@ -303,10 +416,10 @@ impl Parkers {
         let _found = self.table.shared.load::<EachWakerOnce>(&mut all.seat, 0);
     }
 
-    /// Sets the word of the parker to EMPTY, for a seat that has its waker already.
-    pub(crate) fn clear(&self, number: u64)
-        requires { number ≤ self.now.seats }
+    /// Sets the word of this waker's parker to EMPTY. Its waker isn't in the table, so none is taken.
+    pub(crate) fn clear(&self, waker: &Waker)
+        requires { waker.now.number ≤ self.now.seats }
     {
-        let _none = self.take(number, EMPTY);
+        let _none = self.take(waker.number, EMPTY);
     }
 }

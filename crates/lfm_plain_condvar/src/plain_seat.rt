@@ -1,5 +1,6 @@
 //! The plain seat: a thread's handle of a plain condvar.
 use crate::parkers::{NoticeLog, Waker};
+use crate::polls::PollCredit;
 use crate::waiters::Waiters;
 use lfm_mutex::{Holder, Seat};
 
@@ -10,6 +11,7 @@ pub struct PlainSeat {
     pub(crate) seat: Seat<Waiters>,
     pub(crate) waker: Option<Waker>,
     pub(crate) log: NoticeLog,
+    pub(crate) credit: PollCredit,
 }
 
 impl Holder<Waiters> for PlainSeat {
@@ -26,6 +28,7 @@ impl Holder<Waiters> for PlainSeat {
             seat,
             waker: _,
             log: _,
+            credit: _,
         } = self;
         seat
     }

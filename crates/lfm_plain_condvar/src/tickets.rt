@@ -3,12 +3,12 @@
 ghost use Rattle.lfm_plain_condvar.specs.Modelled.{ListsGoAsTheModel};
 ghost use Rattle.lfm_plain_condvar.specs.Order.{TicketsKeepTheirPlaces};
 
-pub use lfm_plain_condvar_laws::waits::{tickets_are_in_one_place, waits_end_by_wakes_or_limits};
+pub use lfm_plain_condvar_laws::waits::{
+    tickets_are_in_one_place, waits_end_by_wakes_or_limits, wakes_take_the_oldest,
+};
 
-/// Whichever seats change the list of a running condvar, a ticket keeps its seat until it is woken or times out. Tickets are
-/// woken in order: no ticket is woken while an older one waits. No ticket is woken twice, or times out twice, or is both
-/// woken and timed out. A wait times out only by its own seat. Therefore a wait that doesn't find itself in the list was
-/// woken, and one that finds itself was not.
+/// Whichever seats change the list of a running condvar, a ticket keeps its seat until it is woken or times out. No ticket is
+/// woken while an older one waits, and none ends twice. A wait times out only by its own seat.
 ///
 /// Definition: `TicketsKeepTheirPlaces` in `specs/Order.antt`. Proof: `proofs/Order.antt`.
 pub fn tickets_keep_their_places()

@@ -5,9 +5,9 @@ ghost use Rattle.lfm_mutex.specs.calls.RunGoesOn.{RunGoesOnFrom};
 ghost use Rattle.lfm_mutex.specs.calls.Sight.{sight, LeavesOff, MayLeave, WaitRefused};
 ghost use Rattle.lfm_mutex.specs.calls.Woken.{LooksAndWakesAsGranted, WokenAsGranted};
 ghost use Rattle.lfm_plain_condvar.specs.Holds.{Unlocks};
-ghost use Rattle.lfm_plain_condvar.specs.Waits.{ComesBack, MayWait};
+ghost use Rattle.lfm_plain_condvar.specs.Waits.{ComesBackAs, MayWait};
 
-use lfm_model::{Locked, Refusal};
+use lfm_model::{How, Locked, Refusal};
 use lfm_mutex::{Kept, Mutex, Seat};
 use std::sync::Wait;
 
@@ -48,18 +48,18 @@ pub(crate) fn give_up<T: Kept>(mutex: &Mutex<T>, seat: &mut Seat<T>)
     }
 }
 
-/// Locks the user mutex again, by `lock_barging`.
-pub(crate) fn come_back<T: Kept, R: Wait>(rt: &R, mutex: &Mutex<T>, seat: &mut Seat<T>)
+/// Locks the user mutex again, by `lock_barging`. Returns how the seat came to hold.
+pub(crate) fn come_back<T: Kept, R: Wait>(rt: &R, mutex: &Mutex<T>, seat: &mut Seat<T>) -> How
     requires belongs { OfMutex seat.old mutex.now }
     requires free { ((sight seat.old).depth ≡ 0) × ((sight seat.old).asleep ≡ false) × ((sight seat.old).takes < (limits_of mutex.now).budget) }
     ensures belongs { Beside seat.old seat.new }
     ensures run { RunGoesOnFrom seat.old seat.new }
     ensures woken { LooksAndWakesAsGranted seat.old seat.new }
-    ensures back { ComesBack T.follows T.fits (limits_of mutex.now) (tries_of mutex.now) (sight seat.old) (sight seat.new) }
+    ensures back { ComesBackAs T.follows T.fits (limits_of mutex.now) (tries_of mutex.now) result (sight seat.old) (sight seat.new) }
 {
     match mutex.lock_barging(rt, seat) {
         Ok(locked) => match locked {
-            Locked::Held(_) => {}
+            Locked::Held(how) => how,
             Locked::Again(_) => unreachable!(),
         },
         Err(_) => unreachable!(),

@@ -6,19 +6,20 @@ ghost use Rattle.lfm_mutex.specs.calls.RunGoesOn.{RunGoesOnFrom};
 ghost use Rattle.lfm_mutex.specs.calls.Sight.{sight, MayRelease};
 ghost use Rattle.lfm_mutex.specs.calls.Woken.{LooksAndWakesAsGranted};
 ghost use Rattle.lfm_plain_condvar.specs.Belongs.{NotifiesNobody, OfPlain, WaitsAt};
-ghost use Rattle.lfm_plain_condvar.specs.Waits.{Enlists, WaitEnds};
+ghost use Rattle.lfm_plain_condvar.specs.Waits.{Enlists, WaitEnds, WaitWithHowEnds};
 
 use crate::condvar::PlainCondvar;
+use crate::hold::ListedWait;
 use crate::plain_seat::PlainSeat;
+use crate::unlocked_wait::UnlockedWait;
 use crate::user::{bars_wait, come_back, give_up};
-use crate::waiters::Enlisted;
-use lfm_model::Refusal;
+use lfm_model::{How, Refusal};
 use lfm_mutex::{Kept, Mutex, Pace, Seat};
 use std::mem::replace;
 use std::sync::Wait;
 
-/// How many times a seat polls before it sleeps. A seat that waits alone may be woken soon, as when two threads take turns.
-/// Its polls then cost less than a sleep and a wake-up. If others wait ahead of it, it sleeps at once.
+/// How many times a seat polls at most before it sleeps. A seat that waits alone may be woken soon, as when two threads take
+/// turns. Its polls then cost less than a sleep and a wake-up. If others wait ahead of it, it sleeps at once.
 pub(crate) fn polls_behind(pace: Pace, ahead: usize) -> u32
     ensures alone { ahead ≡ 0 → result ≡ pace.looks }
     ensures behind { 0 < ahead → result ≡ 0 }
@@ -34,7 +35,7 @@ impl PlainCondvar {
         rt: &R,
         cond: &mut PlainSeat,
         holder: &Seat<T>,
-    ) -> Result<Enlisted, Refusal>
+    ) -> Result<ListedWait<T>, Refusal>
         requires belongs { OfPlain cond.old self.now }
         requires holder { (sight holder.now).depth ≡ 1 }
         requires spare { (sight cond.old.seat).takes < (limits_of self.now.inner).budget }
@@ -56,13 +57,19 @@ impl PlainCondvar {
     }
 
     /// Sleeps until the seat is notified, and takes its waker back.
-    pub(crate) fn sleep<R: Wait>(&self, rt: &R, cond: &mut PlainSeat, polls: u32)
+    pub(crate) fn sleep<T: Kept, R: Wait>(
+        &self,
+        rt: &R,
+        cond: &mut PlainSeat,
+        wait: UnlockedWait<T>,
+        polls: u32,
+    )
         requires waits { WaitsAt cond.old self.now }
+        requires own { wait.listed.number ≡ (sight cond.old.seat).number }
         ensures belongs { OfPlain cond.new self.now × NotifiesNobody cond.old cond.new }
         ensures same { cond.new.seat ≡ cond.old.seat }
     {
-        let number = cond.seat.number().get();
-        let waker = self.parkers.park(rt, number, polls);
+        let waker = self.parkers.park(rt, &wait, polls, &mut cond.credit);
         cond.waker = Some(waker);
     }
 
@@ -76,8 +83,9 @@ impl PlainCondvar {
     /// reached: as many would have to wait as there are seats.
     ///
     /// A wait costs each seat one take. It allocates no memory, sleeps, and wakes the seat that it grants a mutex, if any.
-    /// If no other seat waited when this one was added to the list, it polls before it sleeps, as often as the pace of the
-    /// user mutex says. Otherwise it sleeps at once.
+    /// If no other seat waited when this one was added to the list, it may poll before it sleeps, as often as the pace of
+    /// the user mutex says: if it was notified during its last polls, and otherwise at one of 32 waits. It sleeps at once if
+    /// others wait.
     pub fn wait<T: Kept, R: Wait>(
         &self,
         rt: &R,
@@ -94,6 +102,29 @@ impl PlainCondvar {
         ensures notifies { NotifiesNobody cond.old cond.new }
         ensures waits { WaitEnds T.follows T.fits (limits_of mutex.now) (limits_of self.now.inner) (tries_of self.now.inner) (tries_of mutex.now) (sight cond.old.seat) (sight cond.new.seat) (sight seat.old) (sight seat.new) result }
     {
+        match self.wait_with_how(rt, cond, mutex, seat) {
+            Ok((_, ticket)) => Ok(ticket),
+            Err(refusal) => Err(refusal),
+        }
+    }
+
+    /// `wait`, which also returns how the seat acquired the user mutex again.
+    pub fn wait_with_how<T: Kept, R: Wait>(
+        &self,
+        rt: &R,
+        cond: &mut PlainSeat,
+        mutex: &Mutex<T>,
+        seat: &mut Seat<T>,
+    ) -> Result<(How, u64), Refusal>
+        requires belongs { OfPlain cond.old self.now × OfMutex seat.old mutex.now }
+        requires leaves { MayRelease T.follows T.fits (sight seat.old) }
+        ensures belongs { OfPlain cond.new self.now × Beside seat.old seat.new }
+        ensures run { RunGoesOnFrom seat.old seat.new }
+        ensures cond_woken { LooksAndWakesAsGranted cond.old.seat cond.new.seat }
+        ensures woken { LooksAndWakesAsGranted seat.old seat.new }
+        ensures notifies { NotifiesNobody cond.old cond.new }
+        ensures waits { WaitWithHowEnds T.follows T.fits (limits_of mutex.now) (limits_of self.now.inner) (tries_of self.now.inner) (tries_of mutex.now) (sight cond.old.seat) (sight cond.new.seat) (sight seat.old) (sight seat.new) result }
+    {
         if let Some(refusal) = bars_wait(seat) {
             return Err(refusal);
         }
@@ -102,8 +133,10 @@ impl PlainCondvar {
         }
         let enlisted = self.enlist(rt, cond, seat)?;
         give_up(mutex, seat);
-        self.sleep(rt, cond, polls_behind(mutex.pace(), enlisted.ahead));
-        come_back(rt, mutex, seat);
-        Ok(enlisted.ticket)
+        let polls = polls_behind(mutex.pace(), enlisted.ahead());
+        let ticket = enlisted.ticket();
+        self.sleep(rt, cond, UnlockedWait::new(enlisted, seat), polls);
+        let how = come_back(rt, mutex, seat);
+        Ok((how, ticket))
     }
 }

@@ -6,14 +6,15 @@ ghost use Rattle.lfm_mutex.specs.calls.RunGoesOn.{RunGoesOnFrom};
 ghost use Rattle.lfm_mutex.specs.calls.Sight.{sight, MayRelease};
 ghost use Rattle.lfm_mutex.specs.calls.Woken.{LooksAndWakesAsGranted};
 ghost use Rattle.lfm_plain_condvar.specs.Belongs.{NotifiesNobody, OfPlain, WaitsAt};
-ghost use Rattle.lfm_plain_condvar.specs.Waits.{LeftList, NoLonger, SleepEnds, WaitForEnds};
+ghost use Rattle.lfm_plain_condvar.specs.Waits.{LeftList, NoLonger, SleepEnds, WaitForEnds, WaitWithinEnds, waited_of};
 
 use crate::condvar::PlainCondvar;
 use crate::plain_seat::PlainSeat;
+use crate::unlocked_wait::UnlockedWait;
 use crate::user::{bars_wait, come_back, give_up};
 use crate::wait::polls_behind;
 use crate::waiters::Waiter;
-use lfm_model::Refusal;
+use lfm_model::{How, Refusal};
 use lfm_mutex::deadlines::{Deadline, deadline_after};
 use lfm_mutex::{Kept, Mutex, Seat};
 use std::sync::Wait;
@@ -28,21 +29,35 @@ pub enum Waited {
     TimedOut(u64),
 }
 
+/// How a wait ended, without how the seat acquired the user mutex again.
+fn without_how(ended: Result<(How, Waited), Refusal>) -> Result<Waited, Refusal>
+    ensures { result ≡ waited_of ended }
+{
+    match ended {
+        Ok((_, waited)) => Ok(waited),
+        Err(refusal) => Err(refusal),
+    }
+}
+
 impl PlainCondvar {
     /// Sleeps until the seat is notified, or the deadline. Returns whether it was notified. It then has its waker back.
-    fn sleep_until<R: Wait + Clock>(
+    fn sleep_until<T: Kept, R: Wait + Clock>(
         &self,
         rt: &R,
         cond: &mut PlainSeat,
+        wait: &UnlockedWait<T>,
         polls: u32,
         deadline: Deadline,
     ) -> bool
         requires waits { WaitsAt cond.old self.now }
+        requires own { wait.now.listed.number ≡ (sight cond.old.seat).number }
         ensures belongs { MatchBool result (OfPlain cond.new self.now) (WaitsAt cond.new self.now) }
         ensures same { (cond.new.seat ≡ cond.old.seat) × NotifiesNobody cond.old cond.new }
     {
-        let number = cond.seat.number().get();
-        match self.parkers.park_until(rt, number, polls, deadline) {
+        match self
+            .parkers
+            .park_until(rt, wait, polls, &mut cond.credit, deadline)
+        {
             Some(waker) => {
                 cond.waker = Some(waker);
                 true
@@ -65,8 +80,8 @@ impl PlainCondvar {
         match self.take_out_in_one_hold(rt, &mut cond.seat, number, ticket) {
             Some(waiter) => {
                 let Waiter { waker, ticket: _ } = waiter;
+                self.parkers.clear(&waker);
                 cond.waker = Some(waker);
-                self.parkers.clear(number);
                 true
             }
             None => false,
@@ -75,50 +90,58 @@ impl PlainCondvar {
 
     /// The time is over: the seat takes itself out of the list. If it isn't there, a wake has taken it out and is about to
     /// notify it, and it sleeps until then.
-    fn end_at_deadline<R: Wait>(&self, rt: &R, cond: &mut PlainSeat, ticket: u64) -> Waited
+    fn end_at_deadline<T: Kept, R: Wait>(
+        &self,
+        rt: &R,
+        cond: &mut PlainSeat,
+        wait: UnlockedWait<T>,
+    ) -> Waited
         requires waits { WaitsAt cond.old self.now }
+        requires own { wait.listed.number ≡ (sight cond.old.seat).number }
         requires spare { (sight cond.old.seat).takes < (limits_of self.now.inner).budget }
         ensures cond_woken { LooksAndWakesAsGranted cond.old.seat cond.new.seat }
         ensures belongs { OfPlain cond.new self.now × NotifiesNobody cond.old cond.new }
-        ensures ends { SleepEnds (limits_of self.now.inner) (tries_of self.now.inner) (sight cond.old.seat) (sight cond.new.seat) ticket result }
+        ensures ends { SleepEnds (limits_of self.now.inner) (tries_of self.now.inner) (sight cond.old.seat) (sight cond.new.seat) wait.entry.listed.enlisted.ticket result }
     {
+        let ticket = wait.ticket();
         if self.leave(rt, cond, ticket) {
             return Waited::TimedOut(ticket);
         }
-        self.sleep(rt, cond, 0);
+        self.sleep(rt, cond, wait, 0);
         Waited::Woken(ticket)
     }
 
     /// Sleeps until the seat is notified, or has taken itself out of the list after the deadline.
-    fn sleep_or_leave<R: Wait + Clock>(
+    fn sleep_or_leave<T: Kept, R: Wait + Clock>(
         &self,
         rt: &R,
         cond: &mut PlainSeat,
-        ticket: u64,
+        wait: UnlockedWait<T>,
         polls: u32,
         deadline: Deadline,
     ) -> Waited
         requires waits { WaitsAt cond.old self.now }
+        requires own { wait.listed.number ≡ (sight cond.old.seat).number }
         requires spare { (sight cond.old.seat).takes < (limits_of self.now.inner).budget }
         ensures cond_woken { LooksAndWakesAsGranted cond.old.seat cond.new.seat }
         ensures belongs { OfPlain cond.new self.now × NotifiesNobody cond.old cond.new }
-        ensures ends { SleepEnds (limits_of self.now.inner) (tries_of self.now.inner) (sight cond.old.seat) (sight cond.new.seat) ticket result }
+        ensures ends { SleepEnds (limits_of self.now.inner) (tries_of self.now.inner) (sight cond.old.seat) (sight cond.new.seat) wait.entry.listed.enlisted.ticket result }
     {
-        if self.sleep_until(rt, cond, polls, deadline) {
-            return Waited::Woken(ticket);
+        if self.sleep_until(rt, cond, &wait, polls, deadline) {
+            return Waited::Woken(wait.ticket());
         }
-        self.end_at_deadline(rt, cond, ticket)
+        self.end_at_deadline(rt, cond, wait)
     }
 
-    /// `wait` until the deadline.
-    fn wait_within<T: Kept, R: Wait + Clock>(
+    /// `wait` until the deadline, as `wait_for` does. It also returns how the seat acquired the user mutex again.
+    pub fn wait_within<T: Kept, R: Wait + Clock>(
         &self,
         rt: &R,
         cond: &mut PlainSeat,
         mutex: &Mutex<T>,
         seat: &mut Seat<T>,
         deadline: Deadline,
-    ) -> Result<Waited, Refusal>
+    ) -> Result<(How, Waited), Refusal>
         requires belongs { OfPlain cond.old self.now × OfMutex seat.old mutex.now }
         requires leaves { MayRelease T.follows T.fits (sight seat.old) }
         ensures belongs { OfPlain cond.new self.now × Beside seat.old seat.new }
@@ -126,7 +149,7 @@ impl PlainCondvar {
         ensures cond_woken { LooksAndWakesAsGranted cond.old.seat cond.new.seat }
         ensures woken { LooksAndWakesAsGranted seat.old seat.new }
         ensures notifies { NotifiesNobody cond.old cond.new }
-        ensures waits { WaitForEnds T.follows T.fits (limits_of mutex.now) (limits_of self.now.inner) (tries_of self.now.inner) (tries_of mutex.now) (sight cond.old.seat) (sight cond.new.seat) (sight seat.old) (sight seat.new) result }
+        ensures waits { WaitWithinEnds T.follows T.fits (limits_of mutex.now) (limits_of self.now.inner) (tries_of self.now.inner) (tries_of mutex.now) (sight cond.old.seat) (sight cond.new.seat) (sight seat.old) (sight seat.new) result }
     {
         if let Some(refusal) = bars_wait(seat) {
             return Err(refusal);
@@ -136,10 +159,11 @@ impl PlainCondvar {
         }
         let enlisted = self.enlist(rt, cond, seat)?;
         give_up(mutex, seat);
-        let polls = polls_behind(mutex.pace(), enlisted.ahead);
-        let waited = self.sleep_or_leave(rt, cond, enlisted.ticket, polls, deadline);
-        come_back(rt, mutex, seat);
-        Ok(waited)
+        let polls = polls_behind(mutex.pace(), enlisted.ahead());
+        let wait = UnlockedWait::new(enlisted, seat);
+        let waited = self.sleep_or_leave(rt, cond, wait, polls, deadline);
+        let how = come_back(rt, mutex, seat);
+        Ok((how, waited))
     }
 
     /// `wait` for at most this time from now. Returns Woken as `wait` does. Returns TimedOut if the time was over and no
@@ -148,6 +172,13 @@ impl PlainCondvar {
     ///
     /// Refuses as `wait`, in the same order, but as Spent also if the plain seat has only one take left. A wait costs the
     /// user seat one take, and the plain seat one, or two if it looked for itself in the list.
+    ///
+    /// ```
+    /// match condvar.wait_for(rt, cond, mutex, seat, Duration::from_millis(10))? {
+    ///     Waited::Woken(ticket) => .. // a wake took this wait out of the list
+    ///     Waited::TimedOut(ticket) => .. // none did, and the time is over
+    /// }
+    /// ```
     pub fn wait_for<T: Kept, R: Wait + Clock>(
         &self,
         rt: &R,
@@ -165,7 +196,7 @@ impl PlainCondvar {
         ensures notifies { NotifiesNobody cond.old cond.new }
         ensures waits { WaitForEnds T.follows T.fits (limits_of mutex.now) (limits_of self.now.inner) (tries_of self.now.inner) (tries_of mutex.now) (sight cond.old.seat) (sight cond.new.seat) (sight seat.old) (sight seat.new) result }
     {
-        self.wait_within(rt, cond, mutex, seat, deadline_after(rt, time))
+        without_how(self.wait_within(rt, cond, mutex, seat, deadline_after(rt, time)))
     }
 
     /// `wait_for` until this time of the monotonic clock.
@@ -186,6 +217,6 @@ impl PlainCondvar {
         ensures notifies { NotifiesNobody cond.old cond.new }
         ensures waits { WaitForEnds T.follows T.fits (limits_of mutex.now) (limits_of self.now.inner) (tries_of self.now.inner) (tries_of mutex.now) (sight cond.old.seat) (sight cond.new.seat) (sight seat.old) (sight seat.new) result }
     {
-        self.wait_within(rt, cond, mutex, seat, Deadline::At(end))
+        without_how(self.wait_within(rt, cond, mutex, seat, Deadline::At(end)))
     }
 }

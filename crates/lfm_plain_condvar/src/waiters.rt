@@ -3,6 +3,7 @@
 //! none that doesn't take it out.
 ghost use Rattle.std.specs.Prelude.{◌≡◌, ◌+◌, ◌<◌, ◌≤◌, ℕ, IfOk, MatchBool, MatchOption, length};
 ghost use Rattle.std.specs.VecDeque.{deque_capacity, deque_len};
+ghost use Rattle.lfm_model.specs.SeatNumbers.{max_seat_no};
 ghost use mathlib.Core.Option.{some};
 ghost use lib.ListN.{get_elem?};
 ghost use Rattle.lfm_plain_condvar.specs.Lists.{InOrder, InOrder-prop};
@@ -59,6 +60,7 @@ pub struct Waiters {
     pub ghost tickets: { InOrder added 0 list.items } by { InOrder-prop added 0 list.items },
     pub ghost counted: { woken + timed_out + deque_len list ≡ added },
     pub ghost room: { seats ≤ deque_capacity list },
+    pub ghost few: { seats ≤ max_seat_no },
     pub ghost known: { (j : ℕ) (w : _) → get_elem? list.items j ≡ some w → (w.waker.number ≤ seats) × (w.waker.seat.table_id ≡ name.root.table_id) × (0 < w.waker.number) },
 }
 
@@ -67,6 +69,7 @@ impl Waiters {
 
     /// An empty list, with room for each seat. It allocates once.
     pub(crate) fn empty(alloc: Global, seats: u64, name: ParkersName) -> Result<Waiters, AllocError>
+        requires { seats ≤ max_seat_no }
         ensures { IfOk result (λ v. IsNew v × (v.seats ≡ seats) × (v.name ≡ name)) }
     {
         let list = VecDeque::with_capacity(alloc, seats as usize)?;

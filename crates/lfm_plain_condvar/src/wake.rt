@@ -4,18 +4,24 @@ ghost use Rattle.std.specs.Prelude.{◌≡◌, ◌++◌, ◌∷◌, []};
 ghost use Rattle.lfm_mutex.specs.Belongs.{limits_of, tries_of};
 ghost use Rattle.lfm_mutex.specs.calls.Woken.{LooksAndWakesAsGranted};
 ghost use Rattle.lfm_plain_condvar.specs.Belongs.{IsOwedBy, OfPlain, OwedBy, notified_by};
-ghost use Rattle.lfm_plain_condvar.specs.Wakes.{WakeAllEnds, WakeLaterEnds, WakeOneEnds};
+ghost use Rattle.lfm_plain_condvar.specs.Wakes.{WakeAllEnds, WakeLaterEnds, WakeOneEnds, WakeOneWithNumberEnds, ticket_in};
 
 use crate::condvar::PlainCondvar;
+use crate::owed::OwedWakeUp;
 use crate::plain_seat::PlainSeat;
 use crate::waiters::Waiter;
-use lfm_model::Refusal;
+use lfm_model::{Refusal, SeatNo};
 use std::sync::Wait;
 
-/// The duty to notify a waiter that a wake took out of the list. The type has no `Drop`, so a path that loses it does not
-/// compile. It must be passed to `notify`.
-pub struct OwedWakeUp {
-    pub(crate) waiter: Waiter,
+/// The ticket that a wake returned, without the number of the seat.
+fn without_number(woken: Result<Option<(SeatNo, u64)>, Refusal>) -> Result<Option<u64>, Refusal>
+    ensures { result ≡ ticket_in woken }
+{
+    match woken {
+        Ok(Some((_, ticket))) => Ok(Some(ticket)),
+        Ok(None) => Ok(None),
+        Err(refusal) => Err(refusal),
+    }
 }
 
 impl PlainCondvar {
@@ -59,18 +65,20 @@ impl PlainCondvar {
         self.parkers.notify(waker, &mut cond.log);
     }
 
-    /// Notifies the waiter, and returns its ticket.
-    fn notify_now(&self, cond: &mut PlainSeat, owed: OwedWakeUp) -> u64
+    /// Notifies the waiter, and returns its number and its ticket.
+    fn notify_now(&self, cond: &mut PlainSeat, owed: OwedWakeUp) -> (SeatNo, u64)
         requires belongs { OfPlain cond.old self.now }
         requires owed { IsOwedBy owed self.now }
         ensures belongs { OfPlain cond.new self.now }
         ensures same { cond.new.seat ≡ cond.old.seat }
         ensures notifies { notified_by cond.new ≡ notified_by cond.old ++ owed.waiter.waker.number ∷ [] }
-        ensures ticket { result ≡ owed.waiter.ticket }
+        ensures number { result.0 ≡ owed.waiter.waker.number }
+        ensures ticket { result.1 ≡ owed.waiter.ticket }
     {
+        let number = owed.number();
         let ticket = owed.waiter.ticket;
         self.notify(cond, owed);
-        ticket
+        (number, ticket)
     }
 
     /// Wakes the seat that has waited longest, and returns its ticket, or None if no seat waits. It is `wake_one_later` and
@@ -81,6 +89,20 @@ impl PlainCondvar {
         ensures cond_woken { LooksAndWakesAsGranted cond.old.seat cond.new.seat }
         ensures wakes { WakeOneEnds (limits_of self.now.inner) (tries_of self.now.inner) cond.old cond.new result }
     {
+        without_number(self.wake_one_with_number(rt, cond))
+    }
+
+    /// `wake_one`, which also returns the number of the plain seat that was woken.
+    pub fn wake_one_with_number<R: Wait>(
+        &self,
+        rt: &R,
+        cond: &mut PlainSeat,
+    ) -> Result<Option<(SeatNo, u64)>, Refusal>
+        requires belongs { OfPlain cond.old self.now }
+        ensures belongs { OfPlain cond.new self.now }
+        ensures cond_woken { LooksAndWakesAsGranted cond.old.seat cond.new.seat }
+        ensures wakes { WakeOneWithNumberEnds (limits_of self.now.inner) (tries_of self.now.inner) cond.old cond.new result }
+    {
         match self.wake_one_later(rt, cond) {
             Err(refusal) => Err(refusal),
             Ok(None) => Ok(None),
@@ -88,8 +110,9 @@ impl PlainCondvar {
         }
     }
 
-    /// Wakes all that wait, oldest first, and returns how many there were. The list is held until all are notified, which
-    /// takes one system call for each thread that is parked. The caller need not hold the user mutex.
+    /// Wakes all that wait, and returns how many there were. They are notified in one hold of the list, oldest first. After
+    /// it the threads that are parked are woken, in the order of their seats, by one system call each. The caller need not
+    /// hold the user mutex.
     ///
     /// Refuses with Spent if the plain seat has no take left. It costs one take, however many are woken. It allocates no
     /// memory and may sleep until it has the list.

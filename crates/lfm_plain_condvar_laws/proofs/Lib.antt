@@ -1,2 +1,4 @@
 pub mod Ends
+pub mod Members
+pub mod Order
 pub mod Places

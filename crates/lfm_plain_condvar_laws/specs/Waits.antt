@@ -1,6 +1,6 @@
 -- The waits on a plain condition variable, as a model: who waits in the list, whose wake-up is on its way, and how waits
 -- ended.
-use Rattle.std.specs.Prelude.{◌≡◌, ◌⊎◌, ℕ, ◌+◌, ◌==◌, if◌then◌else◌, List, [], ◌∷◌}
+use Rattle.std.specs.Prelude.{◌≡◌, ◌⊎◌, ℕ, ◌+◌, ◌<◌, ◌≤◌, ◌==◌, if◌then◌else◌, List, [], ◌∷◌}
 
 -- a wait of this seat, with its ticket
 pub record Waiter : Type 0 where
@@ -36,3 +36,17 @@ times t (x ∷ xs) = (if x.ticket == t then 1 else 0) + times t xs
 -- how often it is anywhere
 abbrev pub everywhere : ℕ → Waits → ℕ
 everywhere t w = times t w.listed + times t w.owed + times t w.woken + times t w.timed_out
+
+-- how many of these waits are of this seat
+abbrev pub waits_of : ℕ → List Waiter → ℕ
+waits_of k [] = 0
+waits_of k (x ∷ xs) = (if x.seat == k then 1 else 0) + waits_of k xs
+
+-- a wake took this waiter out of the list
+abbrev pub WasTaken : Waiter → Waits → Type 0
+WasTaken x w = IsIn x w.owed ⊎ IsIn x w.woken
+
+-- the tickets rise from above k, to at most n
+abbrev pub InOrder : ℕ → ℕ → List Waiter → Type 0
+InOrder n k [] = k ≤ n
+InOrder n k (x ∷ xs) = (k < x.ticket) × InOrder n x.ticket xs

@@ -1,11 +1,11 @@
 //! A wake of all: two threads wait, and a third wakes both at once.
-ghost use Rattle.lfm_plain_condvar_tests.specs.Hands.{IsHandOf};
+ghost use Rattle.lfm_plain_test_tools.specs.Hands.{IsHandOf};
 
-use crate::calls::{lock, number, unlock, wait, wake_all, write};
-use crate::hands::{Hand, three_hands};
 use crate::seeing::sees;
 use lfm_mutex::Mutex;
 use lfm_plain_condvar::PlainCondvar;
+use lfm_plain_test_tools::calls::{lock, number, unlock, wait, wake_all, write};
+use lfm_plain_test_tools::hands::{Hand, three_hands};
 use std::process::Abort;
 use std::sync::Wait;
 use std::test::Fail;

@@ -3,11 +3,13 @@
 #![tactic(auto)]
 
 #[cfg(test)]
+mod beside_limits;
+#[cfg(test)]
 mod broadcast;
-pub mod calls;
-pub mod hands;
 #[cfg(test)]
 mod limits;
+#[cfg(test)]
+mod many_limits;
 #[cfg(test)]
 mod queue;
 #[cfg(test)]

@@ -1,11 +1,11 @@
 //! A wait with a time limit and nobody who wakes: it ends after its time and not before, and is no longer in the list.
-ghost use Rattle.lfm_plain_condvar_tests.specs.Hands.{IsHandOf};
+ghost use Rattle.lfm_plain_test_tools.specs.Hands.{IsHandOf};
 
-use crate::calls::{lock, unlock, wait_for, wake_one};
-use crate::hands::{Hand, three_hands};
 use crate::seeing::{holds, sees};
 use lfm_mutex::Mutex;
 use lfm_plain_condvar::{PlainCondvar, Waited};
+use lfm_plain_test_tools::calls::{lock, unlock, wait_for, wake_one};
+use lfm_plain_test_tools::hands::{Hand, three_hands};
 use std::process::Abort;
 use std::sync::Wait;
 use std::test::Fail;
@@ -15,7 +15,7 @@ use std::time::{Clock, Duration, Instant};
 const LIMIT: u64 = 10;
 
 /// Waits once, and returns how the wait ended, the depth after it, and whether the clock had passed the limit.
-fn waited_alone<R: Wait + Clock>(
+pub fn waited_alone<R: Wait + Clock>(
     rt: &R,
     mutex: &Mutex<u64>,
     condvar: &PlainCondvar,

@@ -1,11 +1,11 @@
 //! One thread waits, with and without a time limit, and another wakes it.
-ghost use Rattle.lfm_plain_condvar_tests.specs.Hands.{IsHandOf};
+ghost use Rattle.lfm_plain_test_tools.specs.Hands.{IsHandOf};
 
-use crate::calls::{lock, number, unlock, wait, wait_for, wake_one, write};
-use crate::hands::{Hand, three_hands};
 use crate::seeing::sees;
 use lfm_mutex::Mutex;
 use lfm_plain_condvar::{PlainCondvar, Waited};
+use lfm_plain_test_tools::calls::{lock, number, unlock, wait, wait_for, wake_one, write};
+use lfm_plain_test_tools::hands::{Hand, three_hands};
 use std::process::Abort;
 use std::sync::Wait;
 use std::test::Fail;

@@ -29,7 +29,7 @@ use Rattle.lfm_program.specs.declared.performed.Performed.TheVariants.{Refused}
 use Rattle.lfm_script.specs.declared.script.Command.{Command}
 use Rattle.lfm_script.specs.declared.script.Command.TheVariants.{Until}
 use Rattle.lfm_script.specs.Adds.{all_adds}
-use Rattle.lfm_program.specs.Causes.{AtCondition, FoundListed, FoundNotWaiting, HasCause, HasNoTake, RefusedForCause, WakeHasCause}
+use Rattle.lfm_program.specs.Causes.{AtCondition, FoundListed, FoundNotWaiting, HasCause, HasCauseIfSent, HasNoTake, RefusedForCause, WakeHasCause}
 use Rattle.lfm_program.specs.Performs.{HoldsOnce, own_adds}
 
 -- an item that was set at a place is found there
@@ -103,10 +103,10 @@ module _ {R : Type 0} {K : _} where
   until_left m p q condition k NotWaiting number takes mine seats h = absurd h
 
   pub cause_left : (m : Monitor Total TotalOp R K) (p q : Pass Total TotalOp R K) (condition k : ℕ) (r : Result ⊤ Refusal) → (pass_sight q).number ≡ (pass_sight p).number
-      → (pass_sight q).takes ≡ (pass_sight p).takes → mine_of q ≡ mine_of p → cond_seats_of q ≡ cond_seats_of p → IfErr r (λ x. HasCause (Until condition k) m p x)
-      → IfErr r (λ x. HasCause (Until condition k) m q x)
+      → (pass_sight q).takes ≡ (pass_sight p).takes → mine_of q ≡ mine_of p → cond_seats_of q ≡ cond_seats_of p → IfErr r (λ x. HasCauseIfSent (Until condition k) m p x)
+      → IfErr r (λ x. HasCauseIfSent (Until condition k) m q x)
   cause_left m p q condition k (Ok u) number takes mine seats h = tt
-  cause_left m p q condition k (Err r) number takes mine seats h = until_left m p q condition k r number takes mine seats h
+  cause_left m p q condition k (Err r) number takes mine seats h = λ sent. until_left m p q condition k r number takes mine seats (h sent)
 
   -- the cause of a refused wake, of a pass that is awake
   pub not_woke_one : (m : Monitor Total TotalOp R K) (p q : Pass Total TotalOp R K) (condition : ℕ) (r : Refusal) → Idle (pass_sight p)
@@ -145,5 +145,5 @@ there (m ∷ ms) (suc i) d h = there ms i d (omega arith)
 module _ {R : Type 0} {K : _} where
   -- the command at this place was refused
   pub refused_there : (m : Monitor Total TotalOp R K) (ms : List Command) (i : ℕ) (d : Command) (old now : List ℕ) (p : Pass Total TotalOp R K) (r : Refusal) → i < length ms
-      → now ≡ old ++ all_adds (take i ms) → own_adds (pass_sight p) ≡ now → HasCause (get_or ms i d) m p r → RefusedForCause m ms old p (Refused r)
+      → now ≡ old ++ all_adds (take i ms) → own_adds (pass_sight p) ≡ now → HasCauseIfSent (get_or ms i d) m p r → RefusedForCause m ms old p (Refused r)
   refused_there m ms i d old now p r h made same cause = (i, get_or ms i d, there ms i d h, same ∙ made, cause)

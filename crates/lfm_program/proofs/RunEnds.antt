@@ -13,7 +13,7 @@ use Rattle.lfm_mutex.specs.Close.{Idle}
 use Rattle.lfm_monitor.specs.declared.monitor.Monitor.{Monitor}
 use Rattle.lfm_monitor.specs.declared.pass.Pass.{Pass}
 use Rattle.lfm_monitor.specs.Begun.{NewPass}
-use Rattle.lfm_monitor.specs.Belongs.{OfMonitor, conditions_of, mine_of, pass_sight, share_of}
+use Rattle.lfm_monitor.specs.Belongs.{OfMonitor, conditions_of, mine_of, pass_sight, plain_conditions_of, share_of}
 use Rattle.lfm_monitor.specs.Passes.{journal_of}
 use Rattle.lfm_program.specs.declared.performed.Performed.TheVariants.{Done, Refused}
 use Rattle.lfm_program.specs.declared.workers.WorkerEnd.{WorkerEnd}
@@ -106,12 +106,12 @@ module _ {R : Type 0} {K : _} where
   nothing_yet m n p new = ap own_adds new.sees ∙ ap (λ es. adds (own n es)) new.nothing
 
   pub gives_back : (m : Monitor Total TotalOp R K) (ls : List ScriptLine) (rs : List (Option Refusal)) (j : ℕ) (p q : Pass Total TotalOp R K) (stops : ℕ → ℕ → Type 0) (ms : List Command) (end : WorkerEnd) (r : Option Refusal)
-      → NewPass m (j + 1) p → ms ≡ commands_of (j + 1) ls → WorksAs m stops ms p q end → get_elem? rs j ≡ some r → EndsSo end r → GivesBack m ls rs j q
-  gives_back m ls rs j p q stops ms end r new is works at ends =
+      → plain_conditions_of m ≡ 0 → NewPass m (j + 1) p → ms ≡ commands_of (j + 1) ls → WorksAs m stops ms p q end → get_elem? rs j ≡ some r → EndsSo end r → GivesBack m ls rs j q
+  gives_back m ls rs j p q stops ms end r sent new is works at ends =
       let from : end ≡ LetGo Done → own_adds (pass_sight q) ≡ all_adds ms = λ e. works.done e ∙ ap (λ ks. ks ++ all_adds ms) (nothing_yet m (j + 1) p new) in
       let refuses : (y : Refusal) → end ≡ LetGo (Refused y) → (i : ℕ) × (own_adds (pass_sight q) ≡ all_adds (take i ms)) × RefusedAt (conditions_of m) ms i y = λ y e.
       let cause = works.refused (Refused y) e in
-      (cause.0, cause.3 ∙ ap (λ ks. ks ++ all_adds (take cause.0 ms)) (nothing_yet m (j + 1) p new), (cause.1, cause.2, may_meet m q cause.1 y cause.4)) in
+      (cause.0, cause.3 ∙ ap (λ ks. ks ++ all_adds (take cause.0 ms)) (nothing_yet m (j + 1) p new), (cause.1, cause.2, may_meet m q cause.1 y (cause.4 sent))) in
       let made = made_from (conditions_of m) ms (own_adds (pass_sight q)) end r ends from refuses in record {
         belongs = works.belongs;
         idle = works.idle;
@@ -181,7 +181,7 @@ collected m stops p scripts commands lines before ws ps rs ready same_scripts sa
       let lt : j < length ws = (let a = in_range ps j q at in let b = divides.many in omega arith) in
       let w = at_place ws j lt in let told = divides.each j w.0 w.1 in let same : w.0.pass ≡ q = some-injective w.0.pass q (sym told.0 ∙ at) in
       let t = worked j w.0 w.1 in let r = told.1 in let is = its_commands p scripts commands lines j t.1 same_scripts same_lines many each t.3 in
-      subst (GivesBack m p.lines rs j) same (gives_back m p.lines rs j t.0 w.0.pass stops t.1.items w.0.end r.0 (ready.passes j t.0 t.2) is t.4 r.1 r.2);
+      subst (GivesBack m p.lines rs j) same (gives_back m p.lines rs j t.0 w.0.pass stops t.1.items w.0.end r.0 ready.sent (ready.passes j t.0 t.2) is t.4 r.1 r.2);
 }
 
 -- if a worker was stopped, the gate may stop it before one of its commands

@@ -12,6 +12,8 @@ use Rattle.lfm_monitor.specs.contracts.pass.Pass as Pass
 use Rattle.lfm_monitor.proofs.Moving.{journaled_send, monitor_sync, pass_send}
 use Rattle.lfm_mutex.proofs.seat.Seat.TheSendSync as SeatSend
 use Rattle.lfm_program.proofs.workers.WorkerEnd.TheSendSync as WorkerEndSend
+use Rattle.lfm_plain_condvar.specs.contracts.plain_seat.PlainSeat as PlainSeat
+use Rattle.lfm_plain_condvar.proofs.plain_seat.PlainSeat.TheSendSync as PlainSeatSend
 use Rattle.lfm_script.proofs.script.Command.TheSendSync as CommandSend
 use Rattle.lfm_program.proofs.starting_line.StartingLine.TheSendSync as LineSend
 use Rattle.lfm_script.specs.contracts.script.Command as Command
@@ -55,7 +57,10 @@ pass_field_send = Send.struct_send (Declared.shape (Pass.the_type Total.the_row 
     Send.plain_send _ _ _ _ _,
     (
       Send.plain_send _ _ _ _ _,
-      (VecSend.the_send CondSeat.the_row Global.the_row GlobalImpl.ghosts CondSeatSend.the_send GlobalSend.the_send GlobalFrees.the_frees, tt),
+      (
+        VecSend.the_send CondSeat.the_row Global.the_row GlobalImpl.ghosts CondSeatSend.the_send GlobalSend.the_send GlobalFrees.the_frees,
+        (VecSend.the_send PlainSeat.the_row Global.the_row GlobalImpl.ghosts PlainSeatSend.the_send GlobalSend.the_send GlobalFrees.the_frees, tt),
+      ),
     ),
   ),
 )

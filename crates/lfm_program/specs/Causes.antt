@@ -15,7 +15,7 @@ use Rattle.lfm_condvar.specs.Lists.{times}
 use Rattle.lfm_monitor.specs.declared.journaled.Journaled.{Journaled}
 use Rattle.lfm_monitor.specs.declared.monitor.Monitor.{Monitor}
 use Rattle.lfm_monitor.specs.declared.pass.Pass.{Pass}
-use Rattle.lfm_monitor.specs.Belongs.{cond_seats_of, conditions_of, mine_of, pass_sight, passes_of, share_of}
+use Rattle.lfm_monitor.specs.Belongs.{cond_seats_of, conditions_of, mine_of, pass_sight, passes_of, plain_conditions_of, share_of}
 use Rattle.lfm_monitor.specs.Conditions.{IsMissing}
 use Rattle.lfm_program.specs.declared.performed.Performed.{Performed}
 use Rattle.lfm_program.specs.declared.performed.Performed.TheVariants.{Done, Refused, Stuck}
@@ -67,10 +67,14 @@ module _ {R : Type 0} {K : _} where
   HasCause (One condition) m p r = WakeHasCause condition m p r
   HasCause (All condition) m p r = WakeHasCause condition m p r
 
+  -- the same if the conditions of the monitor are not plain, as those of the monitors of scripts
+  abbrev pub HasCauseIfSent : Command → Monitor Total TotalOp R K → Pass Total TotalOp R K → Refusal → Type 0
+  HasCauseIfSent c m p r = plain_conditions_of m ≡ 0 → HasCause c m p r
+
   -- If a worker was refused, one of its commands has a cause for this refusal, and its pass has added to the old numbers those
   -- of the commands before that one
   abbrev pub RefusedForCause : Monitor Total TotalOp R K → List Command → List ℕ → Pass Total TotalOp R K → Performed → Type 0
   RefusedForCause m ms old p (Refused r) =
-      (i : ℕ) × (c : Command) × (get_elem? ms i ≡ some c) × (own_adds (pass_sight p) ≡ old ++ all_adds (take i ms)) × HasCause c m p r
+      (i : ℕ) × (c : Command) × (get_elem? ms i ≡ some c) × (own_adds (pass_sight p) ≡ old ++ all_adds (take i ms)) × HasCauseIfSent c m p r
   RefusedForCause m ms old p Done = ⊤
   RefusedForCause m ms old p Stuck = ⊤

@@ -8,7 +8,7 @@ use Rattle.lfm_model.specs.declared.refusals.Refusal.{Refusal}
 use Rattle.lfm_monitor.specs.declared.monitor.Monitor.{Monitor}
 use Rattle.lfm_monitor.specs.declared.pass.Pass.{Pass}
 use Rattle.lfm_monitor.specs.Begun.{NewPass, max_entries}
-use Rattle.lfm_monitor.specs.Belongs.{conditions_of, opening_of, passes_of, share_of}
+use Rattle.lfm_monitor.specs.Belongs.{conditions_of, opening_of, passes_of, plain_conditions_of, share_of}
 use Rattle.lfm_program.specs.declared.performed.Performed.TheVariants.{Done, Refused, Stuck}
 use Rattle.lfm_program.specs.declared.workers.Worked.{Worked}
 use Rattle.lfm_program.specs.declared.workers.WorkerEnd.{WorkerEnd}
@@ -21,6 +21,7 @@ module _ {R : Type 0} {K : _} where
     pub monitor_has : passes_of m ≡ workers
     pub share : share_of m ≡ max_entries / workers
     pub conditions_are : conditions_of m ≡ conditions
+    pub sent : plain_conditions_of m ≡ 0
     pub count : length ps ≡ workers
     pub passes : (j : ℕ) (p : Pass Total TotalOp R K) → get_elem? ps j ≡ some p → NewPass m (j + 1) p
 

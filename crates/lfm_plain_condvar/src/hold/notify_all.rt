@@ -1,5 +1,6 @@
 //! How all that wait are taken out of the list and notified, the oldest first, in one hold of the inner mutex. Each is
-//! notified at once, so no memory is needed for them. A woken thread doesn't need the list.
+//! notified at once, so no memory is needed for them. The threads that are parked are woken after the hold, since each takes
+//! a system call, and a thread that goes on may soon need the list to wait again.
 ghost use Rattle.std.specs.Prelude.{◌≡◌, ◌<◌, ◌++◌, [], length, Some};
 ghost use Rattle.lfm_mutex.specs.Belongs.{Beside, OfMutex, limits_of, tries_of};
 ghost use Rattle.lfm_mutex.specs.calls.Sight.{sight};
@@ -10,13 +11,18 @@ ghost use Rattle.lfm_plain_condvar.specs.Keeping.{TakesFirst};
 
 use super::leave_list;
 use crate::condvar::PlainCondvar;
-use crate::parkers::{NoticeLog, Parkers};
+use crate::parkers::{NoticeLog, ParkedRange, Parkers};
 use crate::waiters::{Waiter, Waiters};
 use lfm_mutex::Seat;
 use std::sync::Wait;
 
 /// Takes all out of the list, the oldest first, notifies each, and counts them.
-fn notify_all(waiters: &mut Waiters, parkers: &Parkers, log: &mut NoticeLog) -> u64
+fn notify_all(
+    waiters: &mut Waiters,
+    parkers: &Parkers,
+    log: &mut NoticeLog,
+    parked: &mut ParkedRange,
+) -> u64
     requires of { IsOf parkers.now.table.shared.table_id parkers.now.seats waiters.old }
     requires log { log.old.seat.table_id ≡ parkers.now.table.shared.table_id }
     ensures takes { TakesFirst waiters.old.list.items waiters.old waiters.new }
@@ -29,7 +35,7 @@ fn notify_all(waiters: &mut Waiters, parkers: &Parkers, log: &mut NoticeLog) -> 
         match waiters.take_oldest() {
             Some(waiter) => {
                 let Waiter { waker, ticket: _ } = waiter;
-                parkers.notify(waker, log);
+                parkers.notify_before_wake(waker, log, parked);
                 count += 1;
             }
             None => return count,
@@ -38,7 +44,12 @@ fn notify_all(waiters: &mut Waiters, parkers: &Parkers, log: &mut NoticeLog) -> 
 }
 
 /// `notify_all` with the list that the seat holds.
-fn notify_all_in_hand(cond: &mut Seat<Waiters>, parkers: &Parkers, log: &mut NoticeLog) -> u64
+fn notify_all_in_hand(
+    cond: &mut Seat<Waiters>,
+    parkers: &Parkers,
+    log: &mut NoticeLog,
+    parked: &mut ParkedRange,
+) -> u64
     requires held { 0 < (sight cond.old).depth }
     requires known { (v : _) → (sight cond.old).value ≡ Some v → IsOf parkers.now.table.shared.table_id parkers.now.seats v }
     requires log { log.old.seat.table_id ≡ parkers.now.table.shared.table_id }
@@ -50,11 +61,11 @@ fn notify_all_in_hand(cond: &mut Seat<Waiters>, parkers: &Parkers, log: &mut Not
     let Some(waiters) = cond.value_mut() else {
         unreachable!()
     };
-    notify_all(waiters, parkers, log)
+    notify_all(waiters, parkers, log, parked)
 }
 
 impl PlainCondvar {
-    /// Takes all out of the list and notifies them, in one hold.
+    /// Takes all out of the list and notifies them, in one hold, and then wakes their threads.
     pub(crate) fn notify_all_in_one_hold<R: Wait>(
         &self,
         rt: &R,
@@ -72,9 +83,11 @@ impl PlainCondvar {
         ensures log { log.new.seat.table_id ≡ log.old.seat.table_id }
         ensures steps { StepsOfOneHold (limits_of self.now.inner) (tries_of self.now.inner) (sight cond.old) (sight cond.new) }
     {
+        let mut parked = ParkedRange::NONE;
         self.lock_list(rt, cond);
-        let count = notify_all_in_hand(cond, &self.parkers, log);
+        let count = notify_all_in_hand(cond, &self.parkers, log, &mut parked);
         leave_list(&self.inner, cond);
+        self.parkers.wake_parked(parked);
         count
     }
 }

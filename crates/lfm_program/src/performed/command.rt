@@ -1,7 +1,7 @@
 //! Makes one command, by calls of the monitor.
 ghost use Rattle.lfm_monitor.specs.Belongs.{OfMonitor, pass_sight};
 ghost use Rattle.lfm_mutex.specs.Close.{Idle};
-ghost use Rattle.lfm_program.specs.Causes.{HasCause};
+ghost use Rattle.lfm_program.specs.Causes.{HasCause, HasCauseIfSent};
 ghost use Rattle.lfm_program.specs.Performs.{CommandEnds, HoldsOnce, own_adds};
 ghost use Rattle.std.specs.Prelude.{◌≡◌, IfErr};
 
@@ -46,7 +46,7 @@ fn wait_for<R: Wait>(
     ensures holds { HoldsOnce (pass_sight pass.new) }
     ensures number { (pass_sight pass.new).number ≡ (pass_sight pass.old).number }
     ensures adds { own_adds (pass_sight pass.new) ≡ own_adds (pass_sight pass.old) }
-    ensures refused { IfErr result (λ r. HasCause (Command.Until condition bound) monitor.now pass.new r) }
+    ensures refused { IfErr result (λ r. HasCauseIfSent (Command.Until condition bound) monitor.now pass.new r) }
 {
     'waiting: for _ in rt.forever() {
         let total = monitor.apply(pass, TotalOp::Read)?;
@@ -72,7 +72,7 @@ fn until<R: Wait>(
     ensures idle { Idle (pass_sight pass.new) }
     ensures number { (pass_sight pass.new).number ≡ (pass_sight pass.old).number }
     ensures adds { CommandEnds (Command.Until condition bound) (pass_sight pass.old) (pass_sight pass.new) result }
-    ensures refused { IfErr result (λ r. HasCause (Command.Until condition bound) monitor.now pass.new r) }
+    ensures refused { IfErr result (λ r. HasCauseIfSent (Command.Until condition bound) monitor.now pass.new r) }
 {
     monitor.enter(rt, pass)?;
     let waited = wait_for(rt, monitor, pass, condition, bound);
@@ -93,7 +93,7 @@ fn wake_one<R: Wait>(
     ensures idle { Idle (pass_sight pass.new) }
     ensures number { (pass_sight pass.new).number ≡ (pass_sight pass.old).number }
     ensures adds { CommandEnds (Command.One condition) (pass_sight pass.old) (pass_sight pass.new) result }
-    ensures refused { IfErr result (λ r. HasCause (Command.One condition) monitor.now pass.new r) }
+    ensures refused { IfErr result (λ r. HasCauseIfSent (Command.One condition) monitor.now pass.new r) }
 {
     monitor.wake_one(rt, pass, condition)?;
     Ok(())
@@ -112,7 +112,7 @@ fn wake_all<R: Wait>(
     ensures idle { Idle (pass_sight pass.new) }
     ensures number { (pass_sight pass.new).number ≡ (pass_sight pass.old).number }
     ensures adds { CommandEnds (Command.All condition) (pass_sight pass.old) (pass_sight pass.new) result }
-    ensures refused { IfErr result (λ r. HasCause (Command.All condition) monitor.now pass.new r) }
+    ensures refused { IfErr result (λ r. HasCauseIfSent (Command.All condition) monitor.now pass.new r) }
 {
     monitor.wake_all(rt, pass, condition)?;
     Ok(())
@@ -132,7 +132,7 @@ pub(crate) fn make<R: Wait>(
     ensures idle { Idle (pass_sight pass.new) }
     ensures number { (pass_sight pass.new).number ≡ (pass_sight pass.old).number }
     ensures adds { CommandEnds command (pass_sight pass.old) (pass_sight pass.new) result }
-    ensures refused { IfErr result (λ r. HasCause command monitor.now pass.new r) }
+    ensures refused { IfErr result (λ r. HasCauseIfSent command monitor.now pass.new r) }
 {
     match command {
         Command::Add(number) => add(rt, monitor, pass, number),

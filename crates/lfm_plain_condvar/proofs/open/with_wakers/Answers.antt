@@ -15,7 +15,7 @@ use Rattle.lfm_plain_condvar.proofs.open.with_wakers.Goals as goal
 pub with_waker-requires : goal.with_waker-requires
 with_waker-requires c = let b = c.into_iter-seat-iterator.ensures.into_iter_gives in let xs = c.args.seats.items in
     let t = YieldsList-turn (YieldsList-from_vec {s = c.into_iter-seat-iterator.result} xs b.0 (b.1 ∙ c.args.seats.ok.0)) c.wrapped.yielded c.wrapped.seat-iterator c.wrapped.yielded_by c.next.result c.next.new.self c.in-Some.seat c.in-Some.is c.next.ensures.steps in
-    record { number = c.requires.numbers (length c.wrapped.yielded) c.in-Some.seat (found_at xs (length c.wrapped.yielded) c.in-Some.seat t.0 t.1) }
+    record { number = c.requires.numbers (length c.wrapped.yielded) c.in-Some.seat (found_at xs (length c.wrapped.yielded) c.in-Some.seat t.0 t.1); first = c.requires.first }
 
 pub wrapped-preserved : goal.wrapped-preserved
 wrapped-preserved c = let b = c.into_iter-seat-iterator.ensures.into_iter_gives in let xs = c.args.seats.items in let i = c.wrapped.invariant in

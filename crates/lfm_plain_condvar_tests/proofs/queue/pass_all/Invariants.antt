@@ -1,4 +1,4 @@
-use Rattle.lfm_plain_condvar_tests.specs.Hands.{IsHandOf}
+use Rattle.lfm_plain_test_tools.specs.Hands.{IsHandOf}
 use Rattle.lfm_plain_condvar_tests.proofs.queue.pass_all.Given as goal
 
 abbrev pub invariant-passes : goal.invariant-passes

@@ -1,4 +1,4 @@
-use Rattle.lfm_plain_condvar_tests.specs.Hands.{IsHandOf}
+use Rattle.lfm_plain_test_tools.specs.Hands.{IsHandOf}
 use Rattle.lfm_plain_condvar_tests.proofs.two_threads.reach.Given as goal
 
 abbrev pub invariant-reads : goal.invariant-reads

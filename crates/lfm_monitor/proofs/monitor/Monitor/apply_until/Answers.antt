@@ -1,12 +1,14 @@
 use Rattle.std.proofs.Common.{zero, suc, Result, inl, inr, refl, sym, subst, ◌∙◌}
 use Rattle.std.specs.Fn.{FnReturnsAt}
 use Rattle.lfm_model.specs.declared.refusals.Refusal.{Refusal}
-use Rattle.lfm_monitor.specs.Belongs.{cond_seats_of, mine_of, pass_sight, seen_of, share_of}
+use Rattle.lfm_monitor.specs.Belongs.{cond_seats_of, mine_of, pass_sight, plain_seats_of, seen_of, share_of}
 use Rattle.lfm_monitor.specs.Tries.{ApplyUntilEnds}
 use Rattle.lfm_monitor.proofs.Trying.{applied_depth, handed_on, waited_depth}
 use Rattle.lfm_mutex.proofs.runs.Woken.{looks_join, looks_none, may_look}
 use Rattle.lfm_monitor.specs.CondSeats.{CondsWokenAsGranted}
+use Rattle.lfm_monitor.specs.PlainSeats.{PlainSeatsWokenAsGranted}
 use Rattle.lfm_monitor.proofs.UsedConditions.{conds_woken_join, conds_woken_none}
+use Rattle.lfm_monitor.proofs.UsedPlainConditions.{plain_woken_join, plain_woken_none}
 use Rattle.lfm_mutex.proofs.runs.RunGoesOn.{run_next, run_same}
 use Rattle.lfm_monitor.proofs.monitor.Monitor.apply_until.Goals as goal
 
@@ -20,7 +22,7 @@ pub returns-in_err-_waited-clause-run : goal.returns-in_err-_waited-clause-run
 returns-in_err-_waited-clause-run g c = run_next (run_next c.tries.invariant.run c.apply.ensures.run) c.wait.ensures.run
 
 pub tries-init : goal.tries-init
-tries-init g c = record { belongs = c.requires.belongs; run = run_same; woken = looks_none c.args.pass.now.seat c.args.pass.now.seat refl refl; cond_woken = conds_woken_none (cond_seats_of c.args.pass.now); depth = refl; number = refl; tries = (zero, refl) }
+tries-init g c = record { belongs = c.requires.belongs; run = run_same; woken = looks_none c.args.pass.now.seat c.args.pass.now.seat refl refl; cond_woken = conds_woken_none (cond_seats_of c.args.pass.now) (cond_seats_of c.args.pass.now) refl; plain_woken = plain_woken_none (plain_seats_of c.args.pass.now) (plain_seats_of c.args.pass.now) refl; depth = refl; number = refl; tries = (zero, refl) }
 
 -- one more try failed
 pub tries-preserved : goal.tries-preserved
@@ -31,7 +33,8 @@ tries-preserved g c = let i = c.tries.invariant in let a = c.in_ok-reply.ensures
   number = w.number ∙ (a.number ∙ i.number);
   run = run_next i.run (run_next a.run w.run);
   woken = looks_join c.args.pass.now.seat l.seat q.seat i.woken (looks_join l.seat p.seat q.seat (may_look l.seat p.seat a.woken) w.woken);
-  cond_woken = conds_woken_join (cond_seats_of c.args.pass.now) (cond_seats_of p) (cond_seats_of q) (subst (CondsWokenAsGranted (cond_seats_of c.args.pass.now)) (sym a.conditions) i.cond_woken) w.cond_woken;
+  cond_woken = conds_woken_join (cond_seats_of c.args.pass.now) (cond_seats_of p) (cond_seats_of q) (subst (CondsWokenAsGranted (cond_seats_of c.args.pass.now)) (sym a.conditions.0) i.cond_woken) w.cond_woken;
+  plain_woken = plain_woken_join (plain_seats_of c.args.pass.now) (plain_seats_of p) (plain_seats_of q) (subst (PlainSeatsWokenAsGranted (plain_seats_of c.args.pass.now)) (sym a.conditions.1) i.plain_woken) w.plain_woken;
   tries = (
     suc i.tries.0,
     (
@@ -43,7 +46,7 @@ tries-preserved g c = let i = c.tries.invariant in let a = c.in_ok-reply.ensures
         waited = c.in_ok-_waited._waited;
         tries = (a.applies, a.seen, a.conditions);
         other = subst (λ b. FnReturnsAt g.F.Fn c.args.done c.in_ok-reply.reply b) c.if-accepts.false c.accepts.ensures;
-        waits = (w.waits, w.returns);
+        waits = (w.waits, w.plain_waits, w.returns);
       },
     ),
   );
@@ -58,7 +61,7 @@ pub returns-in_err-_waited-clause-tries : goal.returns-in_err-_waited-clause-tri
 returns-in_err-_waited-clause-tries g c = let i = c.tries.invariant in let a = c.in_ok-reply.ensures in let w = c.in_err-_waited.ensures in
     let other = subst (λ b. FnReturnsAt g.F.Fn c.args.done c.in_ok-reply.reply b) c.if-accepts.false c.accepts.ensures in
     handed_on (λ (q : Result _ Refusal). ApplyUntilEnds g.O.Object.after g.O.Object.reply c.args.self.now c.args.condition c.args.op (λ r b. FnReturnsAt g.F.Fn c.args.done r b) c.args.pass.now c.wait.new.pass q) _ _ c.from_residual-in_err-_waited.ensures.1
-    (i.tries.0, c.tries.pass, i.belongs, i.tries.1, inr (c.apply.new.pass, c.in_ok-reply.reply, (a.applies, a.seen, a.conditions), other, (w.waits, w.returns)))
+    (i.tries.0, c.tries.pass, i.belongs, i.tries.1, inr (c.apply.new.pass, c.in_ok-reply.reply, (a.applies, a.seen, a.conditions), other, (w.waits, w.plain_waits, w.returns)))
 
 pub returns-then-accepts-clause-applied : goal.returns-then-accepts-clause-applied
 returns-then-accepts-clause-applied g c = let a = c.in_ok-reply.ensures in (c.tries.pass, c.tries.invariant.belongs, (a.applies, a.seen, a.conditions))
@@ -77,11 +80,21 @@ pub returns-in_err-_waited-clause-woken : goal.returns-in_err-_waited-clause-wok
 returns-in_err-_waited-clause-woken g c = looks_join c.args.pass.now.seat c.apply.new.pass.seat c.wait.new.pass.seat (looks_join c.args.pass.now.seat c.tries.pass.seat c.apply.new.pass.seat c.tries.invariant.woken (may_look c.tries.pass.seat c.apply.new.pass.seat c.apply.ensures.woken)) c.wait.ensures.woken
 
 pub returns-in_err-reply-clause-cond_woken : goal.returns-in_err-reply-clause-cond_woken
-returns-in_err-reply-clause-cond_woken g c = subst (CondsWokenAsGranted (cond_seats_of c.args.pass.now)) (sym c.in_err-reply.ensures.conditions) c.tries.invariant.cond_woken
+returns-in_err-reply-clause-cond_woken g c = subst (CondsWokenAsGranted (cond_seats_of c.args.pass.now)) (sym c.in_err-reply.ensures.conditions.0) c.tries.invariant.cond_woken
 
 pub returns-then-accepts-clause-cond_woken : goal.returns-then-accepts-clause-cond_woken
-returns-then-accepts-clause-cond_woken g c = subst (CondsWokenAsGranted (cond_seats_of c.args.pass.now)) (sym c.in_ok-reply.ensures.conditions) c.tries.invariant.cond_woken
+returns-then-accepts-clause-cond_woken g c = subst (CondsWokenAsGranted (cond_seats_of c.args.pass.now)) (sym c.in_ok-reply.ensures.conditions.0) c.tries.invariant.cond_woken
 
 pub returns-in_err-_waited-clause-cond_woken : goal.returns-in_err-_waited-clause-cond_woken
 returns-in_err-_waited-clause-cond_woken g c = let p = cond_seats_of c.args.pass.now in let q = cond_seats_of c.apply.new.pass in
-    conds_woken_join p q (cond_seats_of c.wait.new.pass) (subst (CondsWokenAsGranted p) (sym c.in_ok-reply.ensures.conditions) c.tries.invariant.cond_woken) c.in_err-_waited.ensures.cond_woken
+    conds_woken_join p q (cond_seats_of c.wait.new.pass) (subst (CondsWokenAsGranted p) (sym c.in_ok-reply.ensures.conditions.0) c.tries.invariant.cond_woken) c.in_err-_waited.ensures.cond_woken
+
+pub returns-in_err-reply-clause-plain_woken : goal.returns-in_err-reply-clause-plain_woken
+returns-in_err-reply-clause-plain_woken g c = subst (PlainSeatsWokenAsGranted (plain_seats_of c.args.pass.now)) (sym c.in_err-reply.ensures.conditions.1) c.tries.invariant.plain_woken
+
+pub returns-then-accepts-clause-plain_woken : goal.returns-then-accepts-clause-plain_woken
+returns-then-accepts-clause-plain_woken g c = subst (PlainSeatsWokenAsGranted (plain_seats_of c.args.pass.now)) (sym c.in_ok-reply.ensures.conditions.1) c.tries.invariant.plain_woken
+
+pub returns-in_err-_waited-clause-plain_woken : goal.returns-in_err-_waited-clause-plain_woken
+returns-in_err-_waited-clause-plain_woken g c = let p = plain_seats_of c.args.pass.now in let q = plain_seats_of c.apply.new.pass in
+    plain_woken_join p q (plain_seats_of c.wait.new.pass) (subst (PlainSeatsWokenAsGranted p) (sym c.in_ok-reply.ensures.conditions.1) c.tries.invariant.plain_woken) c.in_err-_waited.ensures.plain_woken

@@ -85,7 +85,7 @@ pub returns-in_err-asked-clause-seen : goal.returns-in_err-asked-clause-seen
 returns-in_err-asked-clause-seen g c = refl
 
 pub returns-in_err-asked-clause-conditions : goal.returns-in_err-asked-clause-conditions
-returns-in_err-asked-clause-conditions g c = refl
+returns-in_err-asked-clause-conditions g c = (refl, refl)
 
 pub returns-in_err-asked-clause-steps : goal.returns-in_err-asked-clause-steps
 returns-in_err-asked-clause-steps g c = let m = c.args.self.now in
@@ -105,7 +105,7 @@ pub returns-in-Again-clause-seen : goal.returns-in-Again-clause-seen
 returns-in-Again-clause-seen g c = refl
 
 pub returns-in-Again-clause-conditions : goal.returns-in-Again-clause-conditions
-returns-in-Again-clause-conditions g c = refl
+returns-in-Again-clause-conditions g c = (refl, refl)
 
 pub returns-in-Again-clause-steps : goal.returns-in-Again-clause-steps
 returns-in-Again-clause-steps g c = rw c.in-Again.is at c.in_ok-asked.ensures.steps
@@ -126,7 +126,7 @@ pub returns-then-lacks_entry-clause-seen : goal.returns-then-lacks_entry-clause-
 returns-then-lacks_entry-clause-seen g c = refl
 
 pub returns-then-lacks_entry-clause-conditions : goal.returns-then-lacks_entry-clause-conditions
-returns-then-lacks_entry-clause-conditions g c = refl
+returns-then-lacks_entry-clause-conditions g c = (refl, refl)
 
 pub returns-then-lacks_entry-clause-steps : goal.returns-then-lacks_entry-clause-steps
 returns-then-lacks_entry-clause-steps g c = refl
@@ -135,7 +135,7 @@ pub returns-clause-seen : goal.returns-clause-seen
 returns-clause-seen g c = refl
 
 pub returns-clause-conditions : goal.returns-clause-conditions
-returns-clause-conditions g c = refl
+returns-clause-conditions g c = (refl, refl)
 
 pub returns-in-Asleep-clause-belongs : goal.returns-in-Asleep-clause-belongs
 returns-in-Asleep-clause-belongs g c = let p = c.args.pass.now in let m = c.args.self.now in let a = rw c.in-Asleep.is at c.in_ok-asked.ensures.asks in (
@@ -148,7 +148,7 @@ pub returns-in-Asleep-clause-seen : goal.returns-in-Asleep-clause-seen
 returns-in-Asleep-clause-seen g c = refl
 
 pub returns-in-Asleep-clause-conditions : goal.returns-in-Asleep-clause-conditions
-returns-in-Asleep-clause-conditions g c = refl
+returns-in-Asleep-clause-conditions g c = (refl, refl)
 
 pub overflow_add-pass : goal.overflow_add-pass
 overflow_add-pass g c = let p = c.args.pass.now in let m = c.args.self.now in let gains = rw c.in-Held.is at c.in_ok-asked.ensures.asks in

@@ -3,6 +3,7 @@ use Rattle.lfm_protocol.specs.declared.limits.Limits.{Limits}
 use Rattle.lfm_mutex.specs.declared.pace.Pace.{Pace}
 use Rattle.lfm_mutex.specs.Belongs.{limits_of}
 use Rattle.lfm_monitor.specs.CondSeats.{AreConditions, ArePaced}
+use Rattle.lfm_monitor.specs.PlainSeats.{ArePlainConditions, ArePlainPaced}
 use Rattle.lfm_mutex.specs.calls.Sight.{sight}
 use Rattle.lfm_model.specs.Journals.{after_all}
 use Rattle.lfm_monitor.specs.Belongs.{opening_of, passes_of, share_of}
@@ -53,11 +54,14 @@ pub returns-in-Ok-clause-all : goal.returns-in-Ok-clause-all
 returns-in-Ok-clause-all g c = c.in-Ok.ensures.all
 
 pub returns-in-Err-clause-missing : goal.returns-in-Err-clause-missing
-returns-in-Err-clause-missing g c = let m = c.in-Err.ensures.missing in ((m.0, refl, refl, refl), m.1, m.2)
+returns-in-Err-clause-missing g c = let m = c.in-Err.ensures.missing in ((m.0, refl, refl, refl, refl), m.1, m.2)
 
 pub invariant_of-result : goal.invariant_of-result
 invariant_of-result g c = let m = c.args.self in let same = sym c.in-Err.ensures.missing.0 in record {
   shared = ap (λ x. (limits_of x).budget) c.in-Err.ensures.missing.0 ∙ m.shared;
   wide = subst (λ (l : Limits). AreConditions l.seats m.conditions.items) (ap (λ x. limits_of x) same) m.wide;
   paced = subst (λ (p : Pace). ArePaced p m.conditions.items) (ap (λ x. x.pace) same) m.paced;
+  plain_wide = subst (λ (l : Limits). ArePlainConditions l.seats m.plain_conditions.items) (ap (λ x. limits_of x) same) m.plain_wide;
+  plain_paced = subst (λ (p : Pace). ArePlainPaced p m.plain_conditions.items) (ap (λ x. x.pace) same) m.plain_paced;
+  one_kind = m.one_kind;
 }

@@ -77,7 +77,7 @@ pub returns-in_err-locked-clause-seen : goal.returns-in_err-locked-clause-seen
 returns-in_err-locked-clause-seen g c = refl
 
 pub returns-in_err-locked-clause-conditions : goal.returns-in_err-locked-clause-conditions
-returns-in_err-locked-clause-conditions g c = refl
+returns-in_err-locked-clause-conditions g c = (refl, refl)
 
 pub returns-in_err-locked-clause-steps : goal.returns-in_err-locked-clause-steps
 returns-in_err-locked-clause-steps g c = let m = c.args.self.now in
@@ -97,7 +97,7 @@ pub returns-in-Again-clause-seen : goal.returns-in-Again-clause-seen
 returns-in-Again-clause-seen g c = refl
 
 pub returns-in-Again-clause-conditions : goal.returns-in-Again-clause-conditions
-returns-in-Again-clause-conditions g c = refl
+returns-in-Again-clause-conditions g c = (refl, refl)
 
 pub returns-in-Again-clause-steps : goal.returns-in-Again-clause-steps
 returns-in-Again-clause-steps g c = rw c.in-Again.is at c.in_ok-locked.ensures.steps
@@ -112,7 +112,7 @@ pub returns-then-lacks_entry-clause-seen : goal.returns-then-lacks_entry-clause-
 returns-then-lacks_entry-clause-seen g c = refl
 
 pub returns-then-lacks_entry-clause-conditions : goal.returns-then-lacks_entry-clause-conditions
-returns-then-lacks_entry-clause-conditions g c = refl
+returns-then-lacks_entry-clause-conditions g c = (refl, refl)
 
 pub returns-then-lacks_entry-clause-steps : goal.returns-then-lacks_entry-clause-steps
 returns-then-lacks_entry-clause-steps g c = let m = c.args.self.now in let s = sight c.args.pass.now.seat in enter_none (mutex_limits m) c.args.locking (tries_in m) _ s s refl
@@ -121,7 +121,7 @@ pub returns-clause-seen : goal.returns-clause-seen
 returns-clause-seen g c = refl
 
 pub returns-clause-conditions : goal.returns-clause-conditions
-returns-clause-conditions g c = refl
+returns-clause-conditions g c = (refl, refl)
 
 pub overflow_add-pass : goal.overflow_add-pass
 overflow_add-pass g c = let p = c.args.pass.now in let m = c.args.self.now in let gains = rw c.in-Held.is at c.in_ok-locked.ensures.locks in

@@ -34,7 +34,7 @@ returns g c = let p = c.args.pass.now in let m = c.args.self.now in let s = sigh
       run = c.unlock.ensures.run;
       woken = c.unlock.ensures.woken;
       mine = refl;
-      conditions = refl;
+      conditions = (refl, refl);
       steps = c.in_ok-unlocked.ensures.steps;
       bounded = c.in_ok-unlocked.ensures.bounded;
     }
@@ -58,7 +58,7 @@ pub returns-in_err-unlocked-clause-mine : goal.returns-in_err-unlocked-clause-mi
 returns-in_err-unlocked-clause-mine g c = refl
 
 pub returns-in_err-unlocked-clause-conditions : goal.returns-in_err-unlocked-clause-conditions
-returns-in_err-unlocked-clause-conditions g c = refl
+returns-in_err-unlocked-clause-conditions g c = (refl, refl)
 
 pub returns-in_err-unlocked-clause-steps : goal.returns-in_err-unlocked-clause-steps
 returns-in_err-unlocked-clause-steps g c =
@@ -81,7 +81,7 @@ pub returns-in-Still-clause-mine : goal.returns-in-Still-clause-mine
 returns-in-Still-clause-mine g c = refl
 
 pub returns-in-Still-clause-conditions : goal.returns-in-Still-clause-conditions
-returns-in-Still-clause-conditions g c = refl
+returns-in-Still-clause-conditions g c = (refl, refl)
 
 pub returns-in-Still-clause-steps : goal.returns-in-Still-clause-steps
 returns-in-Still-clause-steps g c = rw c.in-Still.is at c.in_ok-unlocked.ensures.steps

@@ -76,7 +76,7 @@ pub returns-then-lacks_entry-clause-seen : goal.returns-then-lacks_entry-clause-
 returns-then-lacks_entry-clause-seen g c = refl
 
 pub returns-then-lacks_entry-clause-conditions : goal.returns-then-lacks_entry-clause-conditions
-returns-then-lacks_entry-clause-conditions g c = refl
+returns-then-lacks_entry-clause-conditions g c = (refl, refl)
 
 pub returns-in_err-locked-clause-belongs : goal.returns-in_err-locked-clause-belongs
 returns-in_err-locked-clause-belongs g c = let p = c.args.pass.now in let m = c.args.self.now in let s = sight p.seat in let t = sight c.try_lock.new.seat in (
@@ -97,13 +97,13 @@ pub returns-in_err-locked-clause-seen : goal.returns-in_err-locked-clause-seen
 returns-in_err-locked-clause-seen g c = refl
 
 pub returns-in_err-locked-clause-conditions : goal.returns-in_err-locked-clause-conditions
-returns-in_err-locked-clause-conditions g c = refl
+returns-in_err-locked-clause-conditions g c = (refl, refl)
 
 pub returns-in-Again-clause-seen : goal.returns-in-Again-clause-seen
 returns-in-Again-clause-seen g c = refl
 
 pub returns-in-Again-clause-conditions : goal.returns-in-Again-clause-conditions
-returns-in-Again-clause-conditions g c = refl
+returns-in-Again-clause-conditions g c = (refl, refl)
 
 pub returns-in-Again-clause-belongs : goal.returns-in-Again-clause-belongs
 returns-in-Again-clause-belongs g c = let p = c.args.pass.now in let m = c.args.self.now in let s = sight p.seat in let t = sight c.try_lock.new.seat in let u = rw c.in-Again.is at c.in_ok-locked.ensures.locks in (
@@ -122,7 +122,7 @@ pub returns-clause-seen : goal.returns-clause-seen
 returns-clause-seen g c = refl
 
 pub returns-clause-conditions : goal.returns-clause-conditions
-returns-clause-conditions g c = refl
+returns-clause-conditions g c = (refl, refl)
 
 pub overflow_add-pass : goal.overflow_add-pass
 overflow_add-pass g c = let p = c.args.pass.now in let m = c.args.self.now in let gains = rw c.in-Held.is at c.in_ok-locked.ensures.locks in

@@ -76,13 +76,13 @@ pub returns-in_err-received-clause-seen : goal.returns-in_err-received-clause-se
 returns-in_err-received-clause-seen g c = refl
 
 pub returns-in_err-received-clause-conditions : goal.returns-in_err-received-clause-conditions
-returns-in_err-received-clause-conditions g c = refl
+returns-in_err-received-clause-conditions g c = (refl, refl)
 
 pub returns-in-None-clause-seen : goal.returns-in-None-clause-seen
 returns-in-None-clause-seen g c = refl
 
 pub returns-in-None-clause-conditions : goal.returns-in-None-clause-conditions
-returns-in-None-clause-conditions g c = refl
+returns-in-None-clause-conditions g c = (refl, refl)
 
 pub returns-in-None-clause-belongs : goal.returns-in-None-clause-belongs
 returns-in-None-clause-belongs g c = let p = c.args.pass.now in let m = c.args.self.now in let s = sight p.seat in let t = sight c.try_receive.new.seat in let r = rw c.in-None.is at c.in_ok-received.ensures.receives in (
@@ -101,7 +101,7 @@ pub returns-clause-seen : goal.returns-clause-seen
 returns-clause-seen g c = refl
 
 pub returns-clause-conditions : goal.returns-clause-conditions
-returns-clause-conditions g c = refl
+returns-clause-conditions g c = (refl, refl)
 
 pub overflow_add-pass : goal.overflow_add-pass
 overflow_add-pass g c = let p = c.args.pass.now in let m = c.args.self.now in let wakes = rw c.in-Some.is at c.in_ok-received.ensures.receives in let s = sight p.seat in let l = some_of s.last p.kept.there in

@@ -1,7 +1,9 @@
+use Rattle.std.proofs.Common.{sym, subst}
 use Rattle.lfm_mutex.specs.Belongs.{limits_of, tries_of}
-use Rattle.lfm_plain_condvar.proofs.Ends.{one_ends}
+use Rattle.lfm_plain_condvar.specs.Wakes.{WakeOneEnds}
+use Rattle.lfm_plain_condvar.proofs.Ends.{without_number_ends}
 use Rattle.lfm_plain_condvar.proofs.condvar.PlainCondvar.wake_one.Goals as goal
 
-pub returns-in-Ok-Some-clause-wakes : goal.returns-in-Ok-Some-clause-wakes
-returns-in-Ok-Some-clause-wakes g c = let a = c.args in let n = c.notify_now in
-    one_ends (limits_of a.self.now.inner) (tries_of a.self.now.inner) a.cond.now c.wake_one_later.new.cond n.new.cond c.wake_one_later.result c.in-Ok-Some.owed n.result (let p = c.in-Ok-Some.is in let q = c.in-Ok-Some.field-0-is in let r = c.in-Ok-Some.owed-is in cc) c.wake_one_later.ensures.wakes n.ensures.same n.ensures.notifies n.ensures.ticket
+pub returns-clause-wakes : goal.returns-clause-wakes
+returns-clause-wakes g c = let a = c.args in let w = c.wake_one_with_number in let own = limits_of a.self.now.inner in let tries = tries_of a.self.now.inner in
+    subst (λ q. WakeOneEnds own tries a.cond.now w.new.cond q) (sym c.without_number.ensures) (without_number_ends own tries a.cond.now w.new.cond w.result w.ensures.wakes)

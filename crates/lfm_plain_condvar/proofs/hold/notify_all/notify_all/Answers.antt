@@ -16,8 +16,8 @@ taken-preserved c = let i = c.taken.invariant in let x = c.in-Some.waiter in let
     i.gone.0 ++ x ∷ [],
     takes_more i.gone.0 x v c.taken.waiters w i.gone.1 t,
     (let l = length-append i.gone.0 (x ∷ []) in let k = i.gone.2 in omega arith),
-    told_more i.gone.0 x c.args.log.now.seat.me.0.parkers c.taken.log.seat.me.0.parkers c.notify.new.log.seat.me.0.parkers i.gone.3 c.notify.ensures.notified,
+    told_more i.gone.0 x c.args.log.now.seat.me.0.parkers c.taken.log.seat.me.0.parkers c.notify_before_wake.new.log.seat.me.0.parkers i.gone.3 c.notify_before_wake.ensures.notified,
   );
   of = (t.4.0 ∙ i.of.0, ap (λ y. y.root.table_id) t.4.1 ∙ i.of.1);
-  log = c.notify.ensures.log ∙ i.log;
+  log = c.notify_before_wake.ensures.log ∙ i.log;
 }

@@ -18,7 +18,7 @@ returns-clause-refused g c = let u = pass_sight c.wait_for-waited.new.pass in le
     let l = left u v (seen_of c.wait_for-waited.new.pass) (seen_of c.leave.new.pass) c.leave.result held c.leave.ensures.leaves in
     let takes = takes_left u v (seen_of c.wait_for-waited.new.pass) (seen_of c.leave.new.pass) c.leave.result held c.leave.ensures.leaves in
     cause_left c.args.monitor.now c.wait_for-waited.new.pass c.leave.new.pass c.args.condition c.args.bound c.wait_for-waited.result l.0.number takes c.leave.ensures.mine
-    c.leave.ensures.conditions c.wait_for-waited.ensures.refused
+    c.leave.ensures.conditions.0 c.wait_for-waited.ensures.refused
 
 pub returns-clause-idle : goal.returns-clause-idle
 returns-clause-idle g c =

@@ -33,4 +33,4 @@ pub returns-in_err-wait-clause-refused : goal.returns-in_err-wait-clause-refused
 returns-in_err-wait-clause-refused g c = let i = c.waiting.invariant in let s = pass_sight c.waiting.pass in let t = pass_sight c.apply.new.pass in
     let a = applied total_after total_reply (share_of c.args.monitor.now) Read s t (mine_of c.waiting.pass) (mine_of c.apply.new.pass) c.in_ok-total.total i.holds c.in_ok-total.ensures.applies in
     let e : c.from_residual-in_err-wait.result ≡ Err c.in_err-wait.field-0.0 = search rules in
-    rw e (not_waited_for c.args.monitor.now c.apply.new.pass c.wait.new.pass c.args.condition c.args.bound c.in_err-wait.field-0.0 a.1 c.in_err-wait.ensures.waits c.in_err-wait.ensures.returns.2)
+    rw e (λ sent. not_waited_for c.args.monitor.now c.apply.new.pass c.wait.new.pass c.args.condition c.args.bound c.in_err-wait.field-0.0 a.1 (c.in_err-wait.ensures.waits sent) c.in_err-wait.ensures.returns.2)

@@ -1,0 +1,39 @@
+//! Whether a seat that waits polls before its thread parks. Between two threads that take turns a wake comes early, and a
+//! poll costs less than a sleep and a wake-up. But on busy processors polls keep the other thread from its work. So a seat
+//! polls if it was notified during its last polls, and otherwise at some of its waits, as a trial.
+ghost use Rattle.std.specs.Prelude.{◌≡◌, true};
+
+/// The credit of a new seat, and of one that was notified while it polled. Each time that a seat polls and is not notified halves it.
+const FULL: u32 = 16;
+
+/// A seat without credit polls at one of this many waits.
+const WAITS_PER_TRIAL: u32 = 32;
+
+/// Whether the next waits of a seat may poll.
+#[derive(Clone, Copy)]
+pub struct PollCredit {
+    credit: u32,
+    /// The waits since the credit was spent.
+    waits: u32,
+}
+
+impl PollCredit {
+    /// The credit of a new seat.
+    pub(crate) const NEW: PollCredit = PollCredit {
+        credit: FULL,
+        waits: 0,
+    };
+
+    /// Whether the seat polls at its next wait: if it has credit, or as a trial. It counts the wait.
+    pub(crate) fn allows(&mut self) -> bool {
+        self.waits = self.waits.wrapping_add(1);
+        self.credit > 0 || self.waits % WAITS_PER_TRIAL == 0
+    }
+
+    /// Takes note of whether the seat was notified while it polled.
+    pub(crate) fn tell(&mut self, notified: bool)
+        ensures notified { notified ≡ true → self.new.credit ≡ 16 }
+    {
+        self.credit = if notified { FULL } else { self.credit / 2 };
+    }
+}

@@ -42,8 +42,27 @@ function showFirst() {
     : 'To come back to the tasks, press <b>start over</b>.';
 }
 
+// the lanes and their legend end where the window ends, or below it, if that would leave fewer pixels than this
+const LEAST_HEIGHT = 200;
+
+function fitLanes(lanes) {
+  const below = document.querySelector('.legend').offsetHeight + 8;
+  const top = lanes.getBoundingClientRect().top + scrollY;
+  lanes.style.maxHeight = Math.max(LEAST_HEIGHT, innerHeight - top - below) + 'px';
+}
+
+// scrolls the window, if the rows of the present moment are not in it
+function bringIntoSight() {
+  const rows = [...document.querySelectorAll('#lanes .now')].map(row => row.getBoundingClientRect());
+  if (rows.length === 0) return;
+  const top = Math.min(...rows.map(row => row.top)), bottom = Math.max(...rows.map(row => row.bottom));
+  if (bottom > innerHeight) scrollBy(0, bottom - innerHeight + 8);
+  else if (top < 0) scrollBy(0, top - 60);
+}
+
 function showLanes() {
   const lanes = $('lanes');
+  fitLanes(lanes);
   if (isAtTasks()) {
     lanes.innerHTML = tasksText();
     lanes.scrollTop = 0;
@@ -147,10 +166,10 @@ function show() {
   showFirst();
   $('seats').className = view.graph.seats > 3 ? 'seats many' : 'seats';
   $('seats').innerHTML = drawSeats(view, sentences);
-  showLanes();
-  $('memory').innerHTML = drawMemory(view);
   showStory();
   showTime();
+  showLanes();
+  $('memory').innerHTML = drawMemory(view);
   showTexts();
   const find = what => document.querySelector(`button[data-seat${what}`);
   if (seat) (find(`="${seat}"][data-act="${act}"]`) ?? find(`="${seat}"]`) ?? find(']') ?? $('lanes')).focus();
@@ -161,6 +180,7 @@ function show() {
 function goTo(moment) {
   view.at = Math.max(0, Math.min(view.path.length, moment));
   show();
+  bringIntoSight();
 }
 
 // the seat makes one event, or all steps of its call. What came after this moment is dropped

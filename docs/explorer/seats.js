@@ -17,7 +17,7 @@ function memoryOf(point) {
 function statusOf(state, seat) {
   const { point } = state.seats[seat - 1], has = state.placeSeat === seat ? state.placeName : '';
   const style = { owner: 'own', carried: 'carry', passed: 'granted' }[has] || (point.startsWith('sleeps') ? 'asleep' : '');
-  const asleep = has === 'passed' ? 'sleeps, and is granted the mutex' : 'sleeps';
+  const asleep = has === 'passed' ? 'sleeps, and has a grant' : 'sleeps';
   const idle = point.startsWith('sleeps') ? asleep : isInCall(point) ? `is in its ${point.split(' ')[0]}` : 'rests';
   return { style, has, is: { owner: 'owns', carried: 'carries the responsibility' }[has] || idle };
 }
@@ -65,8 +65,8 @@ function drawSeat(view, sentences, state, seat) {
   const mark = has === 'carried' ? `<svg width="14" height="14" class="inline" aria-hidden="true">${token}</svg> ` : '';
   const used = `${takes}${view.graph.budget === LARGEST_BUDGET ? '' : ' of ' + view.graph.budget} acquisitions used`;
   return `<section class="seat ${style}" aria-labelledby="seat${seat}">
-<h2 id="seat${seat}">${mark}Seat ${seat} <span>${is} · depth ${depth} · ${used}</span></h2>
-${text}<div class="buttons">${buttonsOf(choice, seat, isInCall(point))}</div></section>`;
+<h2 id="seat${seat}">${mark}Seat ${seat} <span>${is} <span class="uses">depth ${depth} · ${used}</span></span></h2>
+<div class="buttons">${buttonsOf(choice, seat, isInCall(point))}</div>${text}</section>`;
 }
 
 function drawSeats(view, sentences) {

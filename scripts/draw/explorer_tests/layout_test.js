@@ -86,6 +86,18 @@ for (const file of [pageFile, threeFile].filter(file => file)) {
   });
 }
 
+for (const [width, height] of [[1450, 900], [1280, 900], [1000, 900]]) {
+  test(`${width} pixels: no step moves a button on, back or start over, or the first button of a seat`, async () => {
+    await browser.open(address(pageFile), width, height);
+    const places = await afterEachStep(`() => {
+      const panels = [...document.querySelectorAll('.seat .buttons')];
+      const topOf = element => element.getBoundingClientRect().top + (element.closest('.time') ? 0 : scrollY);
+      return [...['back', 'on', 'anew'].map(id => document.getElementById(id)), ...panels.slice(0, 2)].map(topOf).join(' ');
+    }`);
+    assert.strictEqual(new Set(places).size, 1, [...new Set(places)].join(' | '));
+  });
+}
+
 test('a path that goes on says how', async () => {
   await browser.open(address(pageFile));
   await chooseTitle('A posted hand-off');

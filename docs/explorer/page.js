@@ -266,10 +266,14 @@ const KEYS = {
   n: () => $('following')?.click(),
 };
 
+// whether the last key in a list was one that leads to its next item
+let isWalkingList = false;
+
 function pressKey(event) {
   if (event.ctrlKey || event.metaKey || event.altKey || event.target.tagName === 'TEXTAREA') return;
-  // in a list only the keys that lead along the path, since others choose an item of it
-  if (event.target.tagName === 'SELECT' && !/^Arrow(Left|Right)$/.test(event.key)) return;
+  isWalkingList = event.target.tagName === 'SELECT' && /^Arrow(Up|Down)$/.test(event.key);
+  // in a list only the keys that lead along the path and those with a number, since others choose an item of it
+  if (event.target.tagName === 'SELECT' && !/^(Arrow(Left|Right)|Digit\d)$/.test(event.code)) return;
   const button = buttonOfKey(event);
   if (button) choose(Number(button.dataset.seat), button.dataset.act);
   else if (event.key in KEYS && event.target !== $('slider')) KEYS[event.key]();
@@ -292,6 +296,16 @@ function copySchedule() {
   navigator.clipboard?.writeText($('schedule').value).catch(() => document.execCommand('copy'));
 }
 
+// a choice in a list, after which the keys belong to the page again; but a reader who walks through a list by keys stays in it
+function listenToList(list, act) {
+  list.onpointerdown = () => { isWalkingList = false; };
+  list.onchange = () => {
+    const isWalked = isWalkingList;
+    act(list.value);
+    if (!isWalked) $('story').focus({ preventScroll: true });
+  };
+}
+
 const option = (value, text) => `<option value="${value}">${escape(text)}</option>`;
 const options = (first, names) => option('', first) + names.map((name, i) => option(i, name)).join('');
 
@@ -307,12 +321,12 @@ function listen() {
   $('schedule').onchange = () => load(view.graph.kind === 'path' ? graphs.whole : view.graph, $('schedule').value);
   $('copy').onclick = copySchedule;
   $('examples').innerHTML = options('a free mutex', examples.map(({ title }, i) => `${i + 1}. ${title}`));
-  $('examples').onchange = () => $('examples').value === '' ? startAnew() : startExample(Number($('examples').value));
+  listenToList($('examples'), value => value === '' ? startAnew() : startExample(Number(value)));
   const ways = WAYS.filter(([, isWanted]) => hasEvent(graphs.whole, isWanted));
   $('ways').innerHTML = options('the shortest way to …', ways.map(([name]) => name));
-  $('ways').onchange = () => {
-    if ($('ways').value !== '') showWay(ways[$('ways').value][1]);
-  };
+  listenToList($('ways'), value => {
+    if (value !== '') showWay(ways[value][1]);
+  });
   // the item stays until then, so that a reader by keys can go from one to the next
   $('ways').onblur = () => { $('ways').value = ''; };
 }

@@ -34,12 +34,14 @@ function tasksText() {
   return `<div class="tasks"><h2>New here? Tasks of a minute each</h2><ol>${items}</ol></div>`;
 }
 
+// whether a mutex with a fault is shown after its start: then it is started over first
+const canStartOver = () => view.graph.kind === 'wrong' && view.path.length > (view.task ? view.given : 0);
 const isAtTasks = () => view.path.length === 0 && view.task === null;
 
 // what to do first, or how to come back to the tasks
 function showFirst() {
   $('first').innerHTML = isAtTasks() ? 'To begin, press <b>try</b> at task 1 below, and then the blue buttons of the seats.'
-    : 'To come back to the tasks, press <b>start over</b>.';
+    : `To come back to the tasks, press <b>start over</b>${canStartOver() ? ' twice' : ''}.`;
 }
 
 // the lanes and their legend end where the window ends, or below it, if that would leave fewer pixels than this
@@ -122,7 +124,8 @@ function showTheTask() {
 function wrongTexts(node) {
   if (view.graph.kind !== 'wrong') return [];
   const fault = faultOf(view.graph, node);
-  return ['<span class="fault">This is a wrong mutex: the programs know only the right one.</span>',
+  const said = 'This mutex has a fault on purpose, to show what a step is for. The right mutex does not have it.';
+  return [`<span class="fault">${said}</span>`,
     ...(fault ? [`<b class="fault">A fault: ${fault}</b>`] : [])];
 }
 
@@ -132,11 +135,19 @@ function onwardTexts() {
   return ['<span class="soft">More events follow: <b>on ▶</b> shows the next one. A choice at a seat drops them.</span>'];
 }
 
+// who has the responsibility. The place that a trace names is right in the right mutex alone
+function placeTexts(state) {
+  const { placeName, placeSeat } = state, many = manyResponsible(state), isRight = many === (placeName === 'free' ? 0 : 1);
+  const who = many === 0 ? 'nobody' : many > 1 ? 'more than one' : '';
+  const place = isRight ? sentence(sentences, 'place ' + placeName, placeSeat).does
+    : who && `In this state of a mutex with a fault ${who} has the responsibility.`;
+  return place ? [`<span class="soft">${place}</span>`] : [];
+}
+
 function showStory() {
-  const { node, placeName, placeSeat } = stateAfter(view, view.at);
-  const place = sentence(sentences, 'place ' + placeName, placeSeat).does;
-  const texts = [...taskTexts(), ...eventTexts(view.path[view.at - 1]), ...wrongTexts(node)];
-  const last = [`<span class="soft">${place}</span>`, ...onwardTexts()];
+  const state = stateAfter(view, view.at);
+  const texts = [...taskTexts(), ...eventTexts(view.path[view.at - 1]), ...wrongTexts(state.node)];
+  const last = [...placeTexts(state), ...onwardTexts()];
   $('story').innerHTML = [...texts, ...last].map(text => `<p>${text}</p>`).join('');
 }
 
@@ -198,6 +209,7 @@ function load(graph, schedule, moment) {
 }
 
 function startAnew() {
+  if (canStartOver()) return view.task ? startTask(tasks.indexOf(view.task)) : load(view.graph, 'seats ' + view.graph.seats);
   view.task = null;
   $('examples').value = '';
   load(graphs.whole, 'seats ' + graphs.whole.seats);

@@ -78,6 +78,14 @@ function outcomeOf(step) {
   return after === undefined ? `It found ${was}.` : `The word had ${was}, and has ${valueText(word, after)} now.`;
 }
 
+// the answer of a step to the question that its sentence asks; empty if it asks none
+function answerOf(step, seat) {
+  const owner = /^(?:try_)?lock 2: owner load (\d+)/.exec(step);
+  if (owner) return owner[1] === String(seat) ? 'Yes.' : 'No.';
+  if (!/^(unlock 4|start_wait 4|send_lock 7): push load /.test(step)) return '';
+  return / none\)/.test(step) ? 'No.' : 'Yes.';
+}
+
 // how wide the values are: the queue is the last of them, and the longest
 function valuesWidth(graph, rows) {
   const longest = Math.max(0, ...rows.map(({ event }) => stateAt(graph, event.to).line.split(' ')[4].length));
@@ -219,5 +227,5 @@ function drawValues(view, row, before, layout, y) {
 }
 
 if (typeof module !== 'undefined') {
-  Object.assign(module.exports, { PITCH, rowsOf, layoutOf, laneAt, drawLanes, nameOf, shownName, outcomeOf, isAnswer });
+  Object.assign(module.exports, { PITCH, rowsOf, layoutOf, laneAt, drawLanes, nameOf, shownName, outcomeOf, answerOf, isAnswer });
 }

@@ -89,7 +89,7 @@ function eventTexts(event) {
   } else {
     const raw = `<code class="soft">${escape(event.step.slice(name.length + 2))}</code>`;
     const does = withStop(sentence(sentences, name, event.seat).does);
-    texts.push(`<b>${shownName(event.step)}</b> of seat ${event.seat}: ${does}`, `${outcomeOf(event.step)} ${raw}`);
+    texts.push(`<b>${shownName(event.step)}</b> of seat ${event.seat}: ${does}`, `${answerOf(event.step, event.seat)} ${outcomeOf(event.step)} ${raw}`);
   }
   const answer = () => withStop(sentence(sentences, turnName(event), event.seat).does);
   if (isAnswer(event.turn)) texts.push(`<b>${escape(event.turn)}.</b> ${answer()}`);

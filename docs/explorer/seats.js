@@ -40,9 +40,11 @@ function refusedText(sentences, refusals, seat) {
 }
 
 // the sentences of a seat that rests or sleeps: what it may begin, and what its checks refuse
-function idleText(view, sentences, { moves, refusals }, depth, seat) {
+function idleText(view, sentences, { moves, refusals }, { depth, point }, seat) {
   if (view.graph.kind === 'path') return moves.length ? '' : '<p class="next">It does nothing next in this schedule.</p>';
-  const rest = moves.length ? 'Choose the call that it begins.' : 'It can begin no call.';
+  const only = moves.map(({ act }) => act).join(' or '), isAsleep = point.startsWith('sleeps');
+  const rest = moves.length === 0 ? 'It can begin no call here.'
+    : isAsleep ? `It sleeps, and may call ${only} alone: a look for a grant.` : 'Choose the call that it begins.';
   const isLeftOut = depth > 0 && ![...moves, ...refusals].some(({ act }) => act === 'lock');
   return `<p class="next">${rest}</p>${refusedText(sentences, refusals, seat)}`
     + (isLeftOut ? '<p class="next">Left out here: a lock by a seat that holds already.</p>' : '');
@@ -60,7 +62,7 @@ function buttonsOf(choice, seat, isOpen) {
 function drawSeat(view, sentences, state, seat) {
   const { point, depth, takes } = state.seats[seat - 1], choice = state.choices[seat - 1];
   const { style, has, is } = statusOf(state, seat);
-  const text = isInCall(point) ? openText(view, sentences, point, seat) : idleText(view, sentences, choice, depth, seat);
+  const text = isInCall(point) ? openText(view, sentences, point, seat) : idleText(view, sentences, choice, state.seats[seat - 1], seat);
   const token = `<circle cx="7" cy="8" r="6" class="token" data-at="seat.${seat}"/>`;
   const mark = has === 'carried' ? `<svg width="14" height="14" class="inline" aria-hidden="true">${token}</svg> ` : '';
   const used = `${takes}${view.graph.budget === LARGEST_BUDGET ? '' : ' of ' + view.graph.budget} acquisitions used`;

@@ -15,6 +15,8 @@ const laterIf = isLater => isLater ? ' later' : '';
 // the name of a step as a reader sees it: what traces call take, the page calls collect
 const nameOf = step => step.split(': ')[0];
 const shownName = step => nameOf(step).replace(/ take (\d)$/, ', collect $1');
+// a call as a reader sees it: the number of a send is that of a seat, and not of a step
+const shownAct = act => act.replace(/^send_lock (\d+)$/, 'send_lock to seat $1');
 const wordOf = step => (/: ([a-z]+(\.\d+)?) /.exec(step) || [])[1];
 
 const head = kind => `<marker id="${kind}head" viewBox="0 0 8 8" refX="7" refY="4" markerWidth="9" markerHeight="9"
@@ -34,7 +36,7 @@ function rowsOf(view) {
   view.path.forEach((event, i) => {
     const start = event.act !== '.', moment = i + 1;
     const kind = !start ? 'step' : event.turn.startsWith('refused') ? 'refused' : 'begin';
-    const name = start ? event.act : shownName(event.step);
+    const name = start ? shownAct(event.act) : shownName(event.step);
     rows.push({ event, moment, kind, name, detail: start ? '' : shortStep(event.step) });
     if (isAnswer(event.turn)) rows.push({ event, moment, kind: 'answer', name: event.turn, detail: '' });
   });

@@ -85,7 +85,7 @@ function eventTexts(event) {
   const texts = [], name = nameOf(event.step);
   if (event.act !== '.') {
     const what = event.turn === 'begins' ? sentences.begins.does : 'its checks answer at once.';
-    texts.push(`<b>${escape(event.seat + ' ' + event.act)}</b>: ${what}`);
+    texts.push(`<b>${escape(event.seat + ' ' + shownAct(event.act))}</b>: ${what}`);
   } else {
     const raw = `<code class="soft">${escape(event.step.slice(name.length + 2))}</code>`;
     const does = withStop(sentence(sentences, name, event.seat).does);
@@ -308,7 +308,7 @@ function copySchedule() {
   navigator.clipboard?.writeText($('schedule').value).catch(() => document.execCommand('copy'));
 }
 
-// a choice in a list, after which the keys belong to the page again; but a reader who walks through a list by keys stays in it
+// a choice in a list, after which the keys belong to the page again; but who walks through a list by keys stays in it
 function listenToList(list, act) {
   list.onpointerdown = () => { isWalkingList = false; };
   list.onchange = () => {

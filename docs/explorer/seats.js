@@ -33,7 +33,7 @@ function openText(view, sentences, point, seat) {
 // why the checks of calls refuse them now, as one sentence
 function refusedText(sentences, refusals, seat) {
   const reasons = [...new Set(refusals.map(({ why }) => why))].map(why => {
-    const acts = refusals.filter(refusal => refusal.why === why).map(({ act }) => act).join(', ');
+    const acts = refusals.filter(refusal => refusal.why === why).map(({ act }) => shownAct(act)).join(', ');
     return `${acts} as ${why}, since ${sentence(sentences, 'check ' + why, seat).does}`;
   });
   return reasons.length === 0 ? '' : `<p class="next">Refused: ${reasons.join('; ')}.</p>`;
@@ -55,8 +55,8 @@ function buttonsOf(choice, seat, isOpen) {
  aria-label="seat ${seat}: ${text}">${text}${key === '' ? '' : `<kbd>${key}</kbd>`}</button>`;
   if (isOpen && choice.moves.length === 0) return '';
   if (isOpen) return button('.', 'make this step', seat) + button('*', 'finish the call', 'shift ' + seat);
-  return choice.moves.map(({ act }, i) => button(act, act, i === 0 ? seat : '')).join('')
-    + choice.refusals.map(({ act, why }) => `<button disabled title="refused as ${why}">${act}</button>`).join('');
+  return choice.moves.map(({ act }, i) => button(act, shownAct(act), i === 0 ? seat : '')).join('')
+    + choice.refusals.map(({ act, why }) => `<button disabled title="refused as ${why}">${shownAct(act)}</button>`).join('');
 }
 
 function drawSeat(view, sentences, state, seat) {

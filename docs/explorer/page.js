@@ -20,8 +20,9 @@ for (const element of document.querySelectorAll('[data-start]')) {
 const sentences = readSentences($('sentences').textContent);
 const tasks = readTasks($('tasks').textContent).map(task => ({ ...task, graph: graphs[task.graph] }))
   .filter(({ graph, schedule }) => graph && follow(graph, `seats ${graph.seats}\n${schedule}`).fault === 0);
-// what is shown: a path in a graph, the moment in it, the task if one was started, and how long the path was then
-const view = { graph: graphs.whole, path: [], at: 0, task: null, given: 0 };
+// what is shown: a path in a graph, the moment in it, the task if one was started, how long the path was then, and which
+// tasks were finished before
+const view = { graph: graphs.whole, path: [], at: 0, task: null, given: 0, finished: new Set() };
 
 // ---- drawing
 
@@ -30,7 +31,8 @@ const withStop = text => /[.?!]$/.test(text) ? text : text + '.';
 // the list of tasks, where there is nothing to draw yet
 function tasksText() {
   const button = i => `<button data-task="${i}" aria-label="try task ${i + 1}">try</button>`;
-  const items = tasks.map(({ text }, i) => `<li>${escape(text)} ${button(i)}</li>`).join('');
+  const tick = i => view.finished.has(i) ? '<b class="done" title="done">✓</b> ' : '';
+  const items = tasks.map(({ text }, i) => `<li>${tick(i)}${escape(text)} ${button(i)}</li>`).join('');
   return `<div class="tasks"><h2>New here? Tasks of a minute each</h2><ol>${items}</ol></div>`;
 }
 
@@ -109,6 +111,7 @@ function taskTexts() {
   const isDone = view.path.slice(view.given, view.at).some(event => isGoal(graph, task.goal, event));
   const text = `<b>Task ${number}.</b> ${escape(task.text)}`;
   if (!isDone) return [`${text} <button data-task="${number - 1}">again</button><button id="hint">show me</button>`];
+  view.finished.add(number - 1);
   const next = number < tasks.length ? ` <button id="following" data-task="${number}">next task<kbd>n</kbd></button>` : '';
   return [text, `<span class="done"><b>✓ Done.</b> ${escape(task.seen)}</span>${next}`];
 }

@@ -136,6 +136,8 @@ test('each task is done when its event has happened, and not before', async () =
     assert((await text('story')).includes('Done.'), `task ${i + 1}`);
     assert.deepStrictEqual(await layoutFaults(), [], `task ${i + 1}`);
   }
+  await browser.run(`load(graphs.whole, 'seats 2'); startAnew()`);
+  assert.strictEqual(await browser.run(`document.querySelectorAll('.tasks li .done').length`), many);
   return `${many} tasks`;
 });
 

@@ -15,6 +15,8 @@ const laterIf = isLater => isLater ? ' later' : '';
 // the name of a step as a reader sees it: what traces call take, the page calls collect
 const nameOf = step => step.split(': ')[0];
 const shownName = step => nameOf(step).replace(/ take (\d)$/, ', collect $1');
+// a call as a reader sees it: the number of a send is that of a seat, and not of a step
+const shownAct = act => act.replace(/^send_lock (\d+)$/, 'send_lock to seat $1');
 const wordOf = step => (/: ([a-z]+(\.\d+)?) /.exec(step) || [])[1];
 
 const head = kind => `<marker id="${kind}head" viewBox="0 0 8 8" refX="7" refY="4" markerWidth="9" markerHeight="9"
@@ -34,7 +36,7 @@ function rowsOf(view) {
   view.path.forEach((event, i) => {
     const start = event.act !== '.', moment = i + 1;
     const kind = !start ? 'step' : event.turn.startsWith('refused') ? 'refused' : 'begin';
-    const name = start ? event.act : shownName(event.step);
+    const name = start ? shownAct(event.act) : shownName(event.step);
     rows.push({ event, moment, kind, name, detail: start ? '' : shortStep(event.step) });
     if (isAnswer(event.turn)) rows.push({ event, moment, kind: 'answer', name: event.turn, detail: '' });
   });
@@ -76,6 +78,14 @@ function outcomeOf(step) {
   if (operation === 'clear-head') return before.includes('none') ? 'It found an empty list.' : `It found ${was}.`;
   if (operation === 'exchange') return `It succeeded: the word has ${valueText(word, after)} now.`;
   return after === undefined ? `It found ${was}.` : `The word had ${was}, and has ${valueText(word, after)} now.`;
+}
+
+// the answer of a step to the question that its sentence asks; empty if it asks none
+function answerOf(step, seat) {
+  const owner = /^(?:try_)?lock 2: owner load (\d+)/.exec(step);
+  if (owner) return owner[1] === String(seat) ? 'Yes.' : 'No.';
+  if (!/^(unlock 4|start_wait 4|send_lock 7): push load /.test(step)) return '';
+  return / none\)/.test(step) ? 'No.' : 'Yes.';
 }
 
 // how wide the values are: the queue is the last of them, and the longest
@@ -219,5 +229,5 @@ function drawValues(view, row, before, layout, y) {
 }
 
 if (typeof module !== 'undefined') {
-  Object.assign(module.exports, { PITCH, rowsOf, layoutOf, laneAt, drawLanes, nameOf, shownName, outcomeOf, isAnswer });
+  Object.assign(module.exports, { PITCH, rowsOf, layoutOf, laneAt, drawLanes, nameOf, shownName, outcomeOf, answerOf, isAnswer });
 }

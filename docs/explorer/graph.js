@@ -251,6 +251,17 @@ function unwind(came, node, last) {
 
 // ---- what never happens in the right mutex
 
+// the points of calls that carry the responsibility, and those of a release, whose seat holds no more
+const CARRIES = /^(\w+ \d+ take \d|lock (9|10)|unlock [236]|try_lock [36]|receive 3|start_wait [236]|send_lock 9): /;
+const RELEASES = /^(unlock|start_wait) [2-9]/;
+
+// how many seats, posts and grants have the responsibility in a state, by its words and the points of its seats
+function manyResponsible({ handoff, seats }) {
+  const isOne = ({ depth, point }) => CARRIES.test(point) || (depth > 0 && !RELEASES.test(point));
+  const grants = seats.filter(({ wake }) => wake.startsWith('GRANT'));
+  return (handoff === '0' ? 0 : 1) + grants.length + seats.filter(isOne).length;
+}
+
 // whether this seat sleeps in its lock, and gets no grant whatever the others do. Its own looks change nothing before that
 function sleepsForEver(graph, node, seat) {
   const reached = new Set([node]);
@@ -272,7 +283,8 @@ function faultOf(graph, node) {
     return `Seat ${holders[0]} holds the mutex, and the owner word says ${named}.`;
   }
   const lost = seats.findIndex(({ point }) => / link\.0 /.test(point)) + 1;
-  if (lost !== 0) return `Seat ${lost} took a post over to serve a queued seat, and none is queued: it has no next step.`;
+  const what = 'took a post over to serve a queued seat, and none is queued';
+  if (lost !== 0) return `Seat ${lost} ${what}: its next step would read a record that is not there.`;
   const asleep = seats.findIndex((seat, i) => sleepsForEver(graph, node, i + 1)) + 1;
   return asleep === 0 ? '' : `Seat ${asleep} sleeps for ever: whatever the seats do from here, it gets no grant.`;
 }
@@ -298,5 +310,5 @@ function listsOf(state) {
 if (typeof module !== 'undefined') {
   Object.assign(module.exports, { readGraph, stateAt, readSentences, sentenceName, sentence, readTasks, isGoal, makeEvent,
     endOf, follow, lineOfNext, extend, linesOf, lineText, LARGEST_BUDGET, scheduleOf, traceOf, explanationOf, WAYS, hasEvent,
-    wayTo, eventsFrom, sleepsForEver, faultOf, listsOf });
+    wayTo, eventsFrom, manyResponsible, sleepsForEver, faultOf, listsOf });
 }

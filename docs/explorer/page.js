@@ -20,8 +20,9 @@ for (const element of document.querySelectorAll('[data-start]')) {
 const sentences = readSentences($('sentences').textContent);
 const tasks = readTasks($('tasks').textContent).map(task => ({ ...task, graph: graphs[task.graph] }))
   .filter(({ graph, schedule }) => graph && follow(graph, `seats ${graph.seats}\n${schedule}`).fault === 0);
-// what is shown: a path in a graph, the moment in it, the task if one was started, and how long the path was then
-const view = { graph: graphs.whole, path: [], at: 0, task: null, given: 0 };
+// what is shown: a path in a graph, the moment in it, the task if one was started, how long the path was then, and which
+// tasks were finished before
+const view = { graph: graphs.whole, path: [], at: 0, task: null, given: 0, finished: new Set() };
 
 // ---- drawing
 
@@ -30,20 +31,42 @@ const withStop = text => /[.?!]$/.test(text) ? text : text + '.';
 // the list of tasks, where there is nothing to draw yet
 function tasksText() {
   const button = i => `<button data-task="${i}" aria-label="try task ${i + 1}">try</button>`;
-  const items = tasks.map(({ text }, i) => `<li>${escape(text)} ${button(i)}</li>`).join('');
+  const tick = i => view.finished.has(i) ? '<b class="done" title="done">✓</b> ' : '';
+  const items = tasks.map(({ text }, i) => `<li>${tick(i)}${escape(text)} ${button(i)}</li>`).join('');
   return `<div class="tasks"><h2>New here? Tasks of a minute each</h2><ol>${items}</ol></div>`;
 }
 
+// whether a mutex with a fault is shown after its start: then it is started over first
+const canStartOver = () => view.graph.kind === 'wrong' && view.path.length > (view.task ? view.given : 0);
 const isAtTasks = () => view.path.length === 0 && view.task === null;
 
 // what to do first, or how to come back to the tasks
 function showFirst() {
   $('first').innerHTML = isAtTasks() ? 'To begin, press <b>try</b> at task 1 below, and then the blue buttons of the seats.'
-    : 'To come back to the tasks, press <b>start over</b>.';
+    : `To come back to the tasks, press <b>start over</b>${canStartOver() ? ' twice' : ''}.`;
+}
+
+// the lanes and their legend end where the window ends, or below it, if that would leave fewer pixels than this
+const LEAST_HEIGHT = 200;
+
+function fitLanes(lanes) {
+  const below = document.querySelector('.legend').offsetHeight + 8;
+  const top = lanes.getBoundingClientRect().top + scrollY;
+  lanes.style.maxHeight = Math.max(LEAST_HEIGHT, innerHeight - top - below) + 'px';
+}
+
+// scrolls the window, if the rows of the present moment are not in it
+function bringIntoSight() {
+  const rows = [...document.querySelectorAll('#lanes .now')].map(row => row.getBoundingClientRect());
+  if (rows.length === 0) return;
+  const top = Math.min(...rows.map(row => row.top)), bottom = Math.max(...rows.map(row => row.bottom));
+  if (bottom > innerHeight) scrollBy(0, bottom - innerHeight + 8);
+  else if (top < 0) scrollBy(0, top - 60);
 }
 
 function showLanes() {
   const lanes = $('lanes');
+  fitLanes(lanes);
   if (isAtTasks()) {
     lanes.innerHTML = tasksText();
     lanes.scrollTop = 0;
@@ -64,11 +87,11 @@ function eventTexts(event) {
   const texts = [], name = nameOf(event.step);
   if (event.act !== '.') {
     const what = event.turn === 'begins' ? sentences.begins.does : 'its checks answer at once.';
-    texts.push(`<b>${escape(event.seat + ' ' + event.act)}</b>: ${what}`);
+    texts.push(`<b>${escape(event.seat + ' ' + shownAct(event.act))}</b>: ${what}`);
   } else {
     const raw = `<code class="soft">${escape(event.step.slice(name.length + 2))}</code>`;
     const does = withStop(sentence(sentences, name, event.seat).does);
-    texts.push(`<b>${shownName(event.step)}</b> of seat ${event.seat}: ${does}`, `${outcomeOf(event.step)} ${raw}`);
+    texts.push(`<b>${shownName(event.step)}</b> of seat ${event.seat}: ${does}`, `${answerOf(event.step, event.seat)} ${outcomeOf(event.step)} ${raw}`);
   }
   const answer = () => withStop(sentence(sentences, turnName(event), event.seat).does);
   if (isAnswer(event.turn)) texts.push(`<b>${escape(event.turn)}.</b> ${answer()}`);
@@ -88,6 +111,7 @@ function taskTexts() {
   const isDone = view.path.slice(view.given, view.at).some(event => isGoal(graph, task.goal, event));
   const text = `<b>Task ${number}.</b> ${escape(task.text)}`;
   if (!isDone) return [`${text} <button data-task="${number - 1}">again</button><button id="hint">show me</button>`];
+  view.finished.add(number - 1);
   const next = number < tasks.length ? ` <button id="following" data-task="${number}">next task<kbd>n</kbd></button>` : '';
   return [text, `<span class="done"><b>✓ Done.</b> ${escape(task.seen)}</span>${next}`];
 }
@@ -103,7 +127,8 @@ function showTheTask() {
 function wrongTexts(node) {
   if (view.graph.kind !== 'wrong') return [];
   const fault = faultOf(view.graph, node);
-  return ['<span class="fault">This is a wrong mutex: the programs know only the right one.</span>',
+  const said = 'This mutex has a fault on purpose, to show what a step is for. The right mutex does not have it.';
+  return [`<span class="fault">${said}</span>`,
     ...(fault ? [`<b class="fault">A fault: ${fault}</b>`] : [])];
 }
 
@@ -113,11 +138,19 @@ function onwardTexts() {
   return ['<span class="soft">More events follow: <b>on ▶</b> shows the next one. A choice at a seat drops them.</span>'];
 }
 
+// who has the responsibility. The place that a trace names is right in the right mutex alone
+function placeTexts(state) {
+  const { placeName, placeSeat } = state, many = manyResponsible(state), isRight = many === (placeName === 'free' ? 0 : 1);
+  const who = many === 0 ? 'nobody' : many > 1 ? 'more than one' : '';
+  const place = isRight ? sentence(sentences, 'place ' + placeName, placeSeat).does
+    : who && `In this state of a mutex with a fault ${who} has the responsibility.`;
+  return place ? [`<span class="soft">${place}</span>`] : [];
+}
+
 function showStory() {
-  const { node, placeName, placeSeat } = stateAfter(view, view.at);
-  const place = sentence(sentences, 'place ' + placeName, placeSeat).does;
-  const texts = [...taskTexts(), ...eventTexts(view.path[view.at - 1]), ...wrongTexts(node)];
-  const last = [`<span class="soft">${place}</span>`, ...onwardTexts()];
+  const state = stateAfter(view, view.at);
+  const texts = [...taskTexts(), ...eventTexts(view.path[view.at - 1]), ...wrongTexts(state.node)];
+  const last = [...placeTexts(state), ...onwardTexts()];
   $('story').innerHTML = [...texts, ...last].map(text => `<p>${text}</p>`).join('');
 }
 
@@ -147,10 +180,10 @@ function show() {
   showFirst();
   $('seats').className = view.graph.seats > 3 ? 'seats many' : 'seats';
   $('seats').innerHTML = drawSeats(view, sentences);
-  showLanes();
-  $('memory').innerHTML = drawMemory(view);
   showStory();
   showTime();
+  showLanes();
+  $('memory').innerHTML = drawMemory(view);
   showTexts();
   const find = what => document.querySelector(`button[data-seat${what}`);
   if (seat) (find(`="${seat}"][data-act="${act}"]`) ?? find(`="${seat}"]`) ?? find(']') ?? $('lanes')).focus();
@@ -161,6 +194,7 @@ function show() {
 function goTo(moment) {
   view.at = Math.max(0, Math.min(view.path.length, moment));
   show();
+  bringIntoSight();
 }
 
 // the seat makes one event, or all steps of its call. What came after this moment is dropped
@@ -178,6 +212,7 @@ function load(graph, schedule, moment) {
 }
 
 function startAnew() {
+  if (canStartOver()) return view.task ? startTask(tasks.indexOf(view.task)) : load(view.graph, 'seats ' + view.graph.seats);
   view.task = null;
   $('examples').value = '';
   load(graphs.whole, 'seats ' + graphs.whole.seats);
@@ -246,10 +281,14 @@ const KEYS = {
   n: () => $('following')?.click(),
 };
 
+// whether the last key in a list was one that leads to its next item
+let isWalkingList = false;
+
 function pressKey(event) {
   if (event.ctrlKey || event.metaKey || event.altKey || event.target.tagName === 'TEXTAREA') return;
-  // in a list only the keys that lead along the path, since others choose an item of it
-  if (event.target.tagName === 'SELECT' && !/^Arrow(Left|Right)$/.test(event.key)) return;
+  isWalkingList = event.target.tagName === 'SELECT' && /^Arrow(Up|Down)$/.test(event.key);
+  // in a list only the keys that lead along the path and those with a number, since others choose an item of it
+  if (event.target.tagName === 'SELECT' && !/^(Arrow(Left|Right)|Digit\d)$/.test(event.code)) return;
   const button = buttonOfKey(event);
   if (button) choose(Number(button.dataset.seat), button.dataset.act);
   else if (event.key in KEYS && event.target !== $('slider')) KEYS[event.key]();
@@ -272,6 +311,16 @@ function copySchedule() {
   navigator.clipboard?.writeText($('schedule').value).catch(() => document.execCommand('copy'));
 }
 
+// a choice in a list, after which the keys belong to the page again; but who walks through a list by keys stays in it
+function listenToList(list, act) {
+  list.onpointerdown = () => { isWalkingList = false; };
+  list.onchange = () => {
+    const isWalked = isWalkingList;
+    act(list.value);
+    if (!isWalked) $('story').focus({ preventScroll: true });
+  };
+}
+
 const option = (value, text) => `<option value="${value}">${escape(text)}</option>`;
 const options = (first, names) => option('', first) + names.map((name, i) => option(i, name)).join('');
 
@@ -287,12 +336,12 @@ function listen() {
   $('schedule').onchange = () => load(view.graph.kind === 'path' ? graphs.whole : view.graph, $('schedule').value);
   $('copy').onclick = copySchedule;
   $('examples').innerHTML = options('a free mutex', examples.map(({ title }, i) => `${i + 1}. ${title}`));
-  $('examples').onchange = () => $('examples').value === '' ? startAnew() : startExample(Number($('examples').value));
+  listenToList($('examples'), value => value === '' ? startAnew() : startExample(Number(value)));
   const ways = WAYS.filter(([, isWanted]) => hasEvent(graphs.whole, isWanted));
   $('ways').innerHTML = options('the shortest way to …', ways.map(([name]) => name));
-  $('ways').onchange = () => {
-    if ($('ways').value !== '') showWay(ways[$('ways').value][1]);
-  };
+  listenToList($('ways'), value => {
+    if (value !== '') showWay(ways[value][1]);
+  });
   // the item stays until then, so that a reader by keys can go from one to the next
   $('ways').onblur = () => { $('ways').value = ''; };
 }

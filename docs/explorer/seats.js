@@ -17,7 +17,7 @@ function memoryOf(point) {
 function statusOf(state, seat) {
   const { point } = state.seats[seat - 1], has = state.placeSeat === seat ? state.placeName : '';
   const style = { owner: 'own', carried: 'carry', passed: 'granted' }[has] || (point.startsWith('sleeps') ? 'asleep' : '');
-  const asleep = has === 'passed' ? 'sleeps, and is granted the mutex' : 'sleeps';
+  const asleep = has === 'passed' ? 'sleeps, and has a grant' : 'sleeps';
   const idle = point.startsWith('sleeps') ? asleep : isInCall(point) ? `is in its ${point.split(' ')[0]}` : 'rests';
   return { style, has, is: { owner: 'owns', carried: 'carries the responsibility' }[has] || idle };
 }
@@ -33,16 +33,18 @@ function openText(view, sentences, point, seat) {
 // why the checks of calls refuse them now, as one sentence
 function refusedText(sentences, refusals, seat) {
   const reasons = [...new Set(refusals.map(({ why }) => why))].map(why => {
-    const acts = refusals.filter(refusal => refusal.why === why).map(({ act }) => act).join(', ');
+    const acts = refusals.filter(refusal => refusal.why === why).map(({ act }) => shownAct(act)).join(', ');
     return `${acts} as ${why}, since ${sentence(sentences, 'check ' + why, seat).does}`;
   });
   return reasons.length === 0 ? '' : `<p class="next">Refused: ${reasons.join('; ')}.</p>`;
 }
 
 // the sentences of a seat that rests or sleeps: what it may begin, and what its checks refuse
-function idleText(view, sentences, { moves, refusals }, depth, seat) {
+function idleText(view, sentences, { moves, refusals }, { depth, point }, seat) {
   if (view.graph.kind === 'path') return moves.length ? '' : '<p class="next">It does nothing next in this schedule.</p>';
-  const rest = moves.length ? 'Choose the call that it begins.' : 'It can begin no call.';
+  const only = moves.map(({ act }) => act).join(' or '), isAsleep = point.startsWith('sleeps');
+  const rest = moves.length === 0 ? 'It can begin no call here.'
+    : isAsleep ? `It sleeps, and may call ${only} alone: a look for a grant.` : 'Choose the call that it begins.';
   const isLeftOut = depth > 0 && ![...moves, ...refusals].some(({ act }) => act === 'lock');
   return `<p class="next">${rest}</p>${refusedText(sentences, refusals, seat)}`
     + (isLeftOut ? '<p class="next">Left out here: a lock by a seat that holds already.</p>' : '');
@@ -53,20 +55,20 @@ function buttonsOf(choice, seat, isOpen) {
  aria-label="seat ${seat}: ${text}">${text}${key === '' ? '' : `<kbd>${key}</kbd>`}</button>`;
   if (isOpen && choice.moves.length === 0) return '';
   if (isOpen) return button('.', 'make this step', seat) + button('*', 'finish the call', 'shift ' + seat);
-  return choice.moves.map(({ act }, i) => button(act, act, i === 0 ? seat : '')).join('')
-    + choice.refusals.map(({ act, why }) => `<button disabled title="refused as ${why}">${act}</button>`).join('');
+  return choice.moves.map(({ act }, i) => button(act, shownAct(act), i === 0 ? seat : '')).join('')
+    + choice.refusals.map(({ act, why }) => `<button disabled title="refused as ${why}">${shownAct(act)}</button>`).join('');
 }
 
 function drawSeat(view, sentences, state, seat) {
   const { point, depth, takes } = state.seats[seat - 1], choice = state.choices[seat - 1];
   const { style, has, is } = statusOf(state, seat);
-  const text = isInCall(point) ? openText(view, sentences, point, seat) : idleText(view, sentences, choice, depth, seat);
+  const text = isInCall(point) ? openText(view, sentences, point, seat) : idleText(view, sentences, choice, state.seats[seat - 1], seat);
   const token = `<circle cx="7" cy="8" r="6" class="token" data-at="seat.${seat}"/>`;
   const mark = has === 'carried' ? `<svg width="14" height="14" class="inline" aria-hidden="true">${token}</svg> ` : '';
   const used = `${takes}${view.graph.budget === LARGEST_BUDGET ? '' : ' of ' + view.graph.budget} acquisitions used`;
   return `<section class="seat ${style}" aria-labelledby="seat${seat}">
-<h2 id="seat${seat}">${mark}Seat ${seat} <span>${is} · depth ${depth} · ${used}</span></h2>
-${text}<div class="buttons">${buttonsOf(choice, seat, isInCall(point))}</div></section>`;
+<h2 id="seat${seat}">${mark}Seat ${seat} <span>${is} <span class="uses">depth ${depth} · ${used}</span></span></h2>
+<div class="buttons">${buttonsOf(choice, seat, isInCall(point))}</div>${text}</section>`;
 }
 
 function drawSeats(view, sentences) {

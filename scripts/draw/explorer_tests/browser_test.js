@@ -136,17 +136,36 @@ test('each task is done when its event has happened, and not before', async () =
     assert((await text('story')).includes('Done.'), `task ${i + 1}`);
     assert.deepStrictEqual(await layoutFaults(), [], `task ${i + 1}`);
   }
+  await browser.run(`load(graphs.whole, 'seats 2'); startAnew()`);
+  assert.strictEqual(await browser.run(`document.querySelectorAll('.tasks li .done').length`), many);
   return `${many} tasks`;
 });
 
 test('a wrong mutex says so, and names its fault', async () => {
   for (const task of page.tasks.filter(({ goal }) => goal === 'fault')) {
     await browser.run(`startTask(tasks.findIndex(({ text }) => text === ${JSON.stringify(task.text)}))`);
-    assert.match(await text('story'), /wrong mutex/);
+    assert.match(await text('story'), /This mutex has a fault on purpose/);
     assert(!/A fault:/.test(await text('story')));
+    const [name, given] = await browser.run('[view.graph.name, view.given]');
     await browser.run(WALK_THE_WAY);
     assert.match(await text('story'), /A fault: Seat/);
+    await browser.click('#anew');
+    assert.deepStrictEqual(await browser.run('[view.graph.name, view.path.length]'), [name, given]);
+    await browser.click('#anew');
+    assert.deepStrictEqual(await browser.run('[view.graph.kind, view.path.length]'), ['whole', 0]);
   }
+});
+
+test('where a mutex with a fault has two holders or none, the page does not tell a place', async () => {
+  const stories = await browser.run(`graphs.owner_cleared_late.states.flatMap((text, node) => {
+    const many = manyResponsible(stateAt(graphs.owner_cleared_late, node));
+    Object.assign(view, { graph: graphs.owner_cleared_late, path: [], at: 0 });
+    const { placeName } = stateAt(view.graph, node), texts = placeTexts(stateAt(view.graph, node));
+    return many === (placeName === 'free' ? 0 : 1) ? [] : [[many, texts.join()]]; })`);
+  assert(stories.length > 0);
+  const said = { 0: /a fault nobody has/, 1: /^$/ };
+  stories.forEach(([many, story]) => assert.match(story, said[many] ?? /a fault more than one has/));
+  await browser.click('#anew');
 });
 
 test('schedules of more seats can be looked at', async () => {

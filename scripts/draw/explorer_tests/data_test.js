@@ -143,6 +143,15 @@ function reaching(graph, isWanted, leaves) {
 }
 
 for (const graph of right) {
+  test(`${graph.name}: one seat, post or grant has the responsibility, or none where the trace says free`, () => {
+    for (let node = 0; node < graph.states.length; node++) {
+      const state = page.stateAt(graph, node);
+      assert.strictEqual(page.manyResponsible(state), state.placeName === 'free' ? 0 : 1, `state ${node}`);
+    }
+  });
+}
+
+for (const graph of right) {
   test(`${graph.name}: no state has a fault`, () => {
     for (let node = 0; node < graph.states.length; node++) {
       // the sleepers are left to the search below, which visits each state once
@@ -170,7 +179,8 @@ for (const graph of right) {
 // the calls of a graph as starts.txt names them, for this seat: a send has a target, which is another seat
 function callsOf(graph, seat) {
   const [, , , ...named] = startRows().find(([, , name]) => name === graph.name)[4].split(' ');
-  const calls = named[0] === 'all' ? ['lock', 'try_lock', 'unlock', 'receive', 'start_wait', 'send_lock'] : named;
+  const every = ['lock', 'try_lock', 'unlock', 'receive', 'start_wait', 'send_lock'];
+  const calls = named[0] === 'all' ? every : named.flatMap(names => names.split(','));
   const targets = graph.seatNumbers.filter(other => other !== seat).map(target => 'send_lock ' + target);
   return calls.flatMap(call => call === 'send_lock' ? targets : [call]);
 }

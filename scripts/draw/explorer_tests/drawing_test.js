@@ -149,6 +149,16 @@ function checkValues(view) {
   assert.deepStrictEqual(shown, wanted);
 }
 
+// the answer of a step to the question of its sentence: whether there is a record, and whether the seat is the owner
+function checkAnswer(view) {
+  const event = view.path[view.at - 1], asks = event && event.act === '.' && /\?$/.test(
+    page.sentence(sentences, page.nameOf(event.step), event.seat).does);
+  if (!event) return;
+  const { owner, push } = page.stateAt(view.graph, event.to);
+  const isYes = /^(try_)?lock/.test(event.step) ? owner === String(event.seat) : push.seat !== 0;
+  assert.strictEqual(page.answerOf(event.step, event.seat), asks ? (isYes ? 'Yes.' : 'No.') : '', event.step);
+}
+
 const paths = pathsOfPage();
 
 // a test that makes a check at some moments of each path
@@ -170,6 +180,7 @@ function atMoments(check, momentsOf) {
 const each = check => atMoments(check, last => Array.from({ length: last + 1 }, (none, at) => at));
 const two = check => atMoments(check, last => [last, Math.floor(last / 2)]);
 runTests([
+  ['a step whose sentence asks a question is answered', each(checkAnswer)],
   ['bars and lines of the lanes, row by row', two(checkLanes)],
   ['arrows of posts and grants', two(checkArrows)],
   ['the values beside the lanes, row by row', two(checkValues)],

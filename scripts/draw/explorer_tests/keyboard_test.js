@@ -78,6 +78,20 @@ test('by keys a reader goes from one item of a list to the next', async () => {
   assert.strictEqual(await browser.run(`document.getElementById('ways').value`), '');
 });
 
+test('after a choice in a list by the mouse the keys belong to the page', async () => {
+  await browser.open(address(pageFile));
+  for (const list of ['examples', 'ways']) {
+    await browser.run(`(() => { const list = document.getElementById('${list}');
+      list.focus(); list.value = '0'; list.dispatchEvent(new Event('change')); })()`);
+    assert.strictEqual(await focused(), 'story');
+    await browser.run('goTo(0)');
+    await browser.key('1', 'Digit1');
+    assert.strictEqual(await text('moment'), '1 of 1');
+    await browser.key('0', 'Digit0');
+    assert.strictEqual(await text('moment'), '0 of 0');
+  }
+});
+
 test('an edit of the schedule is shown when Tab leaves it', async () => {
   await browser.open(address(pageFile));
   await browser.run(`(() => { const { schedule } = { schedule: document.getElementById('schedule') };

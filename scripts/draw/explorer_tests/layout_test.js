@@ -60,6 +60,44 @@ for (const [width, height] of [[1450, 900], [1280, 720], [1000, 700]]) {
   });
 }
 
+// what a function of the page finds after each event of each task
+const afterEachStep = find => browser.run(`tasks.flatMap((task, number) => {
+  startTask(number);
+  showWay(event => isGoal(task.graph, task.goal, event));
+  const found = [];
+  for (let at = 1; at <= view.path.length; at++) {
+    goTo(at);
+    found.push((${find})(number + 1, at));
+  }
+  return found;
+})`);
+
+for (const file of [pageFile, threeFile].filter(file => file)) {
+  test(`${file}: after each step of each task its rows are in the window, which is not scrolled`, async () => {
+    await browser.open(address(file), 1280, 900);
+    const places = await afterEachStep(`(number, at) => {
+      const lanes = document.getElementById('lanes').getBoundingClientRect();
+      const isIn = ({ top, bottom }) => top >= lanes.top && bottom <= Math.min(lanes.bottom, innerHeight);
+      const rows = [...document.querySelectorAll('#lanes .now')].map(row => row.getBoundingClientRect());
+      return { number, at, isInSight: rows.length > 0 && rows.every(isIn) && scrollY === 0 };
+    }`);
+    assert.deepStrictEqual(places.filter(({ isInSight }) => !isInSight), []);
+    return `${places.length} moments`;
+  });
+}
+
+for (const [width, height] of [[1450, 900], [1280, 900], [1000, 900]]) {
+  test(`${width} pixels: no step moves a button on, back or start over, or the first button of a seat`, async () => {
+    await browser.open(address(pageFile), width, height);
+    const places = await afterEachStep(`() => {
+      const panels = [...document.querySelectorAll('.seat .buttons')];
+      const topOf = element => element.getBoundingClientRect().top + (element.closest('.time') ? 0 : scrollY);
+      return [...['back', 'on', 'anew'].map(id => document.getElementById(id)), ...panels.slice(0, 2)].map(topOf).join(' ');
+    }`);
+    assert.strictEqual(new Set(places).size, 1, [...new Set(places)].join(' | '));
+  });
+}
+
 test('a path that goes on says how', async () => {
   await browser.open(address(pageFile));
   await chooseTitle('A posted hand-off');

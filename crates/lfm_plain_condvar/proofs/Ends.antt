@@ -12,7 +12,7 @@ use Rattle.lfm_plain_condvar.specs.declared.waiters.Waiters.{Waiters}
 use Rattle.lfm_plain_condvar.specs.declared.owed.OwedWakeUp.{OwedWakeUp}
 use Rattle.lfm_plain_condvar.specs.Belongs.{notified_by}
 use Rattle.lfm_plain_condvar.specs.Keeping.{TakesFirst}
-use Rattle.lfm_plain_condvar.specs.Waits.{GivesUpAndComesBack, GivesUpAndComesBackAs, LeftList, Listed, NoLonger, OneHold, WaitEnds, WaitForEnds, WaitWithHowEnds, WaitWithinEnds, waited_of}
+use Rattle.lfm_plain_condvar.specs.Waits.{GivesUpAndComesBack, GivesUpAndComesBackAs, LeftList, Listed, NoLonger, OneHold, WaitForEnds, WaitWithinEnds, waited_of}
 use Rattle.lfm_plain_condvar.specs.Wakes.{WakeLaterEnds, WakeOneEnds, WakeOneWithNumberEnds, ticket_in}
 
 module _ {T : Type 0} (follows : ℕ → T → T → Type 0) (fits : T → ℕ → Type 0) (user own : Limits) (tries user_tries : ℕ) (c d : Sight Waiters) (s t : Sight T) where
@@ -21,9 +21,6 @@ module _ {T : Type 0} (follows : ℕ → T → T → Type 0) (fits : T → ℕ �
   come how h = (h.0, h.1, (how, h.2))
 
   -- the seat was added to the list, gave the user mutex up, slept and came back
-  pub with_how_ends : (r : How × ℕ) → WaitWithHowEnds follows fits user own tries user_tries c d s t (Ok r) → WaitEnds follows fits user own tries user_tries c d s t (Ok r.1)
-  with_how_ends r h = (h.0, come r.0 h.1)
-
   within_ends : (how : How) (waited : Waited) → WaitWithinEnds follows fits user own tries user_tries c d s t (Ok (how, waited)) → WaitForEnds follows fits user own tries user_tries c d s t (Ok waited)
   within_ends how (Woken k) h = (h.1, subst (λ (i : ℕ). Listed own tries c h.1 i) (sym h.3.0) h.2, subst (λ (i : ℕ). d ≡ h.1 ⊎ NoLonger own tries h.1 d i) (sym h.3.0) h.3.1, come how h.4, h.5)
   within_ends how (TimedOut k) h = (h.1, subst (λ (i : ℕ). Listed own tries c h.1 i) (sym h.3.0) h.2, subst (λ (i : ℕ). LeftList own tries h.1 d i) (sym h.3.0) h.3.1, come how h.4, h.5)

@@ -2,6 +2,7 @@ pub mod Begins
 pub mod Closing
 pub mod Ends
 pub mod Followed
+pub mod Gathered
 pub mod ListFacts
 pub mod ListedWaits
 pub mod Modelled

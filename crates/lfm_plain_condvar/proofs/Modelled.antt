@@ -63,5 +63,5 @@ takes_all gone v w m p s =
     let r = all_taken gone w.list.items m (s.1 ∙ ap (map as_waiter) p.0 ∙ map_join gone w.list.items) in
     (r.0, r.1, r.2, r.3, (r.4 ∙ s.0 ∙ sym p.1, r.5))
 
-pub lists_go_as_the_model : ListsGoAsTheModel
-lists_go_as_the_model = record { adds = adds; takes = takes; finds_none = none; takes_out = takes_out; takes_all = takes_all }
+pub plain_lists_go_as_the_model : ListsGoAsTheModel
+plain_lists_go_as_the_model = record { adds = adds; takes = takes; finds_none = none; takes_out = takes_out; takes_all = takes_all }

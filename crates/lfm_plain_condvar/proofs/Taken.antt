@@ -1,5 +1,5 @@
 -- Waiters that are taken off the list one after another, for a wake of all.
-use Rattle.std.proofs.Common.{◌≡◌, ℕ, List, [], ◌∷◌, ◌++◌, refl, sym, ◌∙◌, ap, arith, append_assoc, append-nil, length-append}
+use Rattle.std.proofs.Common.{◌≡◌, ℕ, List, [], ◌∷◌, ◌++◌, refl, sym, ◌∙◌, ap, arith, append_assoc, length-append}
 use Rattle.lfm_plain_condvar.specs.declared.waiters.Waiter.{Waiter}
 use Rattle.lfm_plain_condvar.specs.declared.waiters.Waiters.{Waiters}
 use Rattle.lfm_plain_condvar.specs.Belongs.{numbers_of}
@@ -16,10 +16,6 @@ takes_more gone x u v w a b = (
   b.3 ∙ a.3,
   (b.4.0 ∙ a.4.0, b.4.1 ∙ a.4.1),
 )
-
--- if nobody is left, these are all
-pub all_gone : (gone : List Waiter) (u v : Waiters) → TakesFirst gone u v → v.list.items ≡ [] → u.list.items ≡ gone
-all_gone gone u v a none = a.0 ∙ (ap (λ (l : List Waiter). gone ++ l) none ∙ append-nil gone)
 
 numbers_more : (gone : List Waiter) (x : Waiter) → numbers_of (gone ++ x ∷ []) ≡ numbers_of gone ++ x.waker.number ∷ []
 numbers_more [] x = refl

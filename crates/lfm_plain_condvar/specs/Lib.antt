@@ -5,7 +5,9 @@ pub mod ListedWaits
 pub mod Lists
 pub mod Modelled
 pub mod Order
+pub mod Parked
 pub mod Parkers
+pub mod Polls
 pub mod Repeated
 pub mod Waits
 pub mod Wakes

@@ -6,11 +6,11 @@ use Rattle.atomic_table.specs.Table.{State, Me, Step, rest}
 use Rattle.lfm_plain_condvar.specs.declared.parkers.Notices.{Notices}
 
 abbrev pub no_notices : Notices
-no_notices = record { parkers = []; wakers = [] }
+no_notices = record { parkers = []; wakers = []; parked = [] }
 
 -- one seat's notices, and then another's
 abbrev pub with_those : Notices → Notices → Notices
-with_those v w = record { parkers = v.parkers ++ w.parkers; wakers = v.wakers ++ w.wakers }
+with_those v w = record { parkers = v.parkers ++ w.parkers; wakers = v.wakers ++ w.wakers; parked = v.parked ++ w.parked }
 
 -- how often this number is in the list
 abbrev pub times : ℕ → List ℕ → ℕ
@@ -35,15 +35,20 @@ ParkersHold s = AtHomeIfNotified s × OneOwner s
 
 -- a seat with this view and these slots has the waker of parker k, and has notified nobody
 abbrev pub IsWakerOf : ℕ → Me (Unit {0}) Notices → Type 0
-IsWakerOf k me = (me.0 ≡ record { parkers = []; wakers = k ∷ [] }) × (me.1 ≡ (k, tt) ∷ [])
+IsWakerOf k me = (me.0 ≡ record { parkers = []; wakers = k ∷ []; parked = [] }) × (me.1 ≡ (k, tt) ∷ [])
 
 -- who finds that the parker was notified takes its waker
 abbrev pub TakesIfNotified : Step (Unit {0}) → Me (Unit {0}) Notices → ℕ → Me (Unit {0}) Notices → Type 0
 TakesIfNotified x before found after = 2 ≤ found → IsWakerOf x.word after
 
--- the parker's word is now NOTIFIED, its waker went back to the table, and the seat has notified this parker
+-- parker k, if a swap found by its word that its thread is parked
+abbrev pub if_parked : ℕ → ℕ → List ℕ
+if_parked k found = (if found == 1 then k ∷ [] else [])
+
+-- the parker's word is now NOTIFIED, its waker went back to the table, and the seat has notified this parker, and knows
+-- whether it found its thread parked
 abbrev pub Notifies : Step (Unit {0}) → Me (Unit {0}) Notices → ℕ → Me (Unit {0}) Notices → Type 0
-Notifies x before found after = (x.first ≡ 2) × (after.0 ≡ record { parkers = x.word ∷ []; wakers = [] }) × (after.1 ≡ rest before.1)
+Notifies x before found after = (x.first ≡ 2) × (after.0 ≡ record { parkers = x.word ∷ []; wakers = []; parked = if_parked x.word found }) × (after.1 ≡ rest before.1)
 
 -- the seat keeps its view, and gives its slot back
 abbrev pub Retires : Step (Unit {0}) → Me (Unit {0}) Notices → ℕ → Me (Unit {0}) Notices → Type 0

@@ -15,6 +15,7 @@ pub mod parkers;
 pub mod plain_seat;
 pub mod polls;
 pub mod tickets;
+mod time_is_over;
 mod unlocked_wait;
 mod user;
 mod wait;

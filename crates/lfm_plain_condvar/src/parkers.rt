@@ -3,16 +3,22 @@
 //! seat between its calls, in the list while the seat waits, with the wake that took the seat out of the list, or in the
 //! table after the wake has notified the parker.
 //!
-//! It is not proved that a wake-up reaches the thread: `wake_one` of the table makes a system call, and the system wakes the
-//! thread that parks on the low 32 bits of the word.
-ghost use Rattle.std.specs.Prelude.{◌≡◌, ◌+◌, ◌<◌, ◌≤◌, ℕ, [], ◌∷◌, ◌++◌, IfOk, IfSome};
+//! Whoever notifies a parker whose thread is parked owes that thread a wake-up, which `parked` uses up. It is not proved that
+//! a wake-up reaches the thread: `wake_one` of the table makes a system call, and the system wakes the thread that parks on
+//! the low 32 bits of the word.
+ghost use Rattle.std.specs.Prelude.{◌≡◌, ◌+◌, ◌<◌, ◌≤◌, ℕ, [], ◌∷◌, ◌++◌, IfErr, IfOk, IfSome};
+ghost use Rattle.lfm_plain_condvar.specs.Parked.{Gathers, IsOwedTo, owed_after};
 ghost use Rattle.lfm_plain_condvar.specs.Parkers.{HasEachOnce, IsWakerOf, Notifies, ParkersHold, Retires, StartsWithNone, TakesIfNotified, no_notices, times, with_those};
 
+mod parked;
+
 use crate::polls::PollCredit;
+use crate::time_is_over::TimeIsOver;
 use crate::unlocked_wait::UnlockedWait;
 use atomic_table::{Join, Play, Seat, Table, TableRule};
 use lfm_mutex::Kept;
-use lfm_mutex::deadlines::{Deadline, time_left};
+use parked::Notified;
+pub(crate) use parked::ParkedRange;
 use std::alloc::{AllocError, Global};
 use std::collections::LinkedList;
 use std::hint::spin_loop;
@@ -31,11 +37,12 @@ const NOTIFIED: u64 = 2;
 /// How many pauses a thread makes between two polls of its parker.
 const PAUSES: u32 = 4;
 
-/// What a seat of the table knows: the parkers that it has notified, in order, and those whose wakers it has. No value of
-/// this type is ever made: it is for proofs alone.
+/// What a seat of the table knows: the parkers that it has notified, in order, those whose wakers it has, and those that it
+/// has notified and whose threads it found parked, in order. No value of this type is ever made: it is for proofs alone.
 pub struct Notices {
     pub parkers: LinkedList<u64>,
     pub wakers: LinkedList<u64>,
+    pub parked: LinkedList<u64>,
 }
 
 /// The rule of the table: the waker of a parker that was notified is in the table, and at most one seat has the waker of a
@@ -120,28 +127,6 @@ pub(crate) struct FirstWakers {
     of: NoticeLog,
 }
 
-/// Among which numbers those parkers are whose threads were parked when they were notified, and are still to be woken. If
-/// there is none, `first` is above `last`.
-#[derive(Clone, Copy)]
-pub(crate) struct ParkedRange {
-    first: u64,
-    last: u64,
-}
-
-impl ParkedRange {
-    /// No parker.
-    pub(crate) const NONE: ParkedRange = ParkedRange {
-        first: u64::MAX,
-        last: 0,
-    };
-
-    /// Adds a parker.
-    fn add(&mut self, number: u64) {
-        self.first = self.first.min(number);
-        self.last = self.last.max(number);
-    }
-}
-
 /// Names the parkers in contracts. It takes no bytes.
 #[derive(Drop)]
 pub struct ParkersName {
@@ -223,13 +208,15 @@ impl Parkers {
         self.take_if_notified(number)
     }
 
-    /// Notifies the parker of this waker, and returns whether its thread is parked and has to be woken. It makes one swap
+    /// Notifies the parker of this waker. If its thread is parked, it returns the duty to wake that thread. It makes one swap
     /// and one load.
-    fn set_notified(&self, waker: Waker, log: &mut NoticeLog) -> bool
+    fn set_notified(&self, waker: Waker, log: &mut NoticeLog) -> Notified
         requires waker { (waker.number ≤ self.now.seats) × (waker.seat.table_id ≡ self.now.table.shared.table_id) }
         requires log { log.old.seat.table_id ≡ self.now.table.shared.table_id }
         ensures log { log.new.seat.table_id ≡ log.old.seat.table_id }
         ensures notified { log.new.seat.me.0.parkers ≡ log.old.seat.me.0.parkers ++ waker.number ∷ [] }
+        ensures parked { log.new.seat.me.0.parked ≡ log.old.seat.me.0.parked ++ owed_after result }
+        ensures owed { IsOwedTo waker.number result }
     {
         let Waker { mut seat, number } = waker;
         let found = self
@@ -239,7 +226,7 @@ impl Parkers {
         self.table
             .shared
             .join_seat::<NoticesJoined>(&mut log.seat, seat);
-        found == PARKED
+        Notified::after(number, found)
     }
 
     /// Notifies the parker of this waker, and wakes its thread if that is parked. It makes one swap, one load, and a system
@@ -250,9 +237,9 @@ impl Parkers {
         ensures log { log.new.seat.table_id ≡ log.old.seat.table_id }
         ensures notified { log.new.seat.me.0.parkers ≡ log.old.seat.me.0.parkers ++ waker.number ∷ [] }
     {
-        let number = waker.number;
-        if self.set_notified(waker, log) {
-            self.table.shared.wake_one(number as usize);
+        match self.set_notified(waker, log) {
+            Notified::GoesOn => {}
+            Notified::Parked(thread) => self.wake_thread(thread),
         }
     }
 
@@ -267,22 +254,11 @@ impl Parkers {
         requires log { log.old.seat.table_id ≡ self.now.table.shared.table_id }
         ensures log { log.new.seat.table_id ≡ log.old.seat.table_id }
         ensures notified { log.new.seat.me.0.parkers ≡ log.old.seat.me.0.parkers ++ waker.number ∷ [] }
+        ensures parked { Gathers parked.old parked.new log.old.seat.me.0.parked log.new.seat.me.0.parked }
     {
-        let number = waker.number;
-        if self.set_notified(waker, log) {
-            parked.add(number);
-        }
-    }
-
-    /// Wakes the threads of these parkers that were notified and have not gone on since. It may wake a thread that another
-    /// seat has notified, which only goes on earlier. It makes a load for each number of the range, and a system call for
-    /// each thread.
-    pub(crate) fn wake_parked(&self, parked: ParkedRange) {
-        let last = parked.last.min(self.seats);
-        for number in parked.first..=last {
-            if self.table.shared.peek(number as usize) >= NOTIFIED {
-                self.table.shared.wake_one(number as usize);
-            }
+        match self.set_notified(waker, log) {
+            Notified::GoesOn => {}
+            Notified::Parked(thread) => parked.add(thread),
         }
     }
 
@@ -352,32 +328,45 @@ impl Parkers {
         unreachable!()
     }
 
-    /// `park` until the deadline. Returns None if the parker was not notified by then. If the system ends the sleep for no
-    /// reason, the thread parks again for the time that is left.
+    /// The waker of a parker that was notified although the time of its wait is over.
+    fn take_at_end(&self, number: u64, over: TimeIsOver) -> Result<Waker, TimeIsOver>
+        requires { number ≤ self.now.seats }
+        ensures waker { IfOk result (λ w. (w.number ≡ number) × (w.seat.table_id ≡ self.now.table.shared.table_id)) }
+        ensures over { IfErr result (λ o. o ≡ over) }
+    {
+        match self.take_if_notified(number) {
+            Some(waker) => Ok(waker),
+            None => Err(over),
+        }
+    }
+
+    /// `park` until the deadline of the wait. If the parker was not notified by then, it returns that the time is over. If
+    /// the system ends the sleep for no reason, the thread parks again for the time that is left.
     pub(crate) fn park_until<T: Kept, R: Wait + Clock>(
         &self,
         rt: &R,
         wait: &UnlockedWait<T>,
         polls: u32,
         credit: &mut PollCredit,
-        deadline: Deadline,
-    ) -> Option<Waker>
+    ) -> Result<Waker, TimeIsOver>
         requires { wait.now.listed.number ≤ self.now.seats }
-        ensures { IfSome result (λ w. (w.number ≡ wait.now.listed.number) × (w.seat.table_id ≡ self.now.table.shared.table_id)) }
+        ensures waker { IfOk result (λ w. (w.number ≡ wait.now.listed.number) × (w.seat.table_id ≡ self.now.table.shared.table_id)) }
+        ensures over { IfErr result (λ over. over.deadline ≡ wait.now.deadline) }
     {
         let number = wait.number();
         if let Some(waker) = self.poll_and_announce(number, polls, credit) {
-            return Some(waker);
+            return Ok(waker);
         }
         for _ in rt.forever() {
-            let Some(time) = time_left(rt, deadline) else {
-                return self.take_if_notified(number);
+            let time = match TimeIsOver::check(rt, wait.deadline()) {
+                Ok(time) => time,
+                Err(over) => return self.take_at_end(number, over),
             };
             self.table
                 .shared
                 .park_timeout(rt, number as usize, PARKED as u32, time);
             if let Some(waker) = self.take_if_notified(number) {
-                return Some(waker);
+                return Ok(waker);
             }
         }
         unreachable!()

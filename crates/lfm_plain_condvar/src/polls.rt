@@ -1,7 +1,8 @@
 //! Whether a seat that waits polls before its thread parks. Between two threads that take turns a wake comes early, and a
 //! poll costs less than a sleep and a wake-up. But on busy processors polls keep the other thread from its work. So a seat
-//! polls if it was notified during its last polls, and otherwise at some of its waits, as a trial.
-ghost use Rattle.std.specs.Prelude.{◌≡◌, true};
+//! polls if it is new or was notified in one of its last five polls, and otherwise at one of 32 waits, as a trial.
+ghost use Rattle.std.specs.Prelude.{◌≡◌, ◌+◌, ◌/◌, ◌%◌, ◌^◌, MatchBool, if◌then◌else◌};
+ghost use Rattle.lfm_plain_condvar.specs.Polls.{MayPoll};
 
 /// The credit of a new seat, and of one that was notified while it polled. Each time that a seat polls and is not notified halves it.
 const FULL: u32 = 16;
@@ -13,7 +14,7 @@ const WAITS_PER_TRIAL: u32 = 32;
 #[derive(Clone, Copy)]
 pub struct PollCredit {
     credit: u32,
-    /// The waits since the credit was spent.
+    /// How many waits have asked whether they may poll, modulo 2^32.
     waits: u32,
 }
 
@@ -25,14 +26,17 @@ impl PollCredit {
     };
 
     /// Whether the seat polls at its next wait: if it has credit, or as a trial. It counts the wait.
-    pub(crate) fn allows(&mut self) -> bool {
+    pub(crate) fn allows(&mut self) -> bool
+        ensures counts { self.new ≡ record self.old { waits = (self.old.waits + 1) % 2 ^ 32 } }
+        ensures allows { MatchBool result (MayPoll self.new) (MayPoll self.new → ⊥) }
+    {
         self.waits = self.waits.wrapping_add(1);
         self.credit > 0 || self.waits % WAITS_PER_TRIAL == 0
     }
 
     /// Takes note of whether the seat was notified while it polled.
     pub(crate) fn tell(&mut self, notified: bool)
-        ensures notified { notified ≡ true → self.new.credit ≡ 16 }
+        ensures { self.new ≡ record self.old { credit = (if notified then 16 else self.old.credit / 2) } }
     {
         self.credit = if notified { FULL } else { self.credit / 2 };
     }

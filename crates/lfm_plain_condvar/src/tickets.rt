@@ -20,6 +20,6 @@ pub fn tickets_keep_their_places()
 /// all is as many wakes.
 ///
 /// Definition: `ListsGoAsTheModel` in `specs/Modelled.antt`. Proof: `proofs/Modelled.antt`.
-pub fn lists_go_as_the_model()
+pub fn plain_lists_go_as_the_model()
     ensures { ListsGoAsTheModel }
 {}

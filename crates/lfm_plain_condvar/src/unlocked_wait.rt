@@ -4,22 +4,41 @@ ghost use Rattle.std.specs.Prelude.{◌≡◌};
 ghost use Rattle.lfm_mutex.specs.calls.Sight.{sight};
 
 use crate::hold::ListedWait;
+use lfm_mutex::deadlines::Deadline;
 use lfm_mutex::{Kept, Seat};
 
-/// A wait that was added to the list. As long as this value lives, its user seat doesn't hold.
+/// A wait that was added to the list, and when its time is over. As long as this value lives, its user seat doesn't hold.
 #[derive(Drop)]
 pub(crate) struct UnlockedWait<'a, T: Drop> {
     listed: ListedWait<T>,
+    deadline: Deadline,
     _seat: &'a Seat<T>,
 }
 
 impl<'a, T: Kept> UnlockedWait<'a, T> {
-    /// The listed wait of this user seat, which has given up its mutex.
+    /// The listed wait of this user seat, which has given up its mutex. It has no time limit.
     pub(crate) fn new(listed: ListedWait<T>, _seat: &'a Seat<T>) -> UnlockedWait<'a, T>
         requires { (sight _seat.now).depth ≡ 0 }
         ensures { result.listed ≡ listed }
     {
-        UnlockedWait { listed, _seat }
+        UnlockedWait::until(listed, _seat, Deadline::Never)
+    }
+
+    /// The same with a time limit.
+    pub(crate) fn until(
+        listed: ListedWait<T>,
+        _seat: &'a Seat<T>,
+        deadline: Deadline,
+    ) -> UnlockedWait<'a, T>
+        requires { (sight _seat.now).depth ≡ 0 }
+        ensures listed { result.listed ≡ listed }
+        ensures deadline { result.deadline ≡ deadline }
+    {
+        UnlockedWait {
+            listed,
+            deadline,
+            _seat,
+        }
     }
 
     /// The number of the plain seat that waits.
@@ -34,5 +53,12 @@ impl<'a, T: Kept> UnlockedWait<'a, T> {
         ensures { result ≡ self.now.listed.enlisted.ticket }
     {
         self.listed.ticket()
+    }
+
+    /// When its time is over.
+    pub(crate) fn deadline(&self) -> Deadline
+        ensures { result ≡ self.now.deadline }
+    {
+        self.deadline
     }
 }

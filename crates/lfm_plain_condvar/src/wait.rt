@@ -84,8 +84,8 @@ impl PlainCondvar {
     ///
     /// A wait costs each seat one take. It allocates no memory, sleeps, and wakes the seat that it grants a mutex, if any.
     /// If no other seat waited when this one was added to the list, it may poll before it sleeps, as often as the pace of
-    /// the user mutex says: if it was notified during its last polls, and otherwise at one of 32 waits. It sleeps at once if
-    /// others wait.
+    /// the user mutex says. A seat polls if it is new or was notified in one of its last five polls, and otherwise at one of
+    /// 32 such waits. It sleeps at once if others wait.
     pub fn wait<T: Kept, R: Wait>(
         &self,
         rt: &R,

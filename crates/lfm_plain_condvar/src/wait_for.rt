@@ -1,6 +1,7 @@
-//! Waits with a time limit: a seat whose time is over takes itself out of the list. If it is no longer there, a wake has
-//! taken it out, and it sleeps on until it is notified. So no wake is lost to a wait that timed out.
-ghost use Rattle.std.specs.Prelude.{◌≡◌, ◌<◌, MatchBool};
+//! Waits with a time limit: a seat whose time is over takes itself out of the list. It needs a `TimeIsOver` of its deadline
+//! for that. If it is no longer in the list, a wake has taken it out, and it sleeps on until it is notified. So no wake is
+//! lost to a wait that timed out.
+ghost use Rattle.std.specs.Prelude.{◌≡◌, ◌<◌, MatchBool, MatchOption};
 ghost use Rattle.lfm_mutex.specs.Belongs.{Beside, OfMutex, limits_of, tries_of};
 ghost use Rattle.lfm_mutex.specs.calls.RunGoesOn.{RunGoesOnFrom};
 ghost use Rattle.lfm_mutex.specs.calls.Sight.{sight, MayRelease};
@@ -10,6 +11,7 @@ ghost use Rattle.lfm_plain_condvar.specs.Waits.{LeftList, NoLonger, SleepEnds, W
 
 use crate::condvar::PlainCondvar;
 use crate::plain_seat::PlainSeat;
+use crate::time_is_over::TimeIsOver;
 use crate::unlocked_wait::UnlockedWait;
 use crate::user::{bars_wait, come_back, give_up};
 use crate::wait::polls_behind;
@@ -40,29 +42,26 @@ fn without_how(ended: Result<(How, Waited), Refusal>) -> Result<Waited, Refusal>
 }
 
 impl PlainCondvar {
-    /// Sleeps until the seat is notified, or the deadline. Returns whether it was notified. It then has its waker back.
+    /// Sleeps until the seat is notified, or the deadline of the wait. Returns None if it was notified, and it then has its
+    /// waker back. Otherwise it returns that the time is over.
     fn sleep_until<T: Kept, R: Wait + Clock>(
         &self,
         rt: &R,
         cond: &mut PlainSeat,
         wait: &UnlockedWait<T>,
         polls: u32,
-        deadline: Deadline,
-    ) -> bool
+    ) -> Option<TimeIsOver>
         requires waits { WaitsAt cond.old self.now }
         requires own { wait.now.listed.number ≡ (sight cond.old.seat).number }
-        ensures belongs { MatchBool result (OfPlain cond.new self.now) (WaitsAt cond.new self.now) }
+        ensures belongs { MatchOption result (OfPlain cond.new self.now) (λ over. WaitsAt cond.new self.now × (over.deadline ≡ wait.now.deadline)) }
         ensures same { (cond.new.seat ≡ cond.old.seat) × NotifiesNobody cond.old cond.new }
     {
-        match self
-            .parkers
-            .park_until(rt, wait, polls, &mut cond.credit, deadline)
-        {
-            Some(waker) => {
+        match self.parkers.park_until(rt, wait, polls, &mut cond.credit) {
+            Ok(waker) => {
                 cond.waker = Some(waker);
-                true
+                None
             }
-            None => false,
+            Err(over) => Some(over),
         }
     }
 
@@ -88,16 +87,18 @@ impl PlainCondvar {
         }
     }
 
-    /// The time is over: the seat takes itself out of the list. If it isn't there, a wake has taken it out and is about to
-    /// notify it, and it sleeps until then.
+    /// The time of the wait is over: the seat takes itself out of the list. If it isn't there, a wake has taken it out and is
+    /// about to notify it, and it sleeps until then.
     fn end_at_deadline<T: Kept, R: Wait>(
         &self,
         rt: &R,
         cond: &mut PlainSeat,
         wait: UnlockedWait<T>,
+        _over: TimeIsOver,
     ) -> Waited
         requires waits { WaitsAt cond.old self.now }
         requires own { wait.listed.number ≡ (sight cond.old.seat).number }
+        requires over { _over.deadline ≡ wait.deadline }
         requires spare { (sight cond.old.seat).takes < (limits_of self.now.inner).budget }
         ensures cond_woken { LooksAndWakesAsGranted cond.old.seat cond.new.seat }
         ensures belongs { OfPlain cond.new self.now × NotifiesNobody cond.old cond.new }
@@ -118,7 +119,6 @@ impl PlainCondvar {
         cond: &mut PlainSeat,
         wait: UnlockedWait<T>,
         polls: u32,
-        deadline: Deadline,
     ) -> Waited
         requires waits { WaitsAt cond.old self.now }
         requires own { wait.listed.number ≡ (sight cond.old.seat).number }
@@ -127,10 +127,10 @@ impl PlainCondvar {
         ensures belongs { OfPlain cond.new self.now × NotifiesNobody cond.old cond.new }
         ensures ends { SleepEnds (limits_of self.now.inner) (tries_of self.now.inner) (sight cond.old.seat) (sight cond.new.seat) wait.entry.listed.enlisted.ticket result }
     {
-        if self.sleep_until(rt, cond, &wait, polls, deadline) {
-            return Waited::Woken(wait.ticket());
+        match self.sleep_until(rt, cond, &wait, polls) {
+            None => Waited::Woken(wait.ticket()),
+            Some(over) => self.end_at_deadline(rt, cond, wait, over),
         }
-        self.end_at_deadline(rt, cond, wait)
     }
 
     /// `wait` until the deadline, as `wait_for` does. It also returns how the seat acquired the user mutex again.
@@ -160,8 +160,8 @@ impl PlainCondvar {
         let enlisted = self.enlist(rt, cond, seat)?;
         give_up(mutex, seat);
         let polls = polls_behind(mutex.pace(), enlisted.ahead());
-        let wait = UnlockedWait::new(enlisted, seat);
-        let waited = self.sleep_or_leave(rt, cond, wait, polls, deadline);
+        let wait = UnlockedWait::until(enlisted, seat, deadline);
+        let waited = self.sleep_or_leave(rt, cond, wait, polls);
         let how = come_back(rt, mutex, seat);
         Ok((how, waited))
     }

@@ -19,7 +19,8 @@ pub fn wakes_take_the_oldest()
 
 /// A waiter stays in the list, with its seat and its ticket, until a wake or its time takes it out. If a wake took it out, it
 /// returns as woken, whatever else happens, if it returns. There are as many wakes that found a waiter as waiters that were
-/// woken or whose wake-up is on its way. The waits of a seat that timed out are as many as the ends of its own time limits.
+/// woken or whose wake-up is on its way. The waits of a seat that timed out are as many as the ends of its own time limits,
+/// and those that were woken are as many as its own returns.
 ///
 /// Definition: `WaitsEndByWakesOrLimits` in `specs/Laws.antt`. Proof: `proofs/Ends.antt`.
 pub fn waits_end_by_wakes_or_limits()

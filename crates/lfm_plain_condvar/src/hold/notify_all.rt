@@ -8,6 +8,7 @@ ghost use Rattle.lfm_mutex.specs.calls.Woken.{LooksAndWakesAsGranted, WakesNobod
 ghost use Rattle.lfm_plain_condvar.specs.Belongs.{numbers_of, parkers_of, seats_of};
 ghost use Rattle.lfm_plain_condvar.specs.Holds.{HeldOnce, IsOf, Rewrites, SeatKept, StepsOfOneHold};
 ghost use Rattle.lfm_plain_condvar.specs.Keeping.{TakesFirst};
+ghost use Rattle.lfm_plain_condvar.specs.Parked.{Gathers};
 
 use super::leave_list;
 use crate::condvar::PlainCondvar;
@@ -16,7 +17,8 @@ use crate::waiters::{Waiter, Waiters};
 use lfm_mutex::Seat;
 use std::sync::Wait;
 
-/// Takes all out of the list, the oldest first, notifies each, and counts them.
+/// Takes all out of the list, the oldest first, notifies each, and counts them. Those whose threads are parked are added to
+/// `parked`.
 fn notify_all(
     waiters: &mut Waiters,
     parkers: &Parkers,
@@ -29,6 +31,7 @@ fn notify_all(
     ensures count { result ≡ length waiters.old.list.items }
     ensures log { log.new.seat.table_id ≡ log.old.seat.table_id }
     ensures notified { log.new.seat.me.0.parkers ≡ log.old.seat.me.0.parkers ++ numbers_of waiters.old.list.items }
+    ensures parked { Gathers parked.old parked.new log.old.seat.me.0.parked log.new.seat.me.0.parked }
 {
     let mut count = 0u64;
     'taken: loop {
@@ -57,6 +60,7 @@ fn notify_all_in_hand(
     ensures woken { WakesNobody cond.old cond.new }
     ensures does { (v : _) × (w : _) × Rewrites (sight cond.old) (sight cond.new) v w × TakesFirst v.list.items v w × (result ≡ length v.list.items) × (log.new.seat.me.0.parkers ≡ log.old.seat.me.0.parkers ++ numbers_of v.list.items) }
     ensures log { log.new.seat.table_id ≡ log.old.seat.table_id }
+    ensures parked { Gathers parked.old parked.new log.old.seat.me.0.parked log.new.seat.me.0.parked }
 {
     let Some(waiters) = cond.value_mut() else {
         unreachable!()
@@ -83,7 +87,7 @@ impl PlainCondvar {
         ensures log { log.new.seat.table_id ≡ log.old.seat.table_id }
         ensures steps { StepsOfOneHold (limits_of self.now.inner) (tries_of self.now.inner) (sight cond.old) (sight cond.new) }
     {
-        let mut parked = ParkedRange::NONE;
+        let mut parked = ParkedRange::none();
         self.lock_list(rt, cond);
         let count = notify_all_in_hand(cond, &self.parkers, log, &mut parked);
         leave_list(&self.inner, cond);

@@ -1,5 +1,8 @@
 use Rattle.std.proofs.Common.{refl, ◌∙◌}
 use Rattle.lfm_plain_condvar.proofs.condvar.PlainCondvar.sleep_until.Goals as goal
 
-pub returns-in-Some-clause-belongs : goal.returns-in-Some-clause-belongs
-returns-in-Some-clause-belongs g c = let w = c.requires.waits in let r = c.in-Some.ensures in (w, (c.in-Some.waker, refl, r.0 ∙ c.requires.own, r.1))
+pub returns-in-Ok-clause-belongs : goal.returns-in-Ok-clause-belongs
+returns-in-Ok-clause-belongs g c = let w = c.requires.waits in let r = c.in-Ok.ensures.waker in (w, (c.in-Ok.waker, refl, r.0 ∙ c.requires.own, r.1))
+
+pub returns-in-Err-clause-belongs : goal.returns-in-Err-clause-belongs
+returns-in-Err-clause-belongs g c = (c.requires.waits, c.in-Err.ensures.over)

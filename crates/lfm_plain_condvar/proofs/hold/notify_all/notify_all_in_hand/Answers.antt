@@ -12,3 +12,6 @@ returns-clause-woken c = let h = rw c.in-Some.is at (c.value_mut.follows.holds c
 pub returns-clause-does : goal.returns-clause-does
 returns-clause-does c = let h = rw c.in-Some.is at (c.value_mut.follows.holds c.notify_all.new.waiters) in let n = c.notify_all.ensures in
     (c.in-Some.waiters.now, c.notify_all.new.waiters, (c.in-Some.ensures.value.1, h.0, goes_on_taken (λ k. k ≡ (sight c.args.cond.now).number) c.in-Some.waiters.now.list.items c.in-Some.waiters.now c.notify_all.new.waiters n.takes), n.takes, n.count, n.notified)
+
+pub returns-clause-parked : goal.returns-clause-parked
+returns-clause-parked c = c.notify_all.ensures.parked

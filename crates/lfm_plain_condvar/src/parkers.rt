@@ -354,11 +354,12 @@ impl Parkers {
         ensures over { IfErr result (λ over. over.deadline ≡ wait.now.deadline) }
     {
         let number = wait.number();
+        let deadline = wait.deadline();
         if let Some(waker) = self.poll_and_announce(number, polls, credit) {
             return Ok(waker);
         }
         for _ in rt.forever() {
-            let time = match TimeIsOver::check(rt, wait.deadline()) {
+            let time = match TimeIsOver::check(rt, deadline) {
                 Ok(time) => time,
                 Err(over) => return self.take_at_end(number, over),
             };

@@ -21,7 +21,11 @@ impl<'a, T: Kept> UnlockedWait<'a, T> {
         requires { (sight _seat.now).depth ≡ 0 }
         ensures { result.listed ≡ listed }
     {
-        UnlockedWait::until(listed, _seat, Deadline::Never)
+        UnlockedWait {
+            listed,
+            deadline: Deadline::Never,
+            _seat,
+        }
     }
 
     /// The same with a time limit.

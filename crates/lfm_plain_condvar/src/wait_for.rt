@@ -1,7 +1,7 @@
 //! Waits with a time limit: a seat whose time is over takes itself out of the list. It needs a `TimeIsOver` of its deadline
 //! for that. If it is no longer in the list, a wake has taken it out, and it sleeps on until it is notified. So no wake is
 //! lost to a wait that timed out.
-ghost use Rattle.std.specs.Prelude.{◌≡◌, ◌<◌, MatchBool, MatchOption};
+ghost use Rattle.std.specs.Prelude.{◌≡◌, ◌<◌, IfSome, MatchBool, MatchOption};
 ghost use Rattle.lfm_mutex.specs.Belongs.{Beside, OfMutex, limits_of, tries_of};
 ghost use Rattle.lfm_mutex.specs.calls.RunGoesOn.{RunGoesOnFrom};
 ghost use Rattle.lfm_mutex.specs.calls.Sight.{sight, MayRelease};
@@ -53,7 +53,8 @@ impl PlainCondvar {
     ) -> Option<TimeIsOver>
         requires waits { WaitsAt cond.old self.now }
         requires own { wait.now.listed.number ≡ (sight cond.old.seat).number }
-        ensures belongs { MatchOption result (OfPlain cond.new self.now) (λ over. WaitsAt cond.new self.now × (over.deadline ≡ wait.now.deadline)) }
+        ensures belongs { MatchOption result (OfPlain cond.new self.now) (λ _. WaitsAt cond.new self.now) }
+        ensures over { IfSome result (λ over. over.deadline ≡ wait.now.deadline) }
         ensures same { (cond.new.seat ≡ cond.old.seat) × NotifiesNobody cond.old cond.new }
     {
         match self.parkers.park_until(rt, wait, polls, &mut cond.credit) {

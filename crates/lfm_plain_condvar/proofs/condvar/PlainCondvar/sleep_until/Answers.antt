@@ -5,4 +5,7 @@ pub returns-in-Ok-clause-belongs : goal.returns-in-Ok-clause-belongs
 returns-in-Ok-clause-belongs g c = let w = c.requires.waits in let r = c.in-Ok.ensures.waker in (w, (c.in-Ok.waker, refl, r.0 ∙ c.requires.own, r.1))
 
 pub returns-in-Err-clause-belongs : goal.returns-in-Err-clause-belongs
-returns-in-Err-clause-belongs g c = (c.requires.waits, c.in-Err.ensures.over)
+returns-in-Err-clause-belongs g c = c.requires.waits
+
+pub returns-in-Err-clause-over : goal.returns-in-Err-clause-over
+returns-in-Err-clause-over g c = c.in-Err.ensures.over

@@ -73,7 +73,3 @@ each_set {A} has vs n w before is i v low at = ⊎_elim
     (λ q. subst (λ (y : A). has y) (sym q.1) is)
     (λ q. before i v (let other : i ≢ n = q.0 in omega arith) q.1)
     (stands_or_was vs n w i v at)
-
--- a property of each item still holds after an item was put at an index that has it too
-pub each_still : {A : Type 0} (has : A → Type 0) (vs : List A) (n : ℕ) (w : A) → Each has vs → has w → Each has (slice_set vs n w)
-each_still {A} has vs n w before is i v at = ⊎_elim (λ q. subst (λ (y : A). has y) (sym q.1) is) (λ q. before i v q.1) (stands_or_was vs n w i v at)

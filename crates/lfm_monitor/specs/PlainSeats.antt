@@ -44,10 +44,6 @@ PlainWokenAsGranted c d = LooksAndWakesAsGranted c.seat d.seat
 abbrev pub PlainSeatsWokenAsGranted : List PlainSeat → List PlainSeat → Type 0
 PlainSeatsWokenAsGranted cs ds = Pairwise (λ (c d : PlainSeat). PlainWokenAsGranted c d) cs ds
 
--- each of these plain seats has this number
-abbrev pub AreNumbered : ℕ → List PlainSeat → Type 0
-AreNumbered number seats = Each (λ (c : PlainSeat). (sight c.seat).number ≡ number) seats
-
 -- the plain seat with this number, one of `passes`, has done nothing and notified nobody, and no pass has waited on its
 -- condition
 abbrev pub IsNewPlainSeat : ℕ → ℕ → PlainSeat → Type 0

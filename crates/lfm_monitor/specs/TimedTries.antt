@@ -35,7 +35,7 @@ module _ {O A R : Type 0} {K : _} where
 module _ {O A R : Type 0} {K : _} (after : O → A → O) (reply : O → A → R) (m : Monitor O A R K) (condition : ℕ) (op : A) (says : R → Bool → Type 0) where
   -- a failed try: the pass applied the op, its reply was not accepted, and the pass waited on the condition. `over`: whether
   -- that wait timed out
-  pub record InVainWithin (p q : Pass O A R K) (over : Bool) : Type 0 where
+  pub record FailedTryWithin (p q : Pass O A R K) (over : Bool) : Type 0 where
     pub tried : Pass O A R K
     pub replied : R
     pub waited : How × Waited
@@ -46,9 +46,9 @@ module _ {O A R : Type 0} {K : _} (after : O → A → O) (reply : O → A → R
 
   -- the pass was p before this number of failed tries, and q after them. `over`: whether the wait of the last of them timed
   -- out. No earlier one did
-  abbrev pub AllInVainWithin : ℕ → Pass O A R K → Pass O A R K → Bool → Type 0
-  AllInVainWithin zero p q over = (q ≡ p) × (over ≡ false)
-  AllInVainWithin (suc n) p q over = (l : Pass O A R K) × AllInVainWithin n p l false × InVainWithin l q over
+  abbrev pub FailedTriesWithin : ℕ → Pass O A R K → Pass O A R K → Bool → Type 0
+  FailedTriesWithin zero p q over = (q ≡ p) × (over ≡ false)
+  FailedTriesWithin (suc n) p q over = (l : Pass O A R K) × FailedTriesWithin n p l false × FailedTryWithin l q over
 
   -- How the last try ended. Its reply is accepted, or it is not and the wait before it timed out. Or the try was refused, or
   -- the wait after it
@@ -60,4 +60,4 @@ module _ {O A R : Type 0} {K : _} (after : O → A → O) (reply : O → A → R
 
   -- some failed tries, and the last one
   abbrev pub ApplyUntilForEnds : Pass O A R K → Pass O A R K → Result (LastReply R) Refusal → Type 0
-  ApplyUntilForEnds p q r = (n : ℕ) × (over : Bool) × (last : Pass O A R K) × OfMonitor last m × AllInVainWithin n p last over × LastEndsWithin last q over r
+  ApplyUntilForEnds p q r = (n : ℕ) × (over : Bool) × (last : Pass O A R K) × OfMonitor last m × FailedTriesWithin n p last over × LastEndsWithin last q over r

@@ -45,7 +45,7 @@ module _ {O A R : Type 0} {K : _} (after : O → A → O) (reply : O → A → R
 
   module _ (condition : ℕ) (op : A) (says : R → Bool → Type 0) where
     -- a failed try: the pass applied the op, its reply was not accepted, and the pass waited on the condition
-    pub record InVain (p q : Pass O A R K) : Type 0 where
+    pub record FailedTry (p q : Pass O A R K) : Type 0 where
       pub tried : Pass O A R K
       pub replied : R
       pub waited : How × ℕ
@@ -54,9 +54,9 @@ module _ {O A R : Type 0} {K : _} (after : O → A → O) (reply : O → A → R
       pub waits : Waits m condition tried q (Ok waited)
 
     -- the pass was p before this number of failed tries, and q after them
-    abbrev pub AllInVain : ℕ → Pass O A R K → Pass O A R K → Type 0
-    AllInVain zero p q = q ≡ p
-    AllInVain (suc n) p q = (m : Pass O A R K) × AllInVain n p m × InVain m q
+    abbrev pub FailedTries : ℕ → Pass O A R K → Pass O A R K → Type 0
+    FailedTries zero p q = q ≡ p
+    FailedTries (suc n) p q = (m : Pass O A R K) × FailedTries n p m × FailedTry m q
 
     -- how the last try ended: with an accepted reply, or refused, or with a reply that was not accepted and a refused wait
     abbrev pub LastEnds : Pass O A R K → Pass O A R K → Result R Refusal → Type 0
@@ -65,4 +65,4 @@ module _ {O A R : Type 0} {K : _} (after : O → A → O) (reply : O → A → R
 
     -- some failed tries, and the last one
     abbrev pub ApplyUntilEnds : Pass O A R K → Pass O A R K → Result R Refusal → Type 0
-    ApplyUntilEnds p q r = (n : ℕ) × (last : Pass O A R K) × OfMonitor last m × AllInVain n p last × LastEnds last q r
+    ApplyUntilEnds p q r = (n : ℕ) × (last : Pass O A R K) × OfMonitor last m × FailedTries n p last × LastEnds last q r

@@ -33,8 +33,8 @@ fn timed_out(waited: Waited) -> bool
 
 impl<O: Object> Monitor<O> {
     /// `apply_until` on a plain condition, for at most this time from now. If the time is over, it makes one more try. If
-    /// `done` doesn't accept the reply of that try either, it returns TimedOut with the reply: the object was so while the
-    /// pass held the monitor for the last time. The pass holds as before in every case.
+    /// `done` doesn't accept the reply of that try either, it returns TimedOut with that reply, which the object gave in the
+    /// hold that the pass still has. The pass holds as before in every case.
     ///
     /// A try is refused as `apply` is, and a wait as `wait_for` is. A wait acquires the monitor again without a time limit.
     ///

@@ -1,8 +1,10 @@
-//! The monitor, its pace, and the numbers of its conditions. It is made in `open`. Its calls are in `enter`, `apply`,
-//! `apply_until`, `leave`, `hold`, `run`, `wait`, `wake` and `close`.
-ghost use Rattle.std.specs.Prelude.{◌≡◌, ◌<◌, vec_len};
+//! The monitor, its pace, and the numbers of its conditions. It is made in `open`, or in `plain_open` with plain conditions. Its
+//! calls are in `enter`, `apply`, `apply_until`, `apply_until_for`, `leave`, `hold`, `run`, `wait`, `timed_wait`, `wake` and
+//! `close`.
+ghost use Rattle.std.specs.Prelude.{◌≡◌, ◌+◌, ◌<◌, MatchOption, vec_len};
 ghost use Rattle.lfm_mutex.specs.Belongs.{limits_of};
 ghost use Rattle.lfm_monitor.specs.CondSeats.{AreConditions, ArePaced, SameButPaces};
+ghost use Rattle.lfm_monitor.specs.Conditions.{IsMissing};
 ghost use Rattle.lfm_monitor.specs.PlainSeats.{ArePlainConditions, ArePlainPaced, SamePlainButPaces};
 
 use crate::journaled::Journaled;
@@ -64,15 +66,24 @@ fn set_paces(conditions: &mut Vec<Condvar>, pace: Pace)
     }
 }
 
+/// The index of the condition with this number among this many, which is one less, or None if there is no such condition.
+fn index_among(count: u64, condition: u64) -> Option<usize>
+    ensures { MatchOption result (IsMissing count condition) (λ n. (condition ≡ n + 1) × (n < count)) }
+{
+    if condition == 0 || condition > count {
+        return None;
+    }
+    Some((condition - 1) as usize)
+}
+
 impl<O: Object> Monitor<O> {
-    ghost use Rattle.std.specs.Prelude.{◌+◌, MatchBool, MatchOption};
+    ghost use Rattle.std.specs.Prelude.{MatchBool};
     ghost use Rattle.lfm_monitor.specs.Belongs.{OfMonitor, conditions_in, conditions_of, plain_conditions_in, plain_conditions_of};
-    ghost use Rattle.lfm_monitor.specs.Conditions.{IsMissing};
 
     /// Sets the pace of the monitor's mutex and of the list of each condition: how often a pass tries before it queues, and how
-    /// often a queued pass polls for its grant before it sleeps. For the monitor, a pass tries only in `hold` and `run`. For a
-    /// list, it tries in each wait and wake. A pass that waits to be sent polls before it sleeps only if it waits alone, as
-    /// `wait` says.
+    /// often a queued pass polls for its grant before it sleeps. For the monitor, a pass tries only in `hold`, in `run`, and when
+    /// a wait on a plain condition acquires it again. For a list, it tries in each wait and wake. A pass that waits to be sent
+    /// or notified polls before it sleeps only if it waits alone, as `wait` says.
     ///
     /// The passes of the monitor still belong to it. The pace is set before threads share the monitor.
     pub fn set_pace(&mut self, pace: Pace)
@@ -94,24 +105,17 @@ impl<O: Object> Monitor<O> {
         self.plain_conditions.len() > 0
     }
 
-    /// The index of the plain condition with this number, which is one less, or None if there is no such condition.
+    /// The index of the plain condition with this number, or None if there is no such condition.
     pub(crate) fn plain_index_of(&self, condition: u64) -> Option<usize>
         ensures { MatchOption result (IsMissing (plain_conditions_of self.now) condition) (λ n. (condition ≡ n + 1) × (n < plain_conditions_of self.now)) }
     {
-        if condition == 0 || condition > self.plain_conditions.len() as u64 {
-            return None;
-        }
-        Some((condition - 1) as usize)
+        index_among(self.plain_conditions.len() as u64, condition)
     }
 
-    /// The index of the condition with this number among those that are not plain, which is one less, or None if there is no
-    /// such condition.
+    /// The index of the condition with this number among those that are not plain, or None if there is no such condition.
     pub(crate) fn index_of(&self, condition: u64) -> Option<usize>
         ensures { MatchOption result (IsMissing (conditions_of self.now) condition) (λ n. (condition ≡ n + 1) × (n < conditions_of self.now)) }
     {
-        if condition == 0 || condition > self.conditions.len() as u64 {
-            return None;
-        }
-        Some((condition - 1) as usize)
+        index_among(self.conditions.len() as u64, condition)
     }
 }

@@ -91,7 +91,8 @@ impl<O: Object> Monitor<O> {
     /// it has the condition's list, and wakes the passes that it grants the monitor, if any. The last of these is woken after
     /// the list is released.
     ///
-    /// On plain conditions it notifies them and sends nobody, while it has the list, and is never refused as NotWaiting.
+    /// On plain conditions it notifies them and sends nobody, while it has the list, and wakes their threads after it has
+    /// released the list. It is never refused as NotWaiting.
     pub fn wake_all<R: Wait>(
         &self,
         rt: &R,

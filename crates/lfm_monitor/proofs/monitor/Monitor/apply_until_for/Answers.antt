@@ -6,7 +6,7 @@ use Rattle.lfm_plain_condvar.specs.declared.wait_for.Waited.{Waited}
 use Rattle.lfm_monitor.specs.Belongs.{cond_seats_of, mine_of, pass_sight, plain_seats_of, seen_of, share_of}
 use Rattle.lfm_monitor.specs.PlainConditions.{ticket_in}
 use Rattle.lfm_monitor.specs.PlainSeats.{PlainSeatsWokenAsGranted}
-use Rattle.lfm_monitor.specs.TimedTries.{AllInVainWithin, ApplyUntilForEnds}
+use Rattle.lfm_monitor.specs.TimedTries.{FailedTriesWithin, ApplyUntilForEnds}
 use Rattle.lfm_monitor.proofs.Trying.{applied_depth, handed_on, waited_depth}
 use Rattle.lfm_monitor.proofs.UsedPlainConditions.{plain_woken_join, plain_woken_none}
 use Rattle.lfm_mutex.proofs.runs.Woken.{looks_join, looks_none, may_look}
@@ -32,7 +32,7 @@ tries-preserved g c = let i = c.tries.invariant in let a = c.in_ok-reply.ensures
     suc i.tries.0,
     (
       l,
-      subst (AllInVainWithin g.O.Object.after g.O.Object.reply c.args.self.now c.args.condition c.args.op (λ r b. FnReturnsAt g.F.Fn c.args.done r b) i.tries.0 b l) c.if-is_over.false i.tries.1,
+      subst (FailedTriesWithin g.O.Object.after g.O.Object.reply c.args.self.now c.args.condition c.args.op (λ r b. FnReturnsAt g.F.Fn c.args.done r b) i.tries.0 b l) c.if-is_over.false i.tries.1,
       record {
         tried = p;
         replied = c.in_ok-reply.reply;

@@ -2,7 +2,7 @@ use Rattle.std.proofs.Common.{◌≡◌, ℕ}
 use Rattle.std.specs.Fn.{FnReturnsAt}
 use Rattle.lfm_monitor.specs.Belongs.{OfMonitor, PassLooksAndWakesAsGranted, PassRunGoesOnFrom, cond_seats_of, pass_sight, plain_seats_of}
 use Rattle.lfm_monitor.specs.PlainSeats.{PlainSeatsWokenAsGranted}
-use Rattle.lfm_monitor.specs.TimedTries.{AllInVainWithin}
+use Rattle.lfm_monitor.specs.TimedTries.{FailedTriesWithin}
 use Rattle.lfm_monitor.proofs.monitor.Monitor.apply_until_for.Given as goal
 
 -- each try so far failed
@@ -15,5 +15,5 @@ invariant-tries g l = record {
   morphing : cond_seats_of l.pass ≡ cond_seats_of l.fn.pass;
   depth : (pass_sight l.pass).depth ≡ (pass_sight l.fn.pass).depth;
   number : (pass_sight l.pass).number ≡ (pass_sight l.fn.pass).number;
-  tries : (n : ℕ) × AllInVainWithin g.O.Object.after g.O.Object.reply l.self l.condition l.op (λ r b. FnReturnsAt g.F.Fn l.done r b) n l.fn.pass l.pass l.is_over;
+  tries : (n : ℕ) × FailedTriesWithin g.O.Object.after g.O.Object.reply l.self l.condition l.op (λ r b. FnReturnsAt g.F.Fn l.done r b) n l.fn.pass l.pass l.is_over;
 }

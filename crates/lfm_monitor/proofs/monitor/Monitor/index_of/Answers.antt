@@ -1,5 +1,0 @@
-use Rattle.std.proofs.Common.{rules}
-use Rattle.lfm_monitor.proofs.monitor.Monitor.index_of.Goals as goal
-
-pub returns-then-condition-eq0 : goal.returns-then-condition-eq0
-returns-then-condition-eq0 g c = search rules

@@ -3,7 +3,6 @@
 #   page     the ratios of some rows, as a table of docs/BENCHMARKS.md, the greatest of ours first
 #   rows     the ratios of all rows, as charts of docs/benchmarks.rows
 #   costs    what a mutex costs by its seats, as a table of docs/BENCHMARKS.md
-#   readme   some ratios of ours, as a table of README.md
 
 # Adds the column of a lock; `base` is the lock that it is compared with, if it is.
 function column(lock, heading, base, is_one_of_ours) {
@@ -157,18 +156,6 @@ function costs(    at) {
       with_commas(cost[seats[at], "bytes with all taken"]) " |"
 }
 
-# A row of README.md's table, with the ratios of these rows for each language, and this mark between them.
-function readme(text, of_rows, mark,    at, i, line, ratios, parts, languages) {
-  split("C here|C++|Rust", languages, "|")
-  ratios = split(of_rows, parts, "|")
-  line = "| " text
-  for (at = 1; at <= 3; at++) {
-    line = line " | "
-    for (i = 1; i <= ratios; i++) line = line (i > 1 ? mark " " : "") ratio(parts[i], languages[at])
-  }
-  print line " |"
-}
-
 END {
   if (form == "page") page()
   else if (form == "costs") costs()
@@ -176,11 +163,6 @@ END {
     chart("languages", "Time from C, C++ and Rust", 4, "C here|C++|Rust", 0)
     chart("languages_in_order", "Time from C, C++ and Rust, in order", "", "C here|C++|Rust", 1)
     chart("other_locks", "Time of other locks", 4, "nsync|absl|parking_lot", 0)
-  } else if (form == "readme") {
-    readme("lock and unlock by one thread: of 4,096 mutexes in random order; of one",
-      "one among 4096|alone: lock, unlock", ";")
-    readme("short sections; 8, 4, 2 threads", "8 threads, short|4 threads, short|2 threads, short", ",")
-    readme("ping-pong on a condition variable; a broadcast to 32", "ping-pong, a round trip|broadcast to 32", ";")
   } else {
     table("nanoseconds; ratio", 0)
     print ""

@@ -26,9 +26,10 @@ use Rattle.lfm_pool.specs.Posts.{HeldPosts}
 use Rattle.lfm_pool.specs.Tables.{part}
 use Rattle.lfm_pool_laws.specs.Mutexes.{HasRunOf, MutexIs}
 
--- Each mutex has a run at every moment, with as many seats as the pool. The run has led from the start of the core to the
--- words of the mutex and to the data of the seats in it. The trail of a seat in the mutex is its part of the run, and the
--- seat knows the run up to its own last step in the mutex.
+-- Each mutex has a run at every moment, with as many seats as the pool. The run has led from the start of the core to what
+-- `MutexIs` names: the count, owner and push words of the mutex, the seat of its post, the wake words of seats that do not rest
+-- there, and the data of its seats. The trail of a seat in the mutex is its part of the run, and the seat knows the run up to
+-- its own last step in the mutex.
 abbrev pub MutexesHaveARun : Type 0
 MutexesHaveARun =
     ((s : State ℕ PoolView) (h : HeldPosts s) (m : ℕ) → m < h.held.mutexes → (l : Limits) × (actions : List Action) × HasRunOf s m l actions)

@@ -8,8 +8,9 @@ ghost use Rattle.lfm_pool_laws.specs.StateLaws.{
   PostsOfMutexesAreWatched,
 };
 
-/// At every moment some run of the core has led from its start to the words of each mutex and to the data of the seats
-/// there. A seat's trail in the mutex is its part of the run, and the seat knows the run up to its own last step there.
+/// At every moment some run of the core has led from its start to the count, owner and push words of each mutex, to the seat
+/// of its post, to the wake words of seats that do not rest there, and to the data of the seats there. A seat's trail in the
+/// mutex is its part of the run, and the seat knows the run up to its own last step there.
 ///
 /// Definition: `MutexesHaveARun` in `specs/StateLaws.antt`. Proof: `proofs/Runs.antt`.
 pub fn mutexes_have_a_run()

@@ -1,6 +1,5 @@
-# Turns the output of two or more runs of lfm_bench into lines of docs/benchmarks.rows: see scripts/bench/bench_mutex. If
-# `kind` is `quiet`, all is shown. Otherwise only the figures of several threads are shown, in a chart of this name. `place`
-# says on which processors the threads run.
+# Turns the output of two or more runs of lfm_bench into parts of docs/benchmarks.rows: see scripts/bench/bench_mutex. `part` is
+# the name of the part that compares both ways of locking with std's mutex. It needs scripts/bench/situations.awk.
 
 # ---- reading
 
@@ -41,61 +40,37 @@ function rounded(figure) {
   return sprintf(figure < 2 ? "%.2f" : figure < 100 ? "%.1f" : "%.0f", figure)
 }
 
-function ratios(table, name, peer, other,    run, text) {
-  for (run = 1; run <= runs[table, name]; run++) {
-    text = text (run == 1 ? "" : ", ") rounded(median[table, name, peer, run] / median[table, name, other, run])
-  }
-  return text
-}
-
-# the rows of a table whose names match, in `order`, beginning with those in which barging is worst compared with std
-function sort_rows(table, fits,    i, j, name) {
-  many = 0
+# prints the rows of a table whose names match, with both ways of locking and std's mutex
+function print_rows(table, fits,    i, name) {
   for (i = 1; i <= rows[table]; i++) if (row[table, i] ~ fits) {
     name = row[table, i]
-    ratio[name] = mean(table, name, "barging") / mean(table, name, "std")
-    for (j = ++many; j > 1 && ratio[order[j - 1]] < ratio[name]; j--) order[j] = order[j - 1]
-    order[j] = name
+    print_row(situation(name), mean(table, name, "in order"), mean(table, name, "barging"), mean(table, name, "std"))
   }
 }
 
-# prints a chart of both ways of locking and of std's mutex; its figures are those of the program divided by `unit`
-function chart(name, head, table, fits, unit, fairness,    i, greatest) {
-  sort_rows(table, fits)
-  for (i = 1; i <= many; i++) {
-    greatest = larger(greatest, larger(mean(table, order[i], "barging"), mean(table, order[i], "std")))
-  }
-  printf "chart %s|%s|barging over std's, two runs%s|%s\n", name, head, fairness == "" ? "" : "; its most over fewest", rounded(1.25 * greatest / unit)
-  print "series in order|*barging|Rust's std"
-  for (i = 1; i <= many; i++) {
-    printf "row %s|%s|%s|%s|%s%s\n", order[i], rounded(mean(table, order[i], "in order") / unit), rounded(mean(table, order[i], "barging") / unit), \
-      rounded(mean(table, order[i], "std") / unit), ratios(table, order[i], "barging", "std"), \
-      fairness == "" ? "" : "; " rounded(mean(fairness, order[i], "barging"))
-  }
+function print_row(name, in_order, barging, std) {
+  printf "row %s|%s|%s|%s\n", name, rounded(in_order), rounded(barging), rounded(std)
 }
 
-function larger(a, b) {
-  return a > b ? a : b
-}
-
-function chart_of_one_thread(table,    i, name) {
-  print "chart one_thread|One thread: nanoseconds a call|ours over bare, two runs"
+function print_calls_of_one_thread(table,    i, name) {
+  print "part one_thread|nanoseconds a call|"
   print "series ours|bare atomic steps|Rust's std"
   for (i = 1; i <= rows[table]; i++) {
     name = row[table, i]
     if (name ~ /lock|with/) {
-      printf "row %s|%s|%s|%s|%s\n", name, rounded(mean(table, name, "ours")), rounded(mean(table, name, "bare")), \
-        median[table, name, "std", 1] == "-" ? "" : rounded(mean(table, name, "std")), ratios(table, name, "ours", "bare")
+      printf "row %s|%s|%s|%s\n", name, rounded(mean(table, name, "ours")), rounded(mean(table, name, "bare")), \
+        median[table, name, "std", 1] == "-" ? "" : rounded(mean(table, name, "std"))
     }
   }
 }
 
 END {
-  if (kind == "quiet") chart_of_one_thread("nanoseconds a call")
-  # on one processor a measurement may end before each thread has had its turn
-  chart(kind == "quiet" ? "several_threads" : kind, place ": nanoseconds an acquisition", "nanoseconds an acquisition", "", 1, kind == "one_processor" ? "" : "most over fewest")
-  if (kind == "quiet") {
-    chart("condition_variables", "Condition variables: microseconds", "nanoseconds", "^(ping-pong|wake_all)", 1000, "")
-    chart("bounded_queue", "A bounded queue between threads: nanoseconds a number", "nanoseconds", "^bounded queue", 1, "")
-  }
+  alone = "nanoseconds a call"
+  if (part == "rattle_quiet") print_calls_of_one_thread(alone)
+  print "part " part "|nanoseconds|Rust's std"
+  print "series in order|barging|Rust's std"
+  print_rows("nanoseconds an acquisition", "")
+  print_row(situation("alone"), mean(alone, "lock and unlock", "ours"), mean(alone, "lock_barging and unlock", "ours"), \
+    mean(alone, "lock and unlock", "std"))
+  print_rows("nanoseconds", "^(ping-pong|wake_all|bounded queue)")
 }

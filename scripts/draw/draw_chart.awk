@@ -54,6 +54,11 @@ file == 2 && what == "row" {
 
 # ---- which marks a chart has
 
+# keeps the first cause for which there is no picture
+function refuse(cause) {
+  if (fault == "") fault = cause
+}
+
 # the ratio of a figure, or nothing
 function ratio(part, series, row,    value) {
   value = figure[part, series, row]
@@ -64,6 +69,8 @@ function ratio(part, series, row,    value) {
 
 # adds this series of a part to a column, under a name
 function add_series(p, c, part, series, shown,    s, r) {
+  for (s = 1; s <= series_of[part] && part_series[part, s] != series; s++);
+  if (s > series_of[part]) refuse("no series " series " in " part)
   if (!((shown) in number)) {
     number[shown] = ++names
     name_of[names] = shown
@@ -87,7 +94,8 @@ function add_value(p, c, s, r, value) {
 function take_rows(p, part,    r, i) {
   for (r = 1; r <= part_rows[part]; r++) {
     for (i = 1; i <= rows[p] && row[p, i] != part_row[part, r]; i++);
-    if (i > rows[p]) row[p, rows[p] = i] = part_row[part, r]
+    if (i > rows[p]) rows[p] = i
+    row[p, i] = part_row[part, r]
   }
 }
 
@@ -102,7 +110,7 @@ function part_of(source,    at) {
     shown = substr(series, at + 1)
     series = substr(series, 1, at - 1)
   }
-  if (!(source in series_of)) fault = "no part " source
+  if (!(source in series_of)) refuse("no part " source)
   return source
 }
 
@@ -121,7 +129,7 @@ function gather(p,    c, i, s, part) {
 # the rows with the greatest ratio first
 function sort_rows(p,    r, j) {
   for (r = 1; r <= rows[p]; r++) {
-    if (!worst[p, r]) fault = "no figure of " row[p, r]
+    if (!worst[p, r]) refuse("no figure of " row[p, r])
     for (j = r; j > 1 && worst[p, order[p, j - 1]] < worst[p, r]; j--) order[p, j] = order[p, j - 1]
     order[p, j] = r
   }
@@ -237,8 +245,8 @@ function draw_head(    c) {
 
 END {
   for (p = 1; p <= panels; p++) gather(p)
-  if (!panels) fault = "it is not there"
-  if (names > 6) fault = "more than six series"
+  if (!panels) refuse("it is not there")
+  if (names > 6) refuse("more than six series")
   if (fault) {
     print "scripts/draw/draw_chart: " name ": " fault > "/dev/stderr"
     exit 1

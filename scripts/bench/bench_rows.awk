@@ -1,5 +1,6 @@
 # Turns the output of two or more runs of lfm_bench into parts of docs/benchmarks.rows: see scripts/bench/bench_mutex. `part` is
-# the name of the part that compares both ways of locking with std's mutex. It needs scripts/bench/situations.awk.
+# the name of the part that compares the ways of locking with std's mutex; plain condition variables are one if the output has
+# them. It needs scripts/bench/situations.awk.
 
 # ---- reading
 
@@ -18,6 +19,7 @@ cells ~ /^ +(ours|in order) / {
   table = name
   titles = 0
   for (at = 1; at <= length(cells); at += 10) title[++titles] = trimmed(substr(cells, at, 10))
+  if (cells ~ / plain /) has_plain = 1
   next
 }
 
@@ -36,20 +38,26 @@ function mean(table, name, peer,    run, sum) {
 }
 
 # about three significant digits
-function rounded(figure) {
-  return sprintf(figure < 2 ? "%.2f" : figure < 100 ? "%.1f" : "%.0f", figure)
+function rounded(value) {
+  return sprintf(value < 2 ? "%.2f" : value < 100 ? "%.1f" : "%.0f", value)
 }
 
-# prints the rows of a table whose names match, with both ways of locking and std's mutex
+# the figure of a peer, or nothing if the table has none
+function figure(table, name, peer) {
+  return ((table, name, peer, 1) in median) && median[table, name, peer, 1] != "-" ? rounded(mean(table, name, peer)) : ""
+}
+
+# prints the rows of a table whose names match, with all ways of locking and std's mutex
 function print_rows(table, fits,    i, name) {
   for (i = 1; i <= rows[table]; i++) if (row[table, i] ~ fits) {
     name = row[table, i]
-    print_row(situation(name), mean(table, name, "in order"), mean(table, name, "barging"), mean(table, name, "std"))
+    print_row(situation(name), figure(table, name, "in order"), figure(table, name, "barging"), figure(table, name, "plain"), \
+      figure(table, name, "std"))
   }
 }
 
-function print_row(name, in_order, barging, std) {
-  printf "row %s|%s|%s|%s\n", name, rounded(in_order), rounded(barging), rounded(std)
+function print_row(name, in_order, barging, plain, std) {
+  print "row " name "|" in_order "|" barging (has_plain ? "|" plain : "") "|" std
 }
 
 function print_calls_of_one_thread(table,    i, name) {
@@ -58,8 +66,7 @@ function print_calls_of_one_thread(table,    i, name) {
   for (i = 1; i <= rows[table]; i++) {
     name = row[table, i]
     if (name ~ /lock|with/) {
-      printf "row %s|%s|%s|%s\n", name, rounded(mean(table, name, "ours")), rounded(mean(table, name, "bare")), \
-        median[table, name, "std", 1] == "-" ? "" : rounded(mean(table, name, "std"))
+      print "row " name "|" figure(table, name, "ours") "|" figure(table, name, "bare") "|" figure(table, name, "std")
     }
   }
 }
@@ -68,9 +75,9 @@ END {
   alone = "nanoseconds a call"
   if (part == "rattle_quiet") print_calls_of_one_thread(alone)
   print "part " part "|nanoseconds|Rust's std"
-  print "series in order|barging|Rust's std"
+  print "series in order|barging" (has_plain ? "|plain" : "") "|Rust's std"
   print_rows("nanoseconds an acquisition", "")
-  print_row(situation("alone"), mean(alone, "lock and unlock", "ours"), mean(alone, "lock_barging and unlock", "ours"), \
-    mean(alone, "lock and unlock", "std"))
+  print_row(situation("alone"), figure(alone, "lock and unlock", "ours"), figure(alone, "lock_barging and unlock", "ours"), "", \
+    figure(alone, "lock and unlock", "std"))
   print_rows("nanoseconds", "^(ping-pong|wake_all|bounded queue)")
 }

@@ -1,7 +1,8 @@
-# Makes the tables of scripts/bench/bench_c from the lines of its programs, ROW|LOCK|MEDIAN|LEAST|GREATEST. `form` is
+# Makes the tables of scripts/bench/bench_c from the lines of its programs, ROW|LOCK|MEDIAN|LEAST|GREATEST. It needs
+# scripts/bench/situations.awk. `form` is
 #   table    for all rows a column for each lock, with the medians, and after most of them the ratio to its base
 #   page     the ratios of some rows, as a table of docs/BENCHMARKS.md, the greatest of ours first
-#   rows     the ratios of all rows, as charts of docs/benchmarks.rows
+#   rows     the ratios of all rows, as parts of docs/benchmarks.rows
 #   costs    what a mutex costs by its seats, as a table of docs/BENCHMARKS.md
 
 # Adds the column of a lock; `base` is the lock that it is compared with, if it is.
@@ -102,7 +103,7 @@ function page(    at, i, line, lines, order) {
   lines = sort_rows(order)
   for (i = 0; i <= lines; i++) {
     if (i && !(order[i] in is_of_page)) continue
-    line = i ? "| " order[i] : "|"
+    line = i ? "| " situation(order[i]) : "|"
     for (at = 1; at <= count; at++)
       if (locks[at] in found && bases[locks[at]]) line = line " | " (i ? ratio(order[i], locks[at]) : headings[locks[at]])
     print line " |"
@@ -116,23 +117,24 @@ function rule(line) {
   return line "|"
 }
 
-# A chart of these locks, with the rows that are in order, or with the others. A bar longer than `longest` is cut off.
-function chart(name, title, longest, locks_of_it, in_order,    at, i, line, lines, order, series, names, has_figures) {
+# A part with the ratios of these locks, of the rows that are in order, or of the others.
+function print_part(name, locks_of_it, in_order,    at, i, line, lines, order, series, names, has_figures) {
   series = split(locks_of_it, names, "|")
-  print "chart " name "|" title ", divided by that of pthread's or std's mutex||" longest
-  line = "series *"
+  print "part " name "|ratios|"
+  line = "series "
   for (at = 1; at <= series; at++) line = line (at > 1 ? "|" : "") (names[at] == "C here" ? "C" : names[at])
   print line
   lines = sort_rows(order)
   for (i = 1; i <= lines; i++) {
     if ((order[i] ~ /, in order$/) != in_order) continue
-    line = "row " order[i]
+    line = situation(order[i])
+    sub(/, in order$/, "", line)
     has_figures = 0
     for (at = 1; at <= series; at++) {
       line = line "|" ratio(order[i], names[at])
       if (ratio(order[i], names[at]) != "") has_figures = 1
     }
-    if (has_figures) print line "|"
+    if (has_figures) print "row " line
   }
 }
 
@@ -160,9 +162,9 @@ END {
   if (form == "page") page()
   else if (form == "costs") costs()
   else if (form == "rows") {
-    chart("languages", "Time from C, C++ and Rust", 4, "C here|C++|Rust", 0)
-    chart("languages_in_order", "Time from C, C++ and Rust, in order", "", "C here|C++|Rust", 1)
-    chart("other_locks", "Time of other locks", 4, "nsync|absl|parking_lot", 0)
+    print_part("languages", "C here|C++|Rust", 0)
+    print_part("languages_in_order", "C here|C++|Rust", 1)
+    print_part("other_locks", "nsync|absl|parking_lot", 0)
   } else {
     table("nanoseconds; ratio", 0)
     print ""

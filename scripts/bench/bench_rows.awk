@@ -1,6 +1,6 @@
-# Turns the output of two or more runs of lfm_bench into lines of docs/benchmarks.rows: see scripts/bench/bench_mutex. If
-# `kind` is `quiet`, all is shown. Otherwise only the figures of several threads are shown, in a chart of this name. `place`
-# says on which processors the threads run.
+# Turns the output of two or more runs of lfm_bench into parts of docs/benchmarks.rows: see scripts/bench/bench_mutex. `part` is
+# the name of the part that compares the ways of locking with std's mutex; plain condition variables are one if the output has
+# them. It needs scripts/bench/situations.awk.
 
 # ---- reading
 
@@ -19,6 +19,7 @@ cells ~ /^ +(ours|in order) / {
   table = name
   titles = 0
   for (at = 1; at <= length(cells); at += 10) title[++titles] = trimmed(substr(cells, at, 10))
+  if (cells ~ / plain /) has_plain = 1
   next
 }
 
@@ -37,65 +38,46 @@ function mean(table, name, peer,    run, sum) {
 }
 
 # about three significant digits
-function rounded(figure) {
-  return sprintf(figure < 2 ? "%.2f" : figure < 100 ? "%.1f" : "%.0f", figure)
+function rounded(value) {
+  return sprintf(value < 2 ? "%.2f" : value < 100 ? "%.1f" : "%.0f", value)
 }
 
-function ratios(table, name, peer, other,    run, text) {
-  for (run = 1; run <= runs[table, name]; run++) {
-    text = text (run == 1 ? "" : ", ") rounded(median[table, name, peer, run] / median[table, name, other, run])
-  }
-  return text
+# the figure of a peer, or nothing if the table has none
+function figure(table, name, peer) {
+  return ((table, name, peer, 1) in median) && median[table, name, peer, 1] != "-" ? rounded(mean(table, name, peer)) : ""
 }
 
-# the rows of a table whose names match, in `order`, beginning with those in which barging is worst compared with std
-function sort_rows(table, fits,    i, j, name) {
-  many = 0
+# prints the rows of a table whose names match, with all ways of locking and std's mutex
+function print_rows(table, fits,    i, name) {
   for (i = 1; i <= rows[table]; i++) if (row[table, i] ~ fits) {
     name = row[table, i]
-    ratio[name] = mean(table, name, "barging") / mean(table, name, "std")
-    for (j = ++many; j > 1 && ratio[order[j - 1]] < ratio[name]; j--) order[j] = order[j - 1]
-    order[j] = name
+    print_row(situation(name), figure(table, name, "in order"), figure(table, name, "barging"), figure(table, name, "plain"), \
+      figure(table, name, "std"))
   }
 }
 
-# prints a chart of both ways of locking and of std's mutex; its figures are those of the program divided by `unit`
-function chart(name, head, table, fits, unit, fairness,    i, greatest) {
-  sort_rows(table, fits)
-  for (i = 1; i <= many; i++) {
-    greatest = larger(greatest, larger(mean(table, order[i], "barging"), mean(table, order[i], "std")))
-  }
-  printf "chart %s|%s|barging over std's, two runs%s|%s\n", name, head, fairness == "" ? "" : "; its most over fewest", rounded(1.25 * greatest / unit)
-  print "series in order|*barging|Rust's std"
-  for (i = 1; i <= many; i++) {
-    printf "row %s|%s|%s|%s|%s%s\n", order[i], rounded(mean(table, order[i], "in order") / unit), rounded(mean(table, order[i], "barging") / unit), \
-      rounded(mean(table, order[i], "std") / unit), ratios(table, order[i], "barging", "std"), \
-      fairness == "" ? "" : "; " rounded(mean(fairness, order[i], "barging"))
-  }
+function print_row(name, in_order, barging, plain, std) {
+  print "row " name "|" in_order "|" barging (has_plain ? "|" plain : "") "|" std
 }
 
-function larger(a, b) {
-  return a > b ? a : b
-}
-
-function chart_of_one_thread(table,    i, name) {
-  print "chart one_thread|One thread: nanoseconds a call|ours over bare, two runs"
+function print_calls_of_one_thread(table,    i, name) {
+  print "part one_thread|nanoseconds a call|"
   print "series ours|bare atomic steps|Rust's std"
   for (i = 1; i <= rows[table]; i++) {
     name = row[table, i]
     if (name ~ /lock|with/) {
-      printf "row %s|%s|%s|%s|%s\n", name, rounded(mean(table, name, "ours")), rounded(mean(table, name, "bare")), \
-        median[table, name, "std", 1] == "-" ? "" : rounded(mean(table, name, "std")), ratios(table, name, "ours", "bare")
+      print "row " name "|" figure(table, name, "ours") "|" figure(table, name, "bare") "|" figure(table, name, "std")
     }
   }
 }
 
 END {
-  if (kind == "quiet") chart_of_one_thread("nanoseconds a call")
-  # on one processor a measurement may end before each thread has had its turn
-  chart(kind == "quiet" ? "several_threads" : kind, place ": nanoseconds an acquisition", "nanoseconds an acquisition", "", 1, kind == "one_processor" ? "" : "most over fewest")
-  if (kind == "quiet") {
-    chart("condition_variables", "Condition variables: microseconds", "nanoseconds", "^(ping-pong|wake_all)", 1000, "")
-    chart("bounded_queue", "A bounded queue between threads: nanoseconds a number", "nanoseconds", "^bounded queue", 1, "")
-  }
+  alone = "nanoseconds a call"
+  if (part == "rattle_quiet") print_calls_of_one_thread(alone)
+  print "part " part "|nanoseconds|Rust's std"
+  print "series in order|barging" (has_plain ? "|plain" : "") "|Rust's std"
+  print_rows("nanoseconds an acquisition", "")
+  print_row(situation("alone"), figure(alone, "lock and unlock", "ours"), figure(alone, "lock_barging and unlock", "ours"), "", \
+    figure(alone, "lock and unlock", "std"))
+  print_rows("nanoseconds", "^(ping-pong|wake_all|bounded queue)")
 }

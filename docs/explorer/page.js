@@ -80,7 +80,14 @@ function showLanes() {
   if (left < lanes.scrollLeft || right > lanes.scrollLeft + seen) lanes.scrollLeft = Math.max(0, Math.min(left, right - seen));
 }
 
+// in one column the story stands between the seats and the lanes, for the eye and for the key Tab
+function placeStory() {
+  const isOneColumn = matchMedia('(max-width: 1400px)').matches, next = $(isOneColumn ? 'lanes' : 'terms');
+  if (next.previousElementSibling !== $('story')) next.before($('story'));
+}
+
 function showStory() {
+  placeStory();
   if (view.task && taskStands(view) === 'done') view.finished.add(view.task);
   $('story').innerHTML = storyTexts(view, sentences, tasks).map(text => `<p>${text}</p>`).join('');
 }

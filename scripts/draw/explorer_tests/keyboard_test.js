@@ -5,7 +5,8 @@
 //   node keyboard_test.js PAGE     CHROMIUM names the browser
 const assert = require('assert');
 const { readPage } = require('./built_page.js');
-const { browser, address, text, test, MAKE_THE_WAY, tabTo, focused, layoutFaults, runInBrowser } = require('./reader.js');
+const { browser, address, text, test, chooseTitle, MAKE_THE_WAY, tabTo, focused, layoutFaults, runInBrowser } =
+  require('./reader.js');
 
 const [pageFile] = process.argv.slice(2);
 const page = readPage(pageFile);
@@ -73,6 +74,41 @@ test('a button of the slider keeps the focus, and gives it to the other one wher
     await browser.key('Enter', 'Enter');
     assert.strictEqual(await focused(), next, `${id} at ${moment}`);
   }
+});
+
+const IN_ONE_COLUMN = ['header', '.time', '.seats', '.story', '.lanes', 'details', '.text'];
+const IN_TWO_COLUMNS = ['header', '.time', '.seats', '.lanes', '.story', 'details', '.text'];
+for (const [width, wanted] of [[1000, IN_ONE_COLUMN], [1500, IN_TWO_COLUMNS]]) {
+  test(`${width} pixels: the key Tab goes down the page, column by column`, async () => {
+    await browser.open(address(pageFile), width, 900);
+    await browser.run('startTask(5)');
+    const controls = await browser.run(NUMBER_THE_CONTROLS), areas = ['header'];
+    await browser.run(`document.getElementById('${controls[0]}').focus()`);
+    for (let i = 1; i < controls.length; i++) {
+      await browser.key('Tab', 'Tab');
+      const area = await browser.run(`${JSON.stringify(wanted)}.find(area => document.activeElement.closest(area))`);
+      if (area !== areas.at(-1)) areas.push(area);
+    }
+    assert.deepStrictEqual(areas, wanted);
+    // in each column an area stands below the one before
+    await browser.run('scrollTo(0, 0)');
+    const tops = await browser.run(`${JSON.stringify(wanted)}.map(area => {
+      const { left, top } = document.querySelector(area).getBoundingClientRect();
+      return { isLeft: left < innerWidth / 2, top }; })`);
+    for (const isLeft of [true, false]) {
+      const column = tops.filter(place => place.isLeft === isLeft).map(({ top }) => top);
+      assert.deepStrictEqual(column, [...column].sort((a, b) => a - b));
+    }
+  });
+}
+
+test('no line of the trace is wider than its box', async () => {
+  await browser.open(address(pageFile));
+  await chooseTitle('Pop list beside push list');
+  await browser.key('End', 'End');
+  const { width, room } = await browser.run(`(() => { const trace = document.getElementById('trace');
+    return { width: trace.scrollWidth, room: trace.clientWidth }; })()`);
+  assert(width <= room, `${width} in ${room}`);
 });
 
 test('by keys a reader goes from one start to the next, and back', async () => {

@@ -27,11 +27,10 @@ for (const [width, height, dark] of [[1500, 900], [1500, 900, true], [1280, 800]
 // what a reader of each page sees: its start, a task, a wrong mutex with its fault, and a schedule of many seats
 const SIGHTS = ['startFree()', `startTask(0); ${WALK_THE_WAY}`, `startTask(tasks.length - 1); ${WALK_THE_WAY}`,
   'startExample(examples.length - 1); goTo(view.path.length)'];
-for (const width of [1000, 1100, 1250, 1600]) for (const dark of [false, true]) {
-  const window = `${width} pixels${dark ? ', dark' : ''}`;
-  test(`${window}: each list has room for its items, and each button and heading for its text`, async () => {
+for (const width of [1000, 1100, 1250, 1600]) {
+  test(`${width} pixels: each list has room for its items, and each button and heading for its text`, async () => {
     for (const file of [pageFile, threeFile].filter(file => file)) {
-      await browser.open(address(file), width, 800, dark);
+      await browser.open(address(file), width, 800);
       assert.deepStrictEqual(await cutItems(), []);
       const hasExamples = await browser.run('examples.length > 0');
       for (const sight of SIGHTS.filter(sight => hasExamples || !sight.startsWith('startExample'))) {

@@ -136,6 +136,11 @@ function followLine(graph, path, seat, act, line) {
   return true;
 }
 
+// whether a path begins with all events of another one
+function goesOn(start, path) {
+  return start.every(({ seat, act, to }, i) => path[i]?.seat === seat && path[i].act === act && path[i].to === to);
+}
+
 // the line of the schedule to which a further event belongs: steps that one seat makes in a row are one line
 function lineOfNext(path, seat, act) {
   const last = path[path.length - 1];
@@ -285,7 +290,9 @@ function faultOf(graph, node) {
   const lost = seats.findIndex(({ point }) => / link\.0 /.test(point)) + 1;
   const what = 'took a post over to serve a queued seat, and none is queued';
   if (lost !== 0) return `Seat ${lost} ${what}: its next step would read a record that is not there.`;
-  const asleep = seats.findIndex((seat, i) => sleepsForEver(graph, node, i + 1)) + 1;
+  // a sleeper is named when all calls have ended: until then a reader looks to those that are open for help
+  const isOver = seats.every(({ point }) => !point.includes(':'));
+  const asleep = isOver ? seats.findIndex((seat, i) => sleepsForEver(graph, node, i + 1)) + 1 : 0;
   return asleep === 0 ? '' : `Seat ${asleep} sleeps for ever: whatever the seats do from here, it gets no grant.`;
 }
 
@@ -309,6 +316,6 @@ function listsOf(state) {
 
 if (typeof module !== 'undefined') {
   Object.assign(module.exports, { readGraph, stateAt, readSentences, sentenceName, sentence, readTasks, isGoal, makeEvent,
-    endOf, follow, lineOfNext, extend, linesOf, lineText, LARGEST_BUDGET, scheduleOf, traceOf, explanationOf, WAYS, hasEvent,
-    wayTo, eventsFrom, manyResponsible, sleepsForEver, faultOf, listsOf });
+    endOf, follow, goesOn, lineOfNext, extend, linesOf, lineText, LARGEST_BUDGET, scheduleOf, traceOf, explanationOf, WAYS,
+    hasEvent, wayTo, eventsFrom, manyResponsible, sleepsForEver, faultOf, listsOf });
 }

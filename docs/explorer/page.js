@@ -21,18 +21,16 @@ const sentences = readSentences($('sentences').textContent);
 const tasks = readTasks($('tasks').textContent).map(task => ({ ...task, graph: graphs[task.graph] }))
   .filter(({ graph, schedule }) => graph && follow(graph, `seats ${graph.seats}\n${schedule}`).fault === 0);
 // what is shown: a path in a graph, the moment in it, the task if one was started, how long the path was then, and which
-// tasks were finished before
+// tasks their reader has finished
 const view = { graph: graphs.whole, path: [], at: 0, task: null, given: 0, finished: new Set() };
 
 // ---- drawing
 
-const withStop = text => /[.?!]$/.test(text) ? text : text + '.';
-
 // the list of tasks, where there is nothing to draw yet
 function tasksText() {
   const button = i => `<button data-task="${i}" aria-label="try task ${i + 1}">try</button>`;
-  const tick = i => view.finished.has(i) ? '<b class="done" title="done">✓</b> ' : '';
-  const items = tasks.map(({ text }, i) => `<li>${tick(i)}${escape(text)} ${button(i)}</li>`).join('');
+  const tick = task => view.finished.has(task) ? '<b class="done" title="done">✓</b> ' : '';
+  const items = tasks.map((task, i) => `<li>${tick(task)}${escape(task.text)} ${button(i)}</li>`).join('');
   return `<div class="tasks"><h2>New here? Tasks of a minute each</h2><ol>${items}</ol></div>`;
 }
 
@@ -67,6 +65,7 @@ function bringIntoSight() {
 function showLanes() {
   const lanes = $('lanes');
   fitLanes(lanes);
+  lanes.setAttribute('aria-label', isAtTasks() ? 'tasks' : 'what has happened: the trace says it in text');
   if (isAtTasks()) {
     lanes.innerHTML = tasksText();
     lanes.scrollTop = 0;
@@ -81,77 +80,16 @@ function showLanes() {
   if (left < lanes.scrollLeft || right > lanes.scrollLeft + seen) lanes.scrollLeft = Math.max(0, Math.min(left, right - seen));
 }
 
-// what has just happened, in sentences
-function eventTexts(event) {
-  if (!event) return [sentences.start.does];
-  const texts = [], name = nameOf(event.step);
-  if (event.act !== '.') {
-    const what = event.turn === 'begins' ? sentences.begins.does : 'its checks answer at once.';
-    texts.push(`<b>${escape(event.seat + ' ' + shownAct(event.act))}</b>: ${what}`);
-  } else {
-    const raw = `<code class="soft">${escape(event.step.slice(name.length + 2))}</code>`;
-    const does = withStop(sentence(sentences, name, event.seat).does);
-    texts.push(`<b>${shownName(event.step)}</b> of seat ${event.seat}: ${does}`, `${answerOf(event.step, event.seat)} ${outcomeOf(event.step)} ${raw}`);
-  }
-  const answer = () => withStop(sentence(sentences, turnName(event), event.seat).does);
-  if (isAnswer(event.turn)) texts.push(`<b>${escape(event.turn)}.</b> ${answer()}`);
-  return texts;
-}
-
-// the name of an answer in steps.txt: without the numbers that it has, and with check for what the checks refuse
-function turnName({ act, turn }) {
-  const name = act === '.' ? turn : turn.replace('refused', 'check');
-  return name.replace(/^(ends Waiting).*/, '$1').replace(/ \d+$/, '');
-}
-
-function taskTexts() {
-  const { graph, task } = view;
-  if (task === null) return [];
-  const number = tasks.indexOf(task) + 1;
-  const isDone = view.path.slice(view.given, view.at).some(event => isGoal(graph, task.goal, event));
-  const text = `<b>Task ${number}.</b> ${escape(task.text)}`;
-  if (!isDone) return [`${text} <button data-task="${number - 1}">again</button><button id="hint">show me</button>`];
-  view.finished.add(number - 1);
-  const next = number < tasks.length ? ` <button id="following" data-task="${number}">next task<kbd>n</kbd></button>` : '';
-  return [text, `<span class="done"><b>✓ Done.</b> ${escape(task.seen)}</span>${next}`];
-}
-
-// a way to the end of the present task, to be walked
-function showTheTask() {
-  const { graph, task } = view;
-  showWay(event => isGoal(graph, task.goal, event));
-  $('story').focus();
-}
-
-// a wrong mutex says so, and names the fault if it has come to one
-function wrongTexts(node) {
-  if (view.graph.kind !== 'wrong') return [];
-  const fault = faultOf(view.graph, node);
-  const said = 'This mutex has a fault on purpose, to show what a step is for. The right mutex does not have it.';
-  return [`<span class="fault">${said}</span>`,
-    ...(fault ? [`<b class="fault">A fault: ${fault}</b>`] : [])];
-}
-
-// how to go on, if more events of the path follow
-function onwardTexts() {
-  if (view.at === view.path.length) return [];
-  return ['<span class="soft">More events follow: <b>on ▶</b> shows the next one. A choice at a seat drops them.</span>'];
-}
-
-// who has the responsibility. The place that a trace names is right in the right mutex alone
-function placeTexts(state) {
-  const { placeName, placeSeat } = state, many = manyResponsible(state), isRight = many === (placeName === 'free' ? 0 : 1);
-  const who = many === 0 ? 'nobody' : many > 1 ? 'more than one' : '';
-  const place = isRight ? sentence(sentences, 'place ' + placeName, placeSeat).does
-    : who && `In this state of a mutex with a fault ${who} has the responsibility.`;
-  return place ? [`<span class="soft">${place}</span>`] : [];
+// in one column the story stands between the seats and the lanes, for the eye and for the key Tab
+function placeStory() {
+  const isOneColumn = matchMedia('(max-width: 1400px)').matches, next = $(isOneColumn ? 'lanes' : 'terms');
+  if (next.previousElementSibling !== $('story')) next.before($('story'));
 }
 
 function showStory() {
-  const state = stateAfter(view, view.at);
-  const texts = [...taskTexts(), ...eventTexts(view.path[view.at - 1]), ...wrongTexts(state.node)];
-  const last = [...placeTexts(state), ...onwardTexts()];
-  $('story').innerHTML = [...texts, ...last].map(text => `<p>${text}</p>`).join('');
+  placeStory();
+  if (view.task && taskStands(view) === 'done') view.finished.add(view.task);
+  $('story').innerHTML = storyTexts(view, sentences, tasks).map(text => `<p>${text}</p>`).join('');
 }
 
 function showTexts() {
@@ -165,13 +103,17 @@ function showTexts() {
   history.replaceState(null, '', '#' + encodeURIComponent([start, ...lines].join(';')));
 }
 
+// the slider and its buttons. A button that cannot be pressed any more gives the focus to the other one
 function showTime() {
+  const focus = document.activeElement;
   $('slider').max = view.path.length;
   $('slider').value = view.at;
   $('slider').setAttribute('aria-valuetext', `event ${view.at} of ${view.path.length}`);
   $('moment').textContent = `${view.at} of ${view.path.length}`;
   $('back').disabled = view.at === 0;
   $('on').disabled = view.at === view.path.length;
+  if (focus === $('back') && focus.disabled) $('on').focus();
+  if (focus === $('on') && focus.disabled) $('back').focus();
 }
 
 // draws all anew. The button that was pressed is drawn anew too, so the focus goes to it, or to another one of its seat
@@ -212,10 +154,22 @@ function load(graph, schedule, moment) {
 }
 
 function startAnew() {
-  if (canStartOver()) return view.task ? startTask(tasks.indexOf(view.task)) : load(view.graph, 'seats ' + view.graph.seats);
+  if (!canStartOver()) startFree();
+  else if (view.task) startTask(tasks.indexOf(view.task));
+  else load(view.graph, 'seats ' + view.graph.seats);
+}
+
+function startFree() {
   view.task = null;
   $('examples').value = '';
   load(graphs.whole, 'seats ' + graphs.whole.seats);
+}
+
+// shows an edited schedule. One that does not go on from the start of the task ends the task
+function editSchedule() {
+  const graph = view.graph.kind === 'path' ? graphs.whole : view.graph, schedule = $('schedule').value;
+  if (!goesOn(view.path.slice(0, view.given), follow(graph, schedule).path)) view.task = null;
+  load(graph, schedule);
 }
 
 function startTask(number) {
@@ -234,13 +188,21 @@ function startExample(number) {
   load(example.graph, example.schedule, 0);
 }
 
-// adds the shortest way from here to an event that is wanted, as a path to be walked
+// adds the shortest way from here to an event that is wanted, as a path to be walked: it is shown, and not done by its reader
 function showWay(isWanted) {
   view.path.length = view.at;
   const events = wayTo(view.graph, endOf(view.path), isWanted);
   $('fault').textContent = events.length ? '' : 'no way leads there from here';
   for (const { seat, act } of events) extend(view.graph, view.path, seat, act);
+  view.path.slice(view.at).forEach(event => { event.isShown = true; });
   goTo(view.at);
+}
+
+// a way to the end of the present task, to be walked
+function showTheTask() {
+  const { graph, task } = view;
+  showWay(event => isGoal(graph, task.goal, event));
+  $('story').focus();
 }
 
 // the part of the address after #. A part that is not well encoded names nothing
@@ -291,7 +253,7 @@ function pressKey(event) {
   if (event.target.tagName === 'SELECT' && !/^(Arrow(Left|Right)|Digit\d)$/.test(event.code)) return;
   const button = buttonOfKey(event);
   if (button) choose(Number(button.dataset.seat), button.dataset.act);
-  else if (event.key in KEYS && event.target !== $('slider')) KEYS[event.key]();
+  else if (event.key in KEYS) KEYS[event.key]();
   else return;
   event.preventDefault();
 }
@@ -333,10 +295,10 @@ function listen() {
   $('on').onclick = KEYS.ArrowRight;
   $('anew').onclick = startAnew;
   $('slider').oninput = () => goTo(Number($('slider').value));
-  $('schedule').onchange = () => load(view.graph.kind === 'path' ? graphs.whole : view.graph, $('schedule').value);
+  $('schedule').onchange = editSchedule;
   $('copy').onclick = copySchedule;
   $('examples').innerHTML = options('a free mutex', examples.map(({ title }, i) => `${i + 1}. ${title}`));
-  listenToList($('examples'), value => value === '' ? startAnew() : startExample(Number(value)));
+  listenToList($('examples'), value => value === '' ? startFree() : startExample(Number(value)));
   const ways = WAYS.filter(([, isWanted]) => hasEvent(graphs.whole, isWanted));
   $('ways').innerHTML = options('the shortest way to …', ways.map(([name]) => name));
   listenToList($('ways'), value => {

@@ -22,11 +22,12 @@ function statusOf(state, seat) {
   return { style, has, is: { owner: 'owns', carried: 'carries the responsibility' }[has] || idle };
 }
 
+const withStop = text => /[.?!]$/.test(text) ? text : text + '.';
+
 // the sentences of a seat whose call is open: its next step, and what can follow
 function openText(view, sentences, point, seat) {
   const { does, next } = sentence(sentences, nameOf(point), seat);
-  const stopped = /[.?!]$/.test(does) ? does : does + '.';
-  return `<p>Next, <b>${shownName(point)}</b>: ${stopped} ${memoryOf(point)}</p>`
+  return `<p>Next, <b>${shownName(point)}</b>: ${withStop(does)} ${memoryOf(point)}</p>`
     + (view.graph.kind === 'wrong' || next === '' ? '' : `<p class="next">Then: ${next}</p>`);
 }
 

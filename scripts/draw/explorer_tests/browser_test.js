@@ -6,8 +6,8 @@
 const assert = require('assert');
 const fs = require('fs');
 const { readPage, linksTo, stored, storedPlace, withoutSeats } = require('./built_page.js');
-const { browser, address, text, test, titles, chooseTitle, WALK_THE_WAY, words, layoutFaults, crossedRows, runInBrowser } =
-  require('./reader.js');
+const { browser, address, text, test, choose, titles, chooseTitle, WALK_THE_WAY, MAKE_THE_WAY, words, layoutFaults,
+  crossedRows, runInBrowser } = require('./reader.js');
 
 const [pageFile, threeFile, openedFile] = process.argv.slice(2);
 const page = readPage(pageFile);
@@ -81,10 +81,55 @@ test('a task shows a way to its end, and can be begun again', async () => {
   await browser.click('#hint');
   assert.strictEqual(await text('moment'), '11 of 20');
   for (let i = 0; i < 9; i++) await browser.key('ArrowRight', 'ArrowRight');
-  assert.match(await text('story'), /Done\./);
+  assert.match(await text('story'), /Shown\. It queued first, .* To do it yourself, press again/);
   await browser.run('goTo(12)');
   await browser.click('#story [data-task="5"]');
   assert.strictEqual(await text('moment'), '11 of 11');
+});
+
+test('a task is not done by a way that the page shows', async () => {
+  const many = await browser.run('tasks.length');
+  for (let i = 0; i < many; i++) {
+    await browser.run(`startTask(${i})`);
+    await browser.click('#hint');
+    await browser.key('End', 'End');
+    assert.match(await text('story'), /Shown\./, `task ${i + 1}`);
+    assert(!(await text('story')).includes('Done.'), `task ${i + 1}`);
+  }
+  await browser.run('startFree()');
+  assert.strictEqual(await browser.run(`document.querySelectorAll('.tasks li .done').length`), 0);
+  // but by a last step that the reader makes
+  await browser.run('startTask(0); showTheTask(); goTo(2)');
+  await browser.click('button[data-seat="1"][data-act="."]');
+  assert.match(await text('story'), /Done\./);
+});
+
+// writes a schedule into its field, as an edit that the focus has left
+const writeSchedule = lines => browser.run(`(() => {
+  const schedule = document.getElementById('schedule');
+  schedule.value = ${JSON.stringify(lines.join('\n') + '\n')};
+  schedule.dispatchEvent(new Event('change'));
+})()`);
+
+test('an edited schedule goes on with a task only if it begins as the task does', async () => {
+  const start = ['1 lock', '1 *', '2 lock', '2 *'], granted = ['1 unlock', '1 *'];
+  await browser.run('startTask(2)');
+  await writeSchedule(['seats 2 2', ...start, ...granted]);
+  assert.match(await text('story'), /Task 3.*Done\./);
+  await browser.run('startTask(2)');
+  const exchanged = [...start, ...granted].map(line => line.replace(/^./, seat => 3 - seat));
+  await writeSchedule(['seats 2 2', ...exchanged]);
+  assert.match(await text('story'), /ends Granted 1/);
+  assert(!/Task|Done/.test(await text('story')));
+});
+
+test('a fault is named, and its task done, when all calls have ended', async () => {
+  await browser.run(`startTask(tasks.findIndex(({ graph }) => graph.name === 'without_recheck'))`);
+  for (const act of ['1 .', '1 .', '1 .', '2 *']) await browser.run(`choose(${act[0]}, '${act[2]}')`);
+  assert.match(await text('story'), /ends Asleep/);
+  assert(!/Done|A fault:/.test(await text('story')));
+  await browser.run(`choose(1, '.')`);
+  assert.match(await text('story'), /Done\..*A fault: Seat 2 sleeps for ever/);
 });
 
 test('a choice in the past drops what came after it', async () => {
@@ -92,6 +137,13 @@ test('a choice in the past drops what came after it', async () => {
   await browser.run('goTo(3)');
   await browser.click('button[data-seat="2"][data-act="lock"]');
   assert.strictEqual(await text('moment'), '4 of 4');
+});
+
+test('the list leads from a wrong mutex to the free one', async () => {
+  await chooseTitle('A wrong mutex: no recheck');
+  await browser.click('button[data-seat="1"][data-act="lock"]');
+  await choose('examples', '');
+  assert.deepStrictEqual(await browser.run('[view.graph.kind, view.path.length]'), ['whole', 0]);
 });
 
 test('a row is a way back', async () => {
@@ -130,13 +182,13 @@ test('each task is done when its event has happened, and not before', async () =
   for (let i = 0; i < many; i++) {
     await browser.run(`startTask(${i})`);
     assert(!(await text('story')).includes('Done.'));
-    await browser.run('showWay(event => isGoal(view.graph, view.task.goal, event)); goTo(view.path.length - 1)');
+    await browser.run(`${MAKE_THE_WAY}; goTo(view.path.length - 1)`);
     assert(!(await text('story')).includes('Done.'), `task ${i + 1}, too early`);
     await browser.run('goTo(view.path.length)');
     assert((await text('story')).includes('Done.'), `task ${i + 1}`);
     assert.deepStrictEqual(await layoutFaults(), [], `task ${i + 1}`);
   }
-  await browser.run(`load(graphs.whole, 'seats 2'); startAnew()`);
+  await browser.run('startFree()');
   assert.strictEqual(await browser.run(`document.querySelectorAll('.tasks li .done').length`), many);
   return `${many} tasks`;
 });
@@ -160,7 +212,7 @@ test('where a mutex with a fault has two holders or none, the page does not tell
   const stories = await browser.run(`graphs.owner_cleared_late.states.flatMap((text, node) => {
     const many = manyResponsible(stateAt(graphs.owner_cleared_late, node));
     Object.assign(view, { graph: graphs.owner_cleared_late, path: [], at: 0 });
-    const { placeName } = stateAt(view.graph, node), texts = placeTexts(stateAt(view.graph, node));
+    const { placeName } = stateAt(view.graph, node), texts = placeTexts(stateAt(view.graph, node), sentences);
     return many === (placeName === 'free' ? 0 : 1) ? [] : [[many, texts.join()]]; })`);
   assert(stories.length > 0);
   const said = { 0: /a fault nobody has/, 1: /^$/ };
@@ -245,7 +297,7 @@ if (threeFile) test('the page of three seats: its tasks, and lanes', async () =>
   const many = await browser.run('tasks.length');
   assert(many >= 3);
   for (let i = 0; i < many; i++) {
-    await browser.run(`startTask(${i}); ${WALK_THE_WAY}`);
+    await browser.run(`startTask(${i}); ${MAKE_THE_WAY}`);
     assert((await text('story')).includes('Done.'));
     assert.deepStrictEqual(await layoutFaults(), []);
   }

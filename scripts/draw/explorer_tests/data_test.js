@@ -105,9 +105,8 @@ test('each step, answer, refusal and place has a sentence, and what a call remem
     }
     state.choices.forEach(({ refusals }) => refusals.forEach(({ why }) => told('check ' + why)));
     page.eventsFrom(graph, node).forEach(({ act, step, turn }) => {
-      const name = turn.replace(/^(ends Waiting).*/, '$1').replace(/ \d+$/, '');
       if (act === '.') assert.match(page.outcomeOf(step), /^(It|The word) .*\.$/);
-      if (page.isAnswer(turn)) told(act === '.' ? name : name.replace('refused', 'check'));
+      if (page.isAnswer(turn)) told(page.turnName({ act, turn }));
     });
   }
 });

@@ -5,7 +5,8 @@
 //   node keyboard_test.js PAGE     CHROMIUM names the browser
 const assert = require('assert');
 const { readPage } = require('./built_page.js');
-const { browser, address, text, test, WALK_THE_WAY, tabTo, focused, layoutFaults, runInBrowser } = require('./reader.js');
+const { browser, address, text, test, chooseTitle, MAKE_THE_WAY, tabTo, focused, layoutFaults, runInBrowser } =
+  require('./reader.js');
 
 const [pageFile] = process.argv.slice(2);
 const page = readPage(pageFile);
@@ -44,7 +45,7 @@ for (const [name, hash] of [['the first screen', ''], ['a moment', POSTED]]) {
 
 test('the keys of the page work from each control, and not in the schedule', async () => {
   await browser.open(address(pageFile) + POSTED);
-  for (const id of ['back', 'lanes', 'trace', 'story', 'examples', 'ways']) {
+  for (const id of ['back', 'slider', 'lanes', 'trace', 'story', 'examples', 'ways']) {
     await browser.run(`document.getElementById('${id}').focus(); goTo(5)`);
     await browser.key('ArrowRight', 'ArrowRight');
     assert.strictEqual(await text('moment'), '6 of 11', id);
@@ -56,10 +57,75 @@ test('the keys of the page work from each control, and not in the schedule', asy
   assert.strictEqual(await text('moment'), '5 of 11');
 });
 
-test('the keys of the slider move the moment once', async () => {
+test('at the slider its own keys work, and those of the page', async () => {
   await browser.run(`document.getElementById('slider').focus(); goTo(5)`);
-  await browser.key('ArrowRight', 'ArrowRight');
-  assert.strictEqual(await text('moment'), '6 of 11');
+  for (const [key, moment] of [['ArrowUp', 6], ['ArrowRight', 7], ['ArrowDown', 6], ['Home', 0], ['End', 11]]) {
+    await browser.key(key, key);
+    assert.strictEqual(await text('moment'), `${moment} of 11`, key);
+  }
+  await browser.key('0', 'Digit0');
+  assert.strictEqual(await text('moment'), '0 of 0');
+});
+
+test('a button of the slider keeps the focus, and gives it to the other one where it cannot be pressed any more', async () => {
+  await browser.open(address(pageFile) + POSTED);
+  for (const [id, moment, next] of [['on', 9, 'on'], ['on', 10, 'back'], ['back', 2, 'back'], ['back', 1, 'on']]) {
+    await browser.run(`goTo(${moment}); document.getElementById('${id}').focus()`);
+    await browser.key('Enter', 'Enter');
+    assert.strictEqual(await focused(), next, `${id} at ${moment}`);
+  }
+});
+
+const IN_ONE_COLUMN = ['header', '.time', '.seats', '.story', '.lanes', 'details', '.text'];
+const IN_TWO_COLUMNS = ['header', '.time', '.seats', '.lanes', '.story', 'details', '.text'];
+for (const [width, wanted] of [[1000, IN_ONE_COLUMN], [1500, IN_TWO_COLUMNS]]) {
+  test(`${width} pixels: the key Tab goes down the page, column by column`, async () => {
+    await browser.open(address(pageFile), width, 900);
+    await browser.run('startTask(5)');
+    const controls = await browser.run(NUMBER_THE_CONTROLS), areas = ['header'];
+    await browser.run(`document.getElementById('${controls[0]}').focus()`);
+    for (let i = 1; i < controls.length; i++) {
+      await browser.key('Tab', 'Tab');
+      const area = await browser.run(`${JSON.stringify(wanted)}.find(area => document.activeElement.closest(area))`);
+      if (area !== areas.at(-1)) areas.push(area);
+    }
+    assert.deepStrictEqual(areas, wanted);
+    // in each column an area stands below the one before
+    await browser.run('scrollTo(0, 0)');
+    const tops = await browser.run(`${JSON.stringify(wanted)}.map(area => {
+      const { left, top } = document.querySelector(area).getBoundingClientRect();
+      return { isLeft: left < innerWidth / 2, top }; })`);
+    for (const isLeft of [true, false]) {
+      const column = tops.filter(place => place.isLeft === isLeft).map(({ top }) => top);
+      assert.deepStrictEqual(column, [...column].sort((a, b) => a - b));
+    }
+  });
+}
+
+test('no line of the trace is wider than its box', async () => {
+  await browser.open(address(pageFile));
+  await chooseTitle('Pop list beside push list');
+  await browser.key('End', 'End');
+  const { width, room } = await browser.run(`(() => { const trace = document.getElementById('trace');
+    return { width: trace.scrollWidth, room: trace.clientWidth }; })()`);
+  assert(width <= room, `${width} in ${room}`);
+});
+
+test('by keys a reader goes from one start to the next, and back', async () => {
+  await browser.open(address(pageFile));
+  await browser.run(`document.getElementById('examples').focus()`);
+  const shown = () => browser.run(`[view.path.length, view.graph.name, document.getElementById('examples').value]`);
+  for (const place of [0, 1]) {
+    await browser.key('ArrowDown', 'ArrowDown');
+    const { text: schedule } = page.schedules[place];
+    assert.deepStrictEqual(await shown(), [page.follow(page.whole, schedule).path.length, page.whole.name, String(place)]);
+  }
+  for (const place of ['0', '']) {
+    await browser.key('ArrowUp', 'ArrowUp');
+    assert.deepStrictEqual((await shown())[2], place);
+  }
+  assert.strictEqual(await focused(), 'examples');
+  assert.strictEqual(await text('moment'), '0 of 0');
 });
 
 test('by keys a reader goes from one item of a list to the next', async () => {
@@ -139,22 +205,32 @@ test('the focus stays at the seat whose button was pressed', async () => {
 });
 
 test('the key n begins the next task', async () => {
-  await browser.run(`startTask(0); ${WALK_THE_WAY}; document.activeElement.blur()`);
+  await browser.run(`startTask(0); ${MAKE_THE_WAY}; document.activeElement.blur()`);
   await browser.key('n', 'KeyN');
   assert.match(await text('story'), /Task 2/);
 });
 
-test('landmarks, names and headings for a screen reader', async () => {
+const LANDMARKS = ['banner', 'main', 'navigation', 'region', 'complementary', 'contentinfo'];
+
+// the landmarks of the page, each by its role and its name
+const landmarks = async () => (await browser.send('Accessibility.getFullAXTree')).nodes
+  .filter(({ ignored, role }) => !ignored && LANDMARKS.includes(role?.value))
+  .map(({ role, name }) => `${role.value}: ${name?.value ?? ''}`.replace(/(region: Seat \d).*/, '$1'));
+
+test('each area of the page is a landmark with a name of its own', async () => {
+  const areas = lanes => ['banner: what is shown', 'main: Which seat makes the next step?', 'navigation: moments',
+    'region: Seat 1', 'region: Seat 2', `region: ${lanes}`, 'region: what is happening now',
+    'region: The words in memory now', 'region: Schedule', 'region: What lfm replay prints for it'].sort();
+  await browser.open(address(pageFile));
+  assert.deepStrictEqual((await landmarks()).sort(), areas('tasks'));
+  await browser.open(address(pageFile) + POSTED);
+  assert.deepStrictEqual((await landmarks()).sort(), areas('what has happened: the trace says it in text'));
+});
+
+test('names and headings for a screen reader', async () => {
   await browser.open(address(pageFile) + POSTED);
   const nodes = await browser.send('Accessibility.getFullAXTree').then(({ nodes }) => nodes.filter(node => !node.ignored));
   const named = role => nodes.filter(node => node.role?.value === role).map(node => node.name?.value ?? '');
-  assert.strictEqual(named('main').length, 1);
-  assert.strictEqual(named('banner').length, 1);
-  assert.deepStrictEqual(named('navigation'), ['moments']);
-  for (const name of ['what is happening now', 'The words in memory now', 'what has happened: the trace says it in text']) {
-    assert(named('region').includes(name), name);
-  }
-  assert(named('region').some(name => name.startsWith('Seat 1 ')));
   assert(named('heading').includes('Which seat makes the next step?'));
   for (const role of ['button', 'combobox', 'slider', 'textbox']) {
     named(role).forEach(name => assert(name.trim() !== '', `a ${role} without a name`));

@@ -6,7 +6,7 @@
 //   node layout_test.js PAGE [PAGE_OF_3_SEATS]     CHROMIUM names the browser
 const assert = require('assert');
 const fs = require('fs');
-const { browser, address, text, test, chooseTitle, WALK_THE_WAY, layoutFaults, crossedRows, runInBrowser } =
+const { browser, address, text, test, chooseTitle, WALK_THE_WAY, layoutFaults, cutItems, crossedRows, runInBrowser } =
   require('./reader.js');
 const { PICTURE, readPicture, digest, drawnNow } = require('./picture.js');
 
@@ -20,6 +20,24 @@ for (const [width, height, dark] of [[1500, 900], [1500, 900, true], [1280, 800]
       await browser.open(address(pageFile) + encodeURI(moment), width, height, dark);
       assert.deepStrictEqual(await layoutFaults(), []);
       assert.deepStrictEqual(await crossedRows(), []);
+    }
+  });
+}
+
+// what a reader of each page sees: its start, a task, a wrong mutex with its fault, and a schedule of many seats
+const SIGHTS = ['startFree()', `startTask(0); ${WALK_THE_WAY}`, `startTask(tasks.length - 1); ${WALK_THE_WAY}`,
+  'startExample(examples.length - 1); goTo(view.path.length)'];
+for (const width of [1000, 1100, 1250, 1600]) {
+  test(`${width} pixels: each list has room for its items, and each button and heading for its text`, async () => {
+    for (const file of [pageFile, threeFile].filter(file => file)) {
+      await browser.open(address(file), width, 800);
+      assert.deepStrictEqual(await cutItems(), []);
+      const hasExamples = await browser.run('examples.length > 0');
+      for (const sight of SIGHTS.filter(sight => hasExamples || !sight.startsWith('startExample'))) {
+        await browser.run(sight);
+        assert.deepStrictEqual(await layoutFaults(), [], sight);
+        assert.deepStrictEqual(await crossedRows(), [], sight);
+      }
     }
   });
 }

@@ -21,8 +21,11 @@ const choose = (list, value) => browser.run(`(() => {
 })()`);
 const titles = () => browser.run('examples.map(({ title }) => title)');
 const chooseTitle = async title => choose('examples', (await titles()).findIndex(found => found.startsWith(title)));
-// walks the shortest way to the end of the present task
+// walks the shortest way to the end of the present task, as the page shows it
 const WALK_THE_WAY = 'showWay(event => isGoal(view.graph, view.task.goal, event)); goTo(view.path.length)';
+// makes the events of that way, as a reader does at the buttons of the seats
+const MAKE_THE_WAY = `wayTo(view.graph, endOf(view.path), event => isGoal(view.graph, view.task.goal, event))
+  .forEach(({ seat, act }) => choose(seat, act))`;
 
 // presses Tab until this has the focus
 async function tabTo(wanted) {
@@ -56,7 +59,7 @@ const layoutFaults = () => browser.run(`(() => {
       faults.push((a.id || a.className) + ' lies over ' + (b.id || b.className));
     }
   }));
-  for (const element of document.querySelectorAll('header, .seat, .time, #story, .legend, button, select, h2')) {
+  for (const element of document.querySelectorAll('header, .seat, .time, #story, .legend, button, select, h1, h2')) {
     if (element.scrollWidth > element.clientWidth + 1 && getComputedStyle(element).display !== 'inline') {
       faults.push('cut: ' + element.textContent.slice(0, 40));
     }
@@ -72,6 +75,14 @@ const layoutFaults = () => browser.run(`(() => {
   if (Math.abs(end - box(document.querySelector('#lanes')).right) > 1) faults.push('the seats are not as wide as the lanes');
   if (document.documentElement.scrollWidth > innerWidth) faults.push('the page is wider than the window');
   return faults; })()`);
+
+// the lists that have no room for one of their items. Beside it a list needs room for its arrow, in pixels
+const ARROW = 16;
+const cutItems = () => browser.run(`[...document.querySelectorAll('select')].flatMap(list => {
+  const { font, paddingLeft, paddingRight } = getComputedStyle(list), brush = document.createElement('canvas').getContext('2d');
+  brush.font = font;
+  const room = list.clientWidth - parseFloat(paddingLeft) - parseFloat(paddingRight) - ${ARROW};
+  return [...list.options].map(({ text }) => text).filter(text => brush.measureText(text).width > room); })`);
 
 // a row of a lane whose text runs into what stands at its right, or out of the lanes
 const crossedRows = () => browser.run(`[...document.querySelectorAll('#lanes .rows svg')].flatMap(svg => {
@@ -93,5 +104,5 @@ function runInBrowser(file) {
   }).finally(() => browser.close());
 }
 
-module.exports = { browser, address, text, test, titles, chooseTitle, WALK_THE_WAY, tabTo, words, focused, layoutFaults,
-  crossedRows, runInBrowser };
+module.exports = { browser, address, text, test, choose, titles, chooseTitle, WALK_THE_WAY, MAKE_THE_WAY, tabTo,
+  words, focused, layoutFaults, cutItems, crossedRows, runInBrowser };

@@ -2,4 +2,4 @@ use Rattle.std.proofs.Common.{rules}
 use Rattle.lfm_monitor.proofs.monitor.index_among.Goals as goal
 
 pub returns-then-condition-eq0 : goal.returns-then-condition-eq0
-returns-then-condition-eq0 g c = search rules
+returns-then-condition-eq0 c = search rules

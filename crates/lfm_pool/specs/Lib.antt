@@ -27,3 +27,5 @@ pub mod Steps
 pub mod Tables
 pub mod TryLock
 pub mod Unlock
+pub mod WakeUps
+pub mod Waking

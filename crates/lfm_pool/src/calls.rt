@@ -2,9 +2,10 @@
 //! call finds out by the owner word whether the seat holds the mutex, and by the carried word how often. A seat says itself
 //! whether it sleeps, in whichever mutex of the pool, and is then refused.
 //!
-//! A seat that sleeps finds its grant by `try_receive`. Nothing changes in other mutexes, nor in what the seat knows of them.
-//! None of these calls allocates, waits or wakes a thread.
-ghost use Rattle.std.specs.Prelude.{◌≡◌, ◌+◌, ◌^◌, ◌<◌, length};
+//! A seat that sleeps finds its grant by `try_receive`. `ask` and `unlock` wake the thread of the seat to which they grant the
+//! mutex; the other calls wake nobody. None allocates or waits: the call that waits for a grant is in `sleep`. Nothing changes in
+//! other mutexes, nor in what the seat knows of them.
+ghost use Rattle.std.specs.Prelude.{◌≡◌, ◌+◌, ◌^◌, ◌<◌, IfOk, length};
 ghost use Rattle.lfm_pool.specs.Belongs.{IsMutex, SameSeat};
 ghost use Rattle.lfm_pool.specs.AnyDepth.{AsksAtAnyDepth, IsBetweenCalls, TriesAtAnyDepth, UnlocksAtAnyDepth, sleeps_after};
 ghost use Rattle.lfm_pool.specs.Ask.{MakesBesideFailuresIn};
@@ -13,20 +14,21 @@ ghost use Rattle.lfm_pool.specs.Receive.{ReceivedIn};
 ghost use Rattle.lfm_pool.specs.Seats.{popped_of, state_of};
 ghost use Rattle.lfm_pool.specs.Moves.{MakesAtMostIn};
 ghost use Rattle.lfm_pool.specs.SeatWords.{Sleeps};
+ghost use Rattle.lfm_pool.specs.WakeUps.{WakesSeatOf};
+ghost use Rattle.lfm_pool.specs.Waking.{AsksWaking, UnlocksWaking, granted_in};
 
 use crate::ask_all::ask_without_waking as ask_first;
 use crate::deepen::{ask_again, give_up_one, try_again};
 use crate::depth::depth;
 use crate::pool::{Pool, PoolSeat};
 use crate::unlock::{Released, unlock as unlock_last};
+use crate::wake_up::{WakeUp, wake, wake_granted};
 use crate::{receive as sleeper, try_lock as free};
-use lfm_model::{Asked, How, Locked, Refusal};
+use lfm_model::{Asked, How, Locked, Refusal, Unlocked};
 use lfm_protocol::MAX_DEPTH;
-use lfm_words::Record;
 use std::marker::Brand;
 
-/// What an `unlock` has done.
-#[derive(Drop)]
+/// What an `unlock_without_waking` has done.
 pub enum Release {
     /// The seat gave up one of several holds, and still holds the mutex this many times: 1 to 65,534.
     Still(u32),
@@ -74,7 +76,7 @@ pub fn try_lock(pool: &Pool, seat: &mut PoolSeat, mutex: usize) -> Result<Locked
 /// Asks for this mutex, or deepens the hold: a `lock` without its sleep. An acquisition is charged one take. If the mutex is
 /// free, the seat acquires it; if the seat holds it, the hold is deepened; else the seat queues, as `ask_without_waking` of
 /// `ask_all` says. Returns Held, Again with the new depth, or Asleep: the seat sleeps then until a receive finds its grant. It
-/// also returns the record that it has granted, if any: the caller has to wake the thread of the seat of that record.
+/// wakes no thread, and also returns the wake-up of the seat to which it has granted the mutex, if any.
 ///
 /// Refuses, in this order: Asleep (the seat sleeps in some mutex of the pool), and DepthFull (it holds this mutex 65,535
 /// times). A seat that does not hold the mutex has to have a take left here. The call makes as many atomic steps as that of
@@ -85,7 +87,7 @@ pub fn ask_without_waking(
     pool: &Pool,
     seat: &mut PoolSeat,
     mutex: usize,
-) -> (Result<Asked, Refusal>, Option<Record>)
+) -> (Result<Asked, Refusal>, Option<WakeUp>)
     requires between { IsBetweenCalls seat.old pool.now }
     requires mutex { IsMutex mutex pool.now }
     requires charged { HasDepthIn seat.old pool.now mutex 0 → (state_of seat.old mutex).takes < pool.now.limits.budget }
@@ -93,6 +95,7 @@ pub fn ask_without_waking(
     ensures between { IsBetweenCalls seat.new pool.now }
     ensures asks { AsksAtAnyDepth result.0 result.1 seat.old seat.new pool.now mutex }
     ensures bounded { MakesBesideFailuresIn (10 + length (popped_of seat.new mutex)) seat.old seat.new mutex }
+    ensures inside { WakesSeatOf result.1 pool.now }
 {
     let asleep = seat.asleep;
     if asleep {
@@ -114,7 +117,8 @@ pub fn ask_without_waking(
 }
 
 /// Gives up one hold of this mutex. If that was the last one, the mutex is free, granted to the oldest queued seat, or posted,
-/// as `unlock` of the module of that name says. If it granted the mutex, the caller has to wake the thread of that seat.
+/// as `unlock` of the module of that name says. It wakes no thread: if it granted the mutex, it returns the wake-up of that
+/// seat.
 ///
 /// Refuses, in this order: Asleep (the seat sleeps in some mutex of the pool), and NotOwner (it does not hold this mutex). The
 /// seat has to have a number for a post left (`has_post_left`). A seat that still holds the mutex has made no atomic step of
@@ -132,6 +136,7 @@ pub fn unlock_without_waking(
     ensures between { IsBetweenCalls seat.new pool.now }
     ensures unlocks { UnlocksAtAnyDepth result seat.old seat.new pool.now mutex }
     ensures bounded { MakesAtMostIn (9 + length (popped_of seat.new mutex)) seat.old seat.new mutex }
+    ensures inside { IfOk result (λ r. WakesSeatOf (granted_in r) pool.now) }
 {
     let asleep = seat.asleep;
     if asleep {
@@ -150,6 +155,50 @@ pub fn unlock_without_waking(
     let fewer = give_up_one(pool, seat, mutex, held);
     seat.asleep = false;
     Ok(Release::Still(fewer))
+}
+
+/// `ask_without_waking`, with the same answers and refusals, which also wakes the thread of the seat to which it has granted
+/// the mutex, if any: by one system call.
+#[inline(always)]
+pub fn ask(pool: &Pool, seat: &mut PoolSeat, mutex: usize) -> Result<Asked, Refusal>
+    requires between { IsBetweenCalls seat.old pool.now }
+    requires mutex { IsMutex mutex pool.now }
+    requires charged { HasDepthIn seat.old pool.now mutex 0 → (state_of seat.old mutex).takes < pool.now.limits.budget }
+    ensures belongs { SameSeat seat.old seat.new }
+    ensures between { IsBetweenCalls seat.new pool.now }
+    ensures asks { AsksWaking result seat.old seat.new pool.now mutex }
+    ensures bounded { MakesBesideFailuresIn (10 + length (popped_of seat.new mutex)) seat.old seat.new mutex }
+{
+    let (asked, wake_up) = ask_without_waking(pool, seat, mutex);
+    wake_granted(pool, wake_up);
+    asked
+}
+
+/// `unlock_without_waking`, with the same refusals, which also wakes the thread of the seat to which it has granted the mutex,
+/// if any: by one system call. Returns Still with the depth that is left, Free, Granted with that seat, Posted, or TakenOver:
+/// the mutex was posted, and another call took it before this one could take it back.
+#[inline(always)]
+pub fn unlock(pool: &Pool, seat: &mut PoolSeat, mutex: usize) -> Result<Unlocked, Refusal>
+    requires between { IsBetweenCalls seat.old pool.now }
+    requires mutex { IsMutex mutex pool.now }
+    requires left { seat.old.posts + 1 < 2 ^ 48 }
+    ensures belongs { SameSeat seat.old seat.new }
+    ensures between { IsBetweenCalls seat.new pool.now }
+    ensures unlocks { UnlocksWaking result seat.old seat.new pool.now mutex }
+    ensures bounded { MakesAtMostIn (9 + length (popped_of seat.new mutex)) seat.old seat.new mutex }
+{
+    match unlock_without_waking(pool, seat, mutex) {
+        Err(refusal) => Err(refusal),
+        Ok(Release::Still(depth)) => Ok(Unlocked::Still(depth)),
+        Ok(Release::Last(Released::Free)) => Ok(Unlocked::Free),
+        Ok(Release::Last(Released::Granted(wake_up))) => {
+            let next = wake_up.seat();
+            wake(pool, wake_up);
+            Ok(Unlocked::Granted(next))
+        }
+        Ok(Release::Last(Released::Posted)) => Ok(Unlocked::Posted),
+        Ok(Release::Last(Released::TakenOver)) => Ok(Unlocked::TakenOver),
+    }
 }
 
 /// Loads the wake word of a seat that sleeps in this mutex, once, and acquires the mutex if it finds a grant there. Returns

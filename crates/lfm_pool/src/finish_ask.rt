@@ -7,25 +7,25 @@ ghost use Rattle.lfm_pool.specs.declared.finish_ask.Finished.{Finished as Finish
 ghost use Rattle.lfm_pool.specs.FinishAsk.{ClearsForLock, EntersByOwn, FinishesIn, IsReadyFinished, TakesOldest};
 ghost use Rattle.lfm_pool.specs.Moves.{MakesAtMostIn, MayStepIn};
 ghost use Rattle.lfm_pool.specs.Seats.{note_of, popped_of, state_of};
+ghost use Rattle.lfm_pool.specs.WakeUps.{WakesSeatOf, granted_by_finish};
 
 use crate::chain::{carried_load, carried_store, chain_load};
 use crate::collect::{clear_head, collect};
 use crate::layout::OWNER;
 use crate::pool::{Pool, PoolSeat};
-use crate::seat_words::grant;
 use crate::serve::serve_oldest;
 use crate::step::next_step;
+use crate::wake_up::{WakeUp, grant};
 use lfm_table::operations::Access;
 use lfm_words::{Record, unpack_link};
 
 /// How a `lock` that has taken a post over has ended.
-#[derive(Drop)]
 pub enum Finished {
     /// The oldest record was its own, and had this stamp. The seat holds the mutex once.
     Held(u64),
-    /// The mutex is granted to the seat of this record, the oldest one, and this seat sleeps until a receive finds its
-    /// grant. The caller has to wake the thread of the seat of the record.
-    Granted(Record),
+    /// The mutex is granted to the seat of the oldest record, whose wake-up this is. This seat sleeps until a receive finds its
+    /// grant.
+    Granted(WakeUp),
 }
 
 /// Ends a `lock` of this mutex that has taken a post over: `begin_ask` has returned Carries. If no record is popped, the
@@ -44,6 +44,7 @@ pub fn finish_ask(pool: &Pool, seat: &mut PoolSeat, mutex: usize) -> Finished
     ensures finishes { FinishesIn result seat.old seat.new pool.now mutex }
     ensures ready { IsReadyFinished result seat.new pool.now mutex }
     ensures bounded { MakesAtMostIn (3 + length (popped_of seat.new mutex)) seat.old seat.new mutex }
+    ensures inside { WakesSeatOf (granted_by_finish result) pool.now }
 {
     let oldest = carried_load(pool, seat, mutex);
     if oldest == 0 {
@@ -82,6 +83,7 @@ fn serve_pushed(pool: &Pool, seat: &mut PoolSeat, mutex: usize) -> Finished
     requires whole { note_of seat.old mutex ≡ rested (popped_of seat.old mutex) }
     ensures belongs { SameSeat seat.old seat.new }
     ensures finishes { FinishesIn result seat.old seat.new pool.now mutex }
+    ensures inside { WakesSeatOf (granted_by_finish result) pool.now }
 {
     let word = clear_head(pool, seat, mutex);
     let cleared = unpack_link(word);
@@ -94,6 +96,5 @@ fn serve_pushed(pool: &Pool, seat: &mut PoolSeat, mutex: usize) -> Finished
         next_step(pool, seat, mutex, Access::Store(OWNER, number));
         return Finished::Held(stamp);
     }
-    grant(pool, seat, mutex, Record { seat: next, stamp });
-    Finished::Granted(Record { seat: next, stamp })
+    Finished::Granted(grant(pool, seat, mutex, Record { seat: next, stamp }))
 }

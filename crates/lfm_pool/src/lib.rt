@@ -6,7 +6,11 @@
 //! a mutex and on the link and wake words of seats. Of the calls it has a `try_lock`; a `lock` without its sleep
 //! (`ask_without_waking`, and its two parts: `begin_ask`, and `finish_ask` if that has taken a post over); the receive of a
 //! seat that sleeps; and an `unlock`. These need a seat that does not hold the mutex, or, to unlock, holds it once. The module
-//! `calls` has `try_lock`, `ask` and `unlock` for a seat that holds the mutex any number of times, up to 65,535.
+//! `calls` has `try_lock`, `ask` and `unlock` for a seat that holds the mutex any number of times, up to 65,535. Its `ask` and
+//! `unlock` also wake the thread of the seat that they grant the mutex.
+//!
+//! A step that stores a grant leaves a wake-up: `wake_up` has its type. It has no `Drop`, so a path of the code that loses a
+//! wake-up does not compile.
 //!
 //! The popped records of a mutex are a chain in the link words of their seats, and its carried word names the oldest. A call
 //! that carries a mutex collects the queued records into that chain, and serves the oldest: an `unlock` does so if other
@@ -42,3 +46,4 @@ mod step;
 pub mod try_lock;
 pub mod unlock;
 pub mod view;
+pub mod wake_up;

@@ -1,18 +1,17 @@
 //! The steps of a seat in one mutex on link words and wake words. A seat stores its own link before it pushes its record. It
 //! loads its own wake word to receive a grant, and stores QUIET there once it has found one. A call that carries the
 //! responsibility loads the links of the records that it collects, and stores a grant in the wake word of the seat that it
-//! serves: those seats are queued in this mutex, so that their words are its own.
+//! serves (`grant` of the module `wake_up`): those seats are queued in this mutex, so that their words are its own.
 //!
 //! In each of these functions the seat has to rest in all other mutexes, and nothing changes in them, nor in what the seat
 //! knows of them. None allocates or waits.
-ghost use Rattle.std.specs.Prelude.{◌≡◌, ◌+◌, drop};
+ghost use Rattle.std.specs.Prelude.{◌≡◌, ◌+◌};
 ghost use Rattle.lfm_words.specs.Words.{link_word, wake_word};
 ghost use Rattle.lfm_words.specs.declared.links.Link.{Link as LinkNow};
-ghost use Rattle.lfm_words.specs.declared.wakes.Wake.TheVariants.{Quiet, Grant};
+ghost use Rattle.lfm_words.specs.declared.wakes.Wake.TheVariants.{Quiet};
 ghost use Rattle.lfm_pool.specs.Belongs.{IsMutex, OfPool, SameSeat};
-ghost use Rattle.lfm_pool.specs.SeatWords.{StoresLink, LoadsLink, Grants, Sleeps, TakesGrant};
-ghost use Rattle.lfm_pool.specs.Chain.{rested};
-ghost use Rattle.lfm_pool.specs.Seats.{note_of, popped_of, state_of, MovesIn, ReceivesIn, RestsInOthers, SitsIn};
+ghost use Rattle.lfm_pool.specs.SeatWords.{StoresLink, LoadsLink, Sleeps, TakesGrant};
+ghost use Rattle.lfm_pool.specs.Seats.{note_of, state_of, MovesIn, ReceivesIn, RestsInOthers, SitsIn};
 
 use crate::accesses::PoolAccess;
 use crate::layout::{link_at, wake_at};
@@ -20,7 +19,7 @@ use crate::pool::{Pool, PoolSeat};
 use crate::step::{first_at, next_at};
 use lfm_table::layout as lone;
 use lfm_table::operations::Access;
-use lfm_words::{Link, Record, Wake, pack_link};
+use lfm_words::{Link, Wake, pack_link};
 use std::marker::Brand;
 
 /// Stores the seat's link: the stamp of this push word, which the seat has loaded, plus 1, and its head.
@@ -59,28 +58,6 @@ pub fn link_load(pool: &Pool, seat: &mut PoolSeat, mutex: usize, target: u64) ->
     let word = lone::link_at(target);
     let access = Access::Load(word);
     next_at(pool, seat, mutex, PoolAccess { index, access })
-}
-
-/// Stores a grant in the wake word of the seat of this record, which is the oldest of the queue. It wakes no thread: the
-/// caller has to wake the one of that seat. The other popped records have to be in the chain, and the carried word has to
-/// name the oldest of them: the seat that is served finds them there.
-#[inline(always)]
-pub fn grant(pool: &Pool, seat: &mut PoolSeat, mutex: usize, oldest: Record)
-    requires belongs { OfPool seat.old pool.now }
-    requires mutex { IsMutex mutex pool.now }
-    requires sits { SitsIn seat.old pool.now mutex }
-    requires elsewhere { RestsInOthers seat.old mutex }
-    requires at { Grants oldest (state_of seat.old mutex) }
-    requires whole { note_of seat.old mutex ≡ rested (drop 1 (popped_of seat.old mutex)) }
-    ensures belongs { SameSeat seat.old seat.new }
-    ensures step { MovesIn seat.old seat.new pool.now mutex (wake_word (Grant oldest.stamp)) }
-{
-    let target = oldest.seat.get();
-    let index = wake_at(pool.mutexes, target);
-    let word = lone::wake_at(pool.limits.seats, target);
-    let wake = Wake::Grant(oldest.stamp).to_word();
-    let access = Access::Store(word, wake);
-    next_at(pool, seat, mutex, PoolAccess { index, access });
 }
 
 /// Begins a `receive` of a seat that sleeps in this mutex, and loads its wake word. Returns the word. If it is a grant, the

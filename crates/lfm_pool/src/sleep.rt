@@ -7,7 +7,7 @@
 //!
 //! The loads by which a thread polls or parks are no steps of its seat, and no proof learns anything from them. They are made
 //! only here, in calls that may wait.
-ghost use Rattle.std.specs.Prelude.{◌≡◌, ◌+◌, ◌<◌, ◌≤◌};
+ghost use Rattle.std.specs.Prelude.{◌≡◌, ◌<◌};
 ghost use Rattle.lfm_pool.specs.Belongs.{OfPool, SameSeat};
 ghost use Rattle.lfm_pool.specs.Moves.{MayStepIn};
 ghost use Rattle.lfm_pool.specs.Seats.{state_of, HoldsOnceIn};
@@ -17,7 +17,7 @@ ghost use Rattle.lfm_pool.specs.Sleep.{FindsNothingIn, WaitsForIn};
 use crate::layout::wake_at;
 use crate::pool::{Pool, PoolSeat};
 use crate::receive::try_receive;
-use lfm_model::{How, SeatNo};
+use lfm_model::How;
 use lfm_words::Wake;
 use std::hint::spin_loop;
 use std::sync::Wait;
@@ -83,13 +83,4 @@ fn park<R: Wait>(rt: &R, pool: &Pool, word: usize)
     if !Wake::is_grant_word(seen) {
         words.park(rt, word, seen as u32);
     }
-}
-
-/// Wakes the thread of this seat, to which a call has granted a mutex, if it is parked. The number is at most that of the seats
-/// of the pool. It makes one system call and no atomic step, and never waits.
-pub fn wake(pool: &Pool, seat: SeatNo)
-    requires inside { seat ≤ pool.now.limits.seats }
-{
-    let word = wake_at(pool.mutexes, seat.get());
-    pool.table.shared.wake_one(word);
 }

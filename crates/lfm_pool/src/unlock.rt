@@ -7,6 +7,7 @@ ghost use Rattle.lfm_pool.specs.Chain.{rested};
 ghost use Rattle.lfm_pool.specs.Moves.{MakesAtMostIn, MayStepIn};
 ghost use Rattle.lfm_pool.specs.Seats.{note_of, popped_of, state_of, HoldsOnceIn, RestsInOthers};
 ghost use Rattle.lfm_pool.specs.Unlock.{PostsIn, ReleasesIn, UnlocksIn};
+ghost use Rattle.lfm_pool.specs.WakeUps.{WakesSeatOf, granted_by_release, granted_by_start};
 
 use crate::fast_paths::leave;
 use crate::handoff::{handoff_exchange, handoff_store};
@@ -14,18 +15,17 @@ use crate::layout::PUSH;
 use crate::moves::go_on;
 use crate::pool::{Pool, PoolSeat};
 use crate::serve::serve;
+use crate::wake_up::WakeUp;
 use lfm_protocol::points::{Carrier, Releaser};
 use lfm_table::operations::Access;
-use lfm_words::{Record, pack_handoff, unpack_link};
+use lfm_words::{pack_handoff, unpack_link};
 
 /// What `unlock` returns.
-#[derive(Drop)]
 pub enum Released {
     /// No other seat wanted the mutex: it is free.
     Free,
-    /// The mutex is granted to the seat of this record, which was the oldest in the queue. The caller has to wake the thread
-    /// of that seat.
-    Granted(Record),
+    /// The mutex is granted to the seat of the record that was the oldest in the queue. This is the wake-up of that seat.
+    Granted(WakeUp),
     /// Another seat wants the mutex and had not pushed its record yet. The mutex is posted, for a call to take.
     Posted,
     /// The mutex was posted, and another call took it before this one could take it back.
@@ -33,12 +33,11 @@ pub enum Released {
 }
 
 /// How far an `unlock` has come.
-#[derive(Drop)]
 pub enum Unlocking {
     /// No other seat wanted the mutex: it is free. The call has ended.
     Free,
-    /// The mutex is granted to the seat of this record, the oldest one. The call has ended.
-    Granted(Record),
+    /// The mutex is granted to the seat of the oldest record, whose wake-up this is. The call has ended.
+    Granted(WakeUp),
     /// Other seats are counted, but none has pushed its record yet. The call is open, and its next step posts the mutex.
     Posts,
 }
@@ -65,10 +64,11 @@ pub fn unlock(pool: &Pool, seat: &mut PoolSeat, mutex: usize) -> Released
     ensures may { MayStepIn seat.new pool.now mutex }
     ensures releases { ReleasesIn result seat.old seat.new pool.now mutex }
     ensures bounded { MakesAtMostIn (9 + length (popped_of seat.new mutex)) seat.old seat.new mutex }
+    ensures inside { WakesSeatOf (granted_by_release result) pool.now }
 {
     match begin_unlock(pool, seat, mutex) {
         Unlocking::Free => Released::Free,
-        Unlocking::Granted(record) => Released::Granted(record),
+        Unlocking::Granted(wake_up) => Released::Granted(wake_up),
         Unlocking::Posts => post(pool, seat, mutex),
     }
 }
@@ -89,16 +89,17 @@ pub(crate) fn begin_unlock(pool: &Pool, seat: &mut PoolSeat, mutex: usize) -> Un
     ensures may { MayStepIn seat.new pool.now mutex }
     ensures unlocks { UnlocksIn result seat.old seat.new pool.now mutex }
     ensures bounded { MakesAtMostIn (5 + length (popped_of seat.new mutex)) seat.old seat.new mutex }
+    ensures inside { WakesSeatOf (granted_by_start result) pool.now }
 {
     let count = leave(pool, seat, mutex);
     if count == 1 {
         return Unlocking::Free;
     }
     let carrier = Carrier::Releaser(Releaser::Unlocker);
-    let Some(record) = serve(pool, seat, mutex, carrier) else {
+    let Some(wake_up) = serve(pool, seat, mutex, carrier) else {
         return Unlocking::Posts;
     };
-    Unlocking::Granted(record)
+    Unlocking::Granted(wake_up)
 }
 
 /// Ends an `unlock` that has found no seat in the queue: posts the mutex, and looks at the push word. If that has no record,
@@ -112,6 +113,7 @@ fn post(pool: &Pool, seat: &mut PoolSeat, mutex: usize) -> Released
     ensures belongs { SameSeat seat.old seat.new }
     ensures may { MayStepIn seat.new pool.now mutex }
     ensures posts { PostsIn result seat.old seat.new pool.now mutex }
+    ensures inside { WakesSeatOf (granted_by_release result) pool.now }
 {
     handoff_store(pool, seat, mutex);
     let word = go_on(pool, seat, mutex, Access::Load(PUSH));

@@ -16,9 +16,9 @@ returns-in-Held-finish_ask-clause-bounded c =
 pub returns-in-Granted-clause-asks : goal.returns-in-Granted-clause-asks
 returns-in-Granted-clause-asks c =
     let s = c.args.seat.now in let p = c.args.pool.now in let m = c.args.mutex in let r = c.requires in let f = c.in-Carries.ensures in let h = c.in-Granted in
-    takes_all s c.begin_ask.new.seat c.finish_ask.new.seat p m (may_try s p m r.belongs r.mutex r.may r.elsewhere) f.belongs f.asks (Finished.Granted h.record) h.ensures.finishes
+    takes_all s c.begin_ask.new.seat c.finish_ask.new.seat p m (may_try s p m r.belongs r.mutex r.may r.elsewhere) f.belongs f.asks (Finished.Granted h.wake_up) h.ensures.finishes
 
 pub returns-in-Granted-clause-bounded : goal.returns-in-Granted-clause-bounded
 returns-in-Granted-clause-bounded c =
     let s = c.args.seat.now in let p = c.args.pool.now in let m = c.args.mutex in let r = c.requires in let f = c.in-Carries.ensures in let h = c.in-Granted in let may = may_try s p m r.belongs r.mutex r.may r.elsewhere in
-    all_bounded s c.finish_ask.new.seat p m may (Finished.Granted h.record) (takes_all s c.begin_ask.new.seat c.finish_ask.new.seat p m may f.belongs f.asks (Finished.Granted h.record) h.ensures.finishes)
+    all_bounded s c.finish_ask.new.seat p m may (Finished.Granted h.wake_up) (takes_all s c.begin_ask.new.seat c.finish_ask.new.seat p m may f.belongs f.asks (Finished.Granted h.wake_up) h.ensures.finishes)

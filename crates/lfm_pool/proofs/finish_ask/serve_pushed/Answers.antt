@@ -1,6 +1,9 @@
-use Rattle.std.proofs.Common.{refl, ap, sym, ◌∙◌}
+use Rattle.std.proofs.Common.{refl, ap, sym, ◌∙◌, subst}
 use Rattle.lfm_words.specs.declared.links.Link.{Link}
 use Rattle.lfm_protocol.specs.declared.points.Carrier.{Carrier}
+use Rattle.lfm_words.specs.declared.pop_lists.Record.{Record}
+use Rattle.lfm_pool.specs.declared.finish_ask.Finished.{Finished}
+use Rattle.lfm_pool.specs.FinishAsk.{FinishesIn}
 use Rattle.lfm_pool.specs.Seats.{state_of}
 use Rattle.lfm_pool.proofs.Finishing.{cleared_loads, cleared_none, cleared_whole, finished_other, finished_own, may_cleared, may_collected, other_grants, own_access, own_keeps, same_all, whole_left}
 use Rattle.lfm_pool.proofs.SeatWords.{same_after}
@@ -71,4 +74,4 @@ pub returns-clause-belongs : goal.returns-clause-belongs
 returns-clause-belongs c = let s = c.args.seat.now in let p = c.args.pool.now in let m = c.args.mutex in let r = c.requires in let f = c.clear_head-word in let l = c.unpack_link-cleared in let is = ap (λ (x : Link). x.next) l.ensures.holds in let k = c.collect-record in same_then s k.new.seat c.grant.new.seat (same_all s p m r.may r.clears r.none r.whole f.new.seat f.result f.ensures.belongs f.ensures.step l.result.next is k.new.seat k.result k.ensures.belongs k.ensures.collects) c.grant.ensures.belongs
 
 pub returns-clause-finishes : goal.returns-clause-finishes
-returns-clause-finishes c = let s = c.args.seat.now in let p = c.args.pool.now in let m = c.args.mutex in let r = c.requires in let f = c.clear_head-word in let l = c.unpack_link-cleared in let is = ap (λ (x : Link). x.next) l.ensures.holds in let k = c.collect-record in finished_other s p m r.may r.clears r.none r.whole f.new.seat f.result f.ensures.belongs f.ensures.step l.result.next is k.new.seat k.result k.ensures.belongs k.ensures.collects (λ e. c.if-own-number.false (c.get-own.ensures.value ∙ e ∙ sym (same_all s p m r.may r.clears r.none r.whole f.new.seat f.result f.ensures.belongs f.ensures.step l.result.next is k.new.seat k.result k.ensures.belongs k.ensures.collects).number)) c.grant.new.seat c.grant.ensures.step
+returns-clause-finishes c = let s = c.args.seat.now in let p = c.args.pool.now in let m = c.args.mutex in let r = c.requires in let f = c.clear_head-word in let l = c.unpack_link-cleared in let is = ap (λ (x : Link). x.next) l.ensures.holds in let k = c.collect-record in subst (λ (x : Record). FinishesIn (Finished.Granted x) s c.grant.new.seat p m) (sym c.grant.ensures.owes) (finished_other s p m r.may r.clears r.none r.whole f.new.seat f.result f.ensures.belongs f.ensures.step l.result.next is k.new.seat k.result k.ensures.belongs k.ensures.collects (λ e. c.if-own-number.false (c.get-own.ensures.value ∙ e ∙ sym (same_all s p m r.may r.clears r.none r.whole f.new.seat f.result f.ensures.belongs f.ensures.step l.result.next is k.new.seat k.result k.ensures.belongs k.ensures.collects).number)) c.grant.new.seat c.grant.ensures.step)

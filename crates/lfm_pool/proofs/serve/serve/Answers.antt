@@ -1,5 +1,7 @@
-use Rattle.std.proofs.Common.{ap, sym, ◌∙◌}
+use Rattle.std.proofs.Common.{ap, sym, ◌∙◌, subst}
+use Rattle.lfm_words.specs.declared.pop_lists.Record.{Record}
 use Rattle.lfm_pool.specs.Belongs.{OfPool}
+use Rattle.lfm_pool.specs.Releasing.{GrantsNextIn}
 use Rattle.lfm_pool.specs.Tables.{note}
 use Rattle.lfm_pool.proofs.Unlocking.{cleared_elsewhere, cleared_loads, cleared_none, cleared_sits, cleared_whole, clears, collected_elsewhere, collected_grants, collected_rest, collected_sits, found_none, granted_collected, granted_popped, grants_from, none_from, none_popped, rests_too, serves_popped, serving_carries, serving_oldest, serving_too, sits_too, whole_too}
 use Rattle.lfm_pool.proofs.serve.serve.Goals as goal
@@ -217,4 +219,5 @@ returns-clause-grants c =
     let w = c.clear_head-word in
     let u = c.unpack_link-cleared in let head_is = ap (λ x. x.next) u.ensures.holds in
     let k = c.collect-record in
-    grants_from p s t m l.ensures.belongs l.ensures.knows c.args.carrier c.grant.new.seat k.result (granted_collected p t m c.args.carrier c.requires.unlocks sits at whole c.requires.mutex belongs zero w.new.seat w.result w.ensures.belongs w.ensures.step u.result.next head_is c.if-head-eq0.false k.new.seat k.result k.ensures.belongs k.ensures.collects c.grant.new.seat c.grant.ensures.step)
+    subst (λ (r : Record). GrantsNextIn c.args.carrier s c.grant.new.seat p m r) (sym c.grant.ensures.owes)
+    (grants_from p s t m l.ensures.belongs l.ensures.knows c.args.carrier c.grant.new.seat k.result (granted_collected p t m c.args.carrier c.requires.unlocks sits at whole c.requires.mutex belongs zero w.new.seat w.result w.ensures.belongs w.ensures.step u.result.next head_is c.if-head-eq0.false k.new.seat k.result k.ensures.belongs k.ensures.collects c.grant.new.seat c.grant.ensures.step))

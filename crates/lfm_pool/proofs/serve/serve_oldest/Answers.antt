@@ -1,10 +1,13 @@
-use Rattle.std.proofs.Common.{ℕ, ◌∷◌, sym, ap, ◌∙◌, arith}
+use Rattle.std.proofs.Common.{ℕ, ◌∷◌, sym, ap, ◌∙◌, subst, arith}
 use Rattle.atomic_table.specs.Table.{Me}
 use Rattle.lfm_laws.specs.table.Carried.{carries_value}
 use Rattle.lfm_pool.specs.declared.view.Note.{Note}
 use Rattle.lfm_pool.specs.declared.view.PoolView.{PoolView}
 use Rattle.lfm_words.specs.declared.links.Link.{Link}
+use Rattle.lfm_words.specs.declared.pop_lists.Record.{Record}
 use Rattle.lfm_pool.specs.Chain.{first_seat}
+use Rattle.lfm_pool.specs.Seats.{popped_of}
+use Rattle.lfm_pool.specs.Serving.{GrantsIn, IsOldest}
 use Rattle.lfm_pool.specs.Tables.{part}
 use Rattle.lfm_pool.proofs.ServingRecords.{granted, served_elsewhere, served_grants, served_sits, served_whole, serves_carries, serves_link, serves_seat}
 use Rattle.lfm_pool.proofs.serve.serve_oldest.Goals as goal
@@ -72,7 +75,7 @@ returns-clause-belongs c =
 pub returns-clause-oldest : goal.returns-clause-oldest
 returns-clause-oldest c =
     let l = c.chain_load-word in let u = c.unpack_link-link in
-    let link = serves_link c.args.pool.now c.args.seat.now c.args.mutex c.requires.sits c.requires.at u.result l.result u.ensures.packs u.ensures.next l.ensures.finds l.ensures.within in (
+    let link = serves_link c.args.pool.now c.args.seat.now c.args.mutex c.requires.sits c.requires.at u.result l.result u.ensures.packs u.ensures.next l.ensures.finds l.ensures.within in subst (λ (r : Record). IsOldest r (popped_of c.args.seat.now c.args.mutex)) (sym c.grant.ensures.owes) (
       c.requires.at.3.0,
       c.requires.at.3.1 ∙ (λ i. record { seat = (sym (c.known-number.ensures ∙ c.requires.oldest ∙ ap first_seat c.requires.at.3.1)) i; stamp = (sym link i).stamp } ∷ c.requires.at.3.0),
     )
@@ -80,5 +83,6 @@ returns-clause-oldest c =
 pub returns-clause-grants : goal.returns-clause-grants
 returns-clause-grants c =
     let l = c.chain_load-word in let w = c.carried_store in
-    granted c.args.pool.now c.args.seat.now c.args.mutex c.requires.sits c.requires.at c.requires.mutex c.requires.belongs l.new.seat w.new.seat l.ensures.knows l.ensures.belongs w.ensures.belongs c.unpack_link-link.result.next w.ensures.notes
-    c.grant.new.seat (record { seat = c.known-number.result; stamp = c.unpack_link-link.result.stamp }) c.grant.ensures.step
+    subst (λ (r : Record). GrantsIn c.args.seat.now c.grant.new.seat c.args.pool.now c.args.mutex r) (sym c.grant.ensures.owes)
+    (granted c.args.pool.now c.args.seat.now c.args.mutex c.requires.sits c.requires.at c.requires.mutex c.requires.belongs l.new.seat w.new.seat l.ensures.knows l.ensures.belongs w.ensures.belongs c.unpack_link-link.result.next w.ensures.notes
+    c.grant.new.seat (record { seat = c.known-number.result; stamp = c.unpack_link-link.result.stamp }) c.grant.ensures.step)

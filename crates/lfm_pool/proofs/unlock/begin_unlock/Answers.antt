@@ -58,15 +58,15 @@ returns-in_default-clause-bounded c =
 pub returns-clause-unlocks : goal.returns-clause-unlocks
 returns-clause-unlocks c =
     let r = c.requires in let s = c.args.seat.now in let p = c.args.pool.now in let m = c.args.mutex in let f = c.leave-count in
-    hands s f.new.seat p m f.result (may_release s p m r.belongs r.mutex r.holds r.elsewhere) f.ensures.belongs (f.ensures.serves c.if-count-eq1.false) c.if-count-eq1.false c.serve.new.seat c.in-Some.record c.in-Some.ensures.grants
+    hands s f.new.seat p m f.result (may_release s p m r.belongs r.mutex r.holds r.elsewhere) f.ensures.belongs (f.ensures.serves c.if-count-eq1.false) c.if-count-eq1.false c.serve.new.seat c.in-Some.wake_up c.in-Some.ensures.grants
 
 pub returns-clause-may : goal.returns-clause-may
 returns-clause-may c =
     let r = c.requires in let s = c.args.seat.now in let p = c.args.pool.now in let m = c.args.mutex in
-    may_unlocked s c.serve.new.seat p m (may_release s p m r.belongs r.mutex r.holds r.elsewhere) (same_then s c.leave-count.new.seat c.serve.new.seat c.leave-count.ensures.belongs c.serve.ensures.belongs) (Unlocking.Granted c.in-Some.record)
+    may_unlocked s c.serve.new.seat p m (may_release s p m r.belongs r.mutex r.holds r.elsewhere) (same_then s c.leave-count.new.seat c.serve.new.seat c.leave-count.ensures.belongs c.serve.ensures.belongs) (Unlocking.Granted c.in-Some.wake_up)
     (returns-clause-unlocks c)
 
 pub returns-clause-bounded : goal.returns-clause-bounded
 returns-clause-bounded c =
     let r = c.requires in let s = c.args.seat.now in let p = c.args.pool.now in let m = c.args.mutex in
-    unlock_bounded s c.serve.new.seat p m (may_release s p m r.belongs r.mutex r.holds r.elsewhere) (Unlocking.Granted c.in-Some.record) (returns-clause-unlocks c)
+    unlock_bounded s c.serve.new.seat p m (may_release s p m r.belongs r.mutex r.holds r.elsewhere) (Unlocking.Granted c.in-Some.wake_up) (returns-clause-unlocks c)

@@ -4,7 +4,7 @@ use Rattle.lfm_pool.proofs.SeatWords.{grants, small_grant, target_of_grant, same
 use Rattle.lfm_pool.proofs.Keeping.{keeps_by_grant}
 use Rattle.lfm_pool.specs.Seats.{note_of}
 use Rattle.lfm_pool.specs.Tables.{part}
-use Rattle.lfm_pool.proofs.seat_words.grant.Goals as goal
+use Rattle.lfm_pool.proofs.wake_up.grant.Goals as goal
 
 pub wake_at-index-requires-clause-many : goal.wake_at-index-requires-clause-many
 wake_at-index-requires-clause-many c = c.args.pool.now.few.1

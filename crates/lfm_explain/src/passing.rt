@@ -1,10 +1,12 @@
 //! The states that a schedule passes, printed as a graph in which each state but the last has one event, which leads to the next.
-ghost use Rattle.std.specs.Prelude.{◌≡◌, true, Ok, IfOk, IfSome};
+ghost use Rattle.std.specs.Prelude.{◌≡◌, true, Ok, IfOk, IfSome, OnOk};
 ghost use Rattle.lfm_core.specs.text.Grammar.{plan_of};
 ghost use Rattle.lfm_core.specs.text.Lines.{steps, line_moved};
 ghost use Rattle.lfm_core.specs.text.Trace.{none_refused, opening, verdict_of};
 ghost use Rattle.lfm_protocol.specs.Limits.{are_in_limits};
+ghost use Rattle.lfm_shown.specs.Printed.{PrintsState};
 ghost use Rattle.lfm_shown.specs.Successors.{happens};
+ghost use Rattle.lfm_explain.specs.Paths.{PrintsMove, number_after};
 ghost use Rattle.lfm_explain.specs.Verdicts.{SaysVerdict};
 
 use lfm_core::text::schedule_from;
@@ -26,7 +28,10 @@ struct Path {
 
 impl Path {
     /// Prints a state, which gets the next number.
-    fn print_state<W: Write>(&mut self, writer: &mut W, state: &State) -> Result<(), GraphFault> {
+    fn print_state<W: Write>(&mut self, writer: &mut W, state: &State) -> Result<(), GraphFault>
+        ensures printed { OnOk result (PrintsState (W.contents writer.old) (W.contents writer.new) self.old.texts self.new.texts state.now) }
+        ensures number { OnOk result (self.new.states ≡ number_after self.old.states) }
+    {
         self.texts.print_state(writer, state)?;
         self.states = self.states.saturating_add(1);
         Ok(())
@@ -41,6 +46,10 @@ impl Path {
     ) -> Result<Turn, GraphFault>
         ensures core { state.new ≡ (happens state.old event).core }
         ensures turn { IfOk result (λ turn. turn ≡ (happens state.old event).turn) }
+        // Exactly the lines of this event and of the state that it leads to are appended, with the texts that are new.
+        ensures printed { OnOk result (PrintsMove (W.contents writer.old) (W.contents writer.new) self.old.texts self.new.texts
+            self.old.states state.old event) }
+        ensures number { OnOk result (self.new.states ≡ number_after self.old.states) }
     {
         let made = event.make(state);
         self.texts.print_event(writer, &made, self.states)?;

@@ -1,2 +1,4 @@
 pub mod Named
+pub mod PrintedTexts
+pub mod SeatTexts
 pub mod StateLines

@@ -1,5 +1,5 @@
 -- The lines of a printed graph.
-use Rattle.std.specs.Prelude.{ℕ, zero, suc, ◌≡◌, ◌++◌, List, [], ◌∷◌, Some, codes, decimal, length, map, slice_get}
+use Rattle.std.specs.Prelude.{ℕ, zero, suc, ◌≡◌, ◌+◌, ◌++◌, List, [], ◌∷◌, Some, codes, decimal, length, map, slice_get}
 use Rattle.lfm_core.specs.text.Trace.{state_text}
 use Rattle.lfm_protocol.specs.Core.{Core}
 use Rattle.lfm_protocol.specs.declared.answers.Call.{Call}
@@ -13,6 +13,16 @@ use Rattle.lfm_text.specs.Writing.{joined}
 abbrev pub header_text : ℕ → ℕ → List ℕ
 header_text seats budget = joined (codes "graph " ∷ decimal seats ∷ codes " " ∷ decimal budget ∷ codes "\n" ∷ [])
 
+-- ---- texts
+
+abbrev pub text_line : List ℕ → List ℕ
+text_line text = joined (codes "+" ∷ text ∷ codes "\n" ∷ [])
+
+-- a line for each text
+abbrev pub text_lines : List (List ℕ) → List ℕ
+text_lines [] = []
+text_lines (text ∷ texts) = text_line text ++ text_lines texts
+
 -- ---- states
 
 -- the texts of the first n seats
@@ -23,6 +33,19 @@ texts_of_seats c (suc n) = texts_of_seats c n ++ seat_text c (suc n) ∷ []
 -- what a trace shows, the push word, and each seat
 abbrev pub texts_of_state : Core → List (List ℕ)
 texts_of_state c = state_text c ∷ link_text c.push ∷ texts_of_seats c (length c.seats)
+
+-- the text of a seat, after a bar
+abbrev pub barred_text : Core → ℕ → List ℕ
+barred_text c s = joined (codes "|" ∷ seat_text c s ∷ [])
+
+-- n seats, the first of which has the number s + 1
+abbrev pub seats_text : Core → ℕ → ℕ → List ℕ
+seats_text c s zero = []
+seats_text c s (suc n) = barred_text c (s + 1) ++ seats_text c (s + 1) n
+
+-- all texts of a state, with bars between them
+abbrev pub key_text : Core → List ℕ
+key_text c = joined (state_text c ∷ codes "|" ∷ link_text c.push ∷ seats_text c 0 (length c.seats) ∷ [])
 
 -- these numbers are those of these texts, in their order, among all texts
 abbrev pub Name : List (List ℕ) → List ℕ → List (List ℕ) → Type 0

@@ -1,8 +1,10 @@
 pub mod Cases
+pub mod EventTexts
 pub mod Faults
 pub mod Graphs
 pub mod Names
 pub mod Plain
+pub mod Printed
 pub mod Successors
 pub mod Texts
 pub mod Values

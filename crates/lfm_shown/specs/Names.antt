@@ -1,4 +1,4 @@
--- The names of calls, operations and steps, in ASCII.
+-- The names of calls, operations, cases and steps, in ASCII.
 use Rattle.std.specs.Prelude.{ℕ, List, [], codes}
 use Rattle.lfm_protocol.specs.declared.answers.Call.{Call}
 use Rattle.lfm_protocol.specs.declared.answers.Call.TheVariants.{Lock, TryLock, Unlock, StartWait, SendLock, Receive}
@@ -10,6 +10,7 @@ use Rattle.lfm_protocol.specs.declared.points.Point.TheVariants.{Rest, Asleep, L
 use Rattle.lfm_protocol.specs.declared.points.Pusher.{Pusher}
 use Rattle.lfm_protocol.specs.declared.points.Releaser.{Releaser}
 use Rattle.lfm_protocol.specs.declared.points.Releaser.TheVariants.{Unlocker, Waiter}
+use Rattle.lfm_shown.specs.declared.cases.Case.{Case}
 
 -- as in a schedule
 abbrev pub call_name : Call → List ℕ
@@ -37,6 +38,18 @@ kind_name Kind.PushExchange = codes "exchange"
 kind_name Kind.HandoffExchange = codes "exchange"
 kind_name Kind.WakeExchange = codes "exchange"
 kind_name Kind.ClearHead = codes "clear-head"
+
+abbrev pub case_name : Case → List ℕ
+case_name Case.Ask = codes "ask"
+case_name Case.Queue = codes "queue"
+case_name Case.Serve = codes "serve"
+case_name Case.Post = codes "post"
+case_name Case.Take = codes "take"
+case_name Case.Accept = codes "accept"
+case_name Case.TakeUp = codes "take_up"
+case_name Case.Enter = codes "enter"
+case_name Case.Release = codes "release"
+case_name Case.Leave = codes "leave"
 
 -- the first name for a `lock`, the second for a `send_lock`
 abbrev pub of_pusher : Pusher → List ℕ → List ℕ → List ℕ

@@ -2,6 +2,7 @@
 ghost use Rattle.std.specs.Prelude.{◌≡◌, Some, None, if◌then◌else◌};
 ghost use Rattle.lfm_laws.specs.laws.Events.{asks_at, enters_by, case_of_step};
 ghost use Rattle.lfm_shown.specs.Cases.{abstract_case};
+ghost use Rattle.lfm_shown.specs.Names.{case_name};
 ghost use Rattle.lfm_protocol.specs.Seats.{seat};
 
 use lfm_core::State;
@@ -36,7 +37,9 @@ pub enum Case {
 
 impl Case {
     /// The name of the case.
-    pub fn name(self) -> &'static str {
+    pub fn name(self) -> &'static str
+        ensures { result.now ≡ case_name self }
+    {
         match self {
             Case::Ask => "ask",
             Case::Queue => "queue",

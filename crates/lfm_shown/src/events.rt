@@ -1,14 +1,21 @@
 //! The lines of starts of calls and of steps. Each is made on the state first and then written, so that a line shows what
 //! was done.
-ghost use Rattle.std.specs.Prelude.{◌≡◌, Some, None, IfSome, IfNone};
+#![tactic(auto, using(lfm_text::proofs::Writes::writings))]
+
+ghost use Rattle.std.specs.Prelude.{◌≡◌, ◌&&◌, [], ◌∷◌, codes, Some, None, IfSome, IfNone};
 ghost use Rattle.lfm_protocol.specs.Place.{place_of};
 ghost use Rattle.lfm_protocol.specs.Points.{kind, target, word};
 ghost use Rattle.lfm_protocol.specs.Seats.{seat};
 ghost use Rattle.lfm_protocol.specs.Step.{begin, step};
 ghost use Rattle.lfm_laws.specs.laws.Events.{case_of_step};
+ghost use Rattle.lfm_core.specs.text.Trace.{answer_text, place_text, why_text};
 ghost use Rattle.lfm_shown.specs.Cases.{abstract_case};
-ghost use Rattle.lfm_shown.specs.Values.{word_value};
+ghost use Rattle.lfm_shown.specs.EventTexts.{change_text, changes_text, started_text, start_text, same_value, writes_word, exchanges, written_text, operation_made, moves_place, moved_text, case_text, effect_text, step_text};
+ghost use Rattle.lfm_shown.specs.Names.{kind_name};
 ghost use Rattle.lfm_shown.specs.Plain.{plain_of};
+ghost use Rattle.lfm_shown.specs.Texts.{value_text};
+ghost use Rattle.lfm_shown.specs.Values.{word_value};
+ghost use Rattle.lfm_text.specs.Writing.{Writes, joined};
 
 use crate::cases::{Case, next_case};
 use crate::step_names::{call_name, kind_name, step_name};
@@ -16,7 +23,7 @@ use crate::values::{Value, value_of, write_value, write_word};
 use lfm_core::kinds::{Kind, Word};
 use lfm_core::points::Point;
 use lfm_core::text::trace::{write_answer, write_place, write_why};
-use lfm_core::{Call, State, Turn};
+use lfm_core::{Answer, Call, State, Turn, Why};
 use lfm_model::Place;
 use lfm_text::{WriteFault, write_number, write_text};
 use std::io::Write;
@@ -79,21 +86,43 @@ impl ShownStart {
     }
 
     /// Writes the call, what its checks answered, and what was charged.
-    pub fn write<W: Write>(&self, writer: &mut W) -> Result<(), WriteFault> {
+    pub fn write<W: Write>(&self, writer: &mut W) -> Result<(), WriteFault>
+        ensures { Writes (W.contents writer.old) (W.contents writer.new) (start_text self.now) result }
+    {
         write_text(writer, call_name(self.call).as_bytes())?;
-        match self.turn {
-            Turn::Open => write_text(writer, b": begins")?,
-            Turn::Ended(answer) => {
-                write_text(writer, b": ends ")?;
-                write_answer(writer, answer)?;
-            }
-            Turn::Refused(why) => {
-                write_text(writer, b": refused ")?;
-                write_why(writer, why)?;
-            }
-        }
-        write_changes(writer, self.before, self.after)
+        write_started(writer, self.turn)?;
+        write_changes(writer, self.before, self.after)?;
+        Ok(())
     }
+}
+
+/// Writes what the checks of a call answered.
+fn write_started<W: Write>(writer: &mut W, turn: Turn) -> Result<(), WriteFault>
+    ensures { Writes (W.contents writer.old) (W.contents writer.new) (started_text turn) result }
+{
+    match turn {
+        Turn::Open => write_text(writer, b": begins"),
+        Turn::Ended(answer) => write_ended(writer, answer),
+        Turn::Refused(why) => write_refused(writer, why),
+    }
+}
+
+/// Writes the answer of a call that ended at its start.
+fn write_ended<W: Write>(writer: &mut W, answer: Answer) -> Result<(), WriteFault>
+    ensures { Writes (W.contents writer.old) (W.contents writer.new) (joined (codes ": ends " ∷ answer_text answer ∷ [])) result }
+{
+    write_text(writer, b": ends ")?;
+    write_answer(writer, answer)?;
+    Ok(())
+}
+
+/// Writes why a call was refused at its start.
+fn write_refused<W: Write>(writer: &mut W, why: Why) -> Result<(), WriteFault>
+    ensures { Writes (W.contents writer.old) (W.contents writer.new) (joined (codes ": refused " ∷ why_text why ∷ [])) result }
+{
+    write_text(writer, b": refused ")?;
+    write_why(writer, why)?;
+    Ok(())
 }
 
 /// What is known of a step before it is made.
@@ -137,7 +166,9 @@ impl Coming {
     }
 
     /// Whether the step can change its word.
-    fn writes(&self) -> bool {
+    fn writes(&self) -> bool
+        ensures { result ≡ writes_word self.now.kind }
+    {
         !matches!(
             self.kind,
             Kind::OwnerLoad | Kind::PushLoad | Kind::LinkLoad | Kind::HandoffLoad | Kind::WakeLoad
@@ -145,7 +176,9 @@ impl Coming {
     }
 
     /// Whether the step is an exchange. One that succeeds changes its word.
-    fn exchanges(&self) -> bool {
+    fn exchanges(&self) -> bool
+        ensures { result ≡ exchanges self.now.kind }
+    {
         matches!(
             self.kind,
             Kind::CountExchange | Kind::PushExchange | Kind::HandoffExchange | Kind::WakeExchange
@@ -153,12 +186,21 @@ impl Coming {
     }
 
     /// Whether this case moves the responsibility. It stays where it is if a record is queued or a further seat asks.
-    fn moves(&self, case: Case) -> bool {
+    fn moves(&self, case: Case) -> bool
+        ensures { result ≡ moves_place self.now.found case }
+    {
         match case {
             Case::Queue => false,
-            Case::Ask => self.found == Value::Number(0),
+            Case::Ask => same_value(self.found, Value::Number(0)),
             _ => true,
         }
+    }
+
+    /// Whether the step is an exchange that failed, if its word holds this afterwards.
+    fn fails(&self, holds: Value) -> bool
+        ensures { result ≡ (exchanges self.now.kind && same_value self.now.found holds) }
+    {
+        self.exchanges() && same_value(self.found, holds)
     }
 }
 
@@ -213,16 +255,33 @@ impl ShownStep {
 
     /// Writes the step: its name, its word, what was found there and what was written, where the responsibility went, and
     /// what changed of the seat's plain data.
-    pub fn write<W: Write>(&self, writer: &mut W) -> Result<(), WriteFault> {
-        let coming = &self.coming;
-        write_text(writer, step_name(coming.point).as_bytes())?;
+    pub fn write<W: Write>(&self, writer: &mut W) -> Result<(), WriteFault>
+        ensures { Writes (W.contents writer.old) (W.contents writer.new) (step_text self.now) result }
+    {
+        write_text(writer, step_name(self.coming.point).as_bytes())?;
         write_text(writer, b": ")?;
-        write_word(writer, coming.word)?;
+        write_word(writer, self.coming.word)?;
         write_text(writer, b" ")?;
-        write_operation(writer, coming, self.holds)?;
-        write_case(writer, coming, self.place)?;
-        write_changes(writer, self.before, self.after)
+        self.write_effect(writer)?;
+        Ok(())
     }
+
+    /// Writes the operation with its values, where the responsibility went, and what changed of the seat's plain data.
+    fn write_effect<W: Write>(&self, writer: &mut W) -> Result<(), WriteFault>
+        ensures { Writes (W.contents writer.old) (W.contents writer.new) (effect_text self.now) result }
+    {
+        write_operation(writer, &self.coming, self.holds)?;
+        write_case(writer, &self.coming, self.place)?;
+        write_changes(writer, self.before, self.after)?;
+        Ok(())
+    }
+}
+
+/// Whether two values are the same.
+fn same_value(a: Value, b: Value) -> bool
+    ensures { result ≡ same_value a b }
+{
+    a == b
 }
 
 /// Writes the operation, what it found, and what the word holds afterwards.
@@ -230,40 +289,85 @@ fn write_operation<W: Write>(
     writer: &mut W,
     coming: &Coming,
     holds: Value,
-) -> Result<(), WriteFault> {
-    let fails = coming.exchanges() && coming.found == holds;
-    write_text(writer, kind_name(coming.kind).as_bytes())?;
-    if fails {
-        write_text(writer, b" fails")?;
+) -> Result<(), WriteFault>
+    ensures { Writes (W.contents writer.old) (W.contents writer.new)
+        (operation_made coming.now.kind coming.now.found holds) result }
+{
+    if coming.fails(holds) {
+        write_failed(writer, coming)
+    } else {
+        write_done(writer, coming, holds)
     }
+}
+
+/// Writes an exchange that failed, and what it found.
+fn write_failed<W: Write>(writer: &mut W, coming: &Coming) -> Result<(), WriteFault>
+    ensures { Writes (W.contents writer.old) (W.contents writer.new)
+        (joined (kind_name coming.now.kind ∷ codes " fails " ∷ value_text coming.now.found ∷ [])) result }
+{
+    write_text(writer, kind_name(coming.kind).as_bytes())?;
+    write_text(writer, b" fails ")?;
+    write_value(writer, coming.found)?;
+    Ok(())
+}
+
+/// Writes an operation that did not fail, what it found, and what the word holds afterwards.
+fn write_done<W: Write>(writer: &mut W, coming: &Coming, holds: Value) -> Result<(), WriteFault>
+    ensures { Writes (W.contents writer.old) (W.contents writer.new)
+        (joined (kind_name coming.now.kind ∷ codes " " ∷ value_text coming.now.found ∷ written_text coming.now.kind holds ∷ [])) result }
+{
+    write_text(writer, kind_name(coming.kind).as_bytes())?;
     write_text(writer, b" ")?;
     write_value(writer, coming.found)?;
-    if coming.writes() && !fails {
-        write_text(writer, b" -> ")?;
-        write_value(writer, holds)?;
+    write_written(writer, coming, holds)?;
+    Ok(())
+}
+
+/// Writes what the word holds after a step that can change it. Nothing is written for a load.
+fn write_written<W: Write>(writer: &mut W, coming: &Coming, holds: Value) -> Result<(), WriteFault>
+    ensures { Writes (W.contents writer.old) (W.contents writer.new) (written_text coming.now.kind holds) result }
+{
+    if !coming.writes() {
+        return write_text(writer, b"");
     }
+    write_text(writer, b" -> ")?;
+    write_value(writer, holds)?;
     Ok(())
 }
 
 /// Writes the abstract case, and the new place of the responsibility if it moved.
-fn write_case<W: Write>(writer: &mut W, coming: &Coming, place: Place) -> Result<(), WriteFault> {
+fn write_case<W: Write>(writer: &mut W, coming: &Coming, place: Place) -> Result<(), WriteFault>
+    ensures { Writes (W.contents writer.old) (W.contents writer.new) (case_text coming.now.found coming.now.case place) result }
+{
     let Some(case) = coming.case else {
-        return Ok(());
+        return write_text(writer, b"");
     };
     write_text(writer, b", ")?;
     write_text(writer, case.name().as_bytes())?;
-    if coming.moves(case) {
-        write_text(writer, b" to ")?;
-        write_place(writer, place)?;
+    write_moved(writer, coming.moves(case), place)?;
+    Ok(())
+}
+
+/// Writes the new place of the responsibility, if it moved.
+fn write_moved<W: Write>(writer: &mut W, moves: bool, place: Place) -> Result<(), WriteFault>
+    ensures { Writes (W.contents writer.old) (W.contents writer.new) (moved_text moves place) result }
+{
+    if !moves {
+        return write_text(writer, b"");
     }
+    write_text(writer, b" to ")?;
+    write_place(writer, place)?;
     Ok(())
 }
 
 /// Writes the changes of the seat's plain data.
-fn write_changes<W: Write>(writer: &mut W, before: Plain, after: Plain) -> Result<(), WriteFault> {
+fn write_changes<W: Write>(writer: &mut W, before: Plain, after: Plain) -> Result<(), WriteFault>
+    ensures { Writes (W.contents writer.old) (W.contents writer.new) (changes_text before after) result }
+{
     write_change(writer, b", depth ", before.depth, after.depth)?;
     write_change(writer, b", takes ", before.takes, after.takes)?;
-    write_change(writer, b", posts ", before.posts, after.posts)
+    write_change(writer, b", posts ", before.posts, after.posts)?;
+    Ok(())
 }
 
 /// Writes one number of the seat under this name, before and after. Nothing is written if it has not changed.
@@ -272,12 +376,15 @@ fn write_change<W: Write>(
     name: &[u8],
     before: u64,
     after: u64,
-) -> Result<(), WriteFault> {
+) -> Result<(), WriteFault>
+    ensures { Writes (W.contents writer.old) (W.contents writer.new) (change_text name.now before after) result }
+{
     if before == after {
-        return Ok(());
+        return write_text(writer, b"");
     }
     write_text(writer, name)?;
     write_number(writer, before)?;
     write_text(writer, b" -> ")?;
-    write_number(writer, after)
+    write_number(writer, after)?;
+    Ok(())
 }

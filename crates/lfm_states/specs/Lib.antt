@@ -1,3 +1,4 @@
 pub mod Measures
 pub mod Counts
+pub mod Keys
 pub mod Rows

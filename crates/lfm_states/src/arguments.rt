@@ -2,6 +2,7 @@
 use crate::calls::calls_named;
 use crate::printing::GraphRequest;
 use lfm_core::Limits;
+use lfm_protocol::MAX_DEPTH;
 use lfm_text::read_number;
 use std::alloc::{AllocError, Global};
 use std::env;
@@ -21,9 +22,6 @@ pub enum Request {
     /// The arguments could not be read, since a request for memory was refused.
     Unread,
 }
-
-/// The greatest depth of a seat.
-const MAX_DEPTH: u64 = 65_535;
 
 /// What the program's arguments ask for. It allocates memory.
 pub fn requested<R: Env + AllocGlobal>(rt: &R) -> Request {
@@ -92,7 +90,7 @@ fn graph_request(seats: &str, budget: &str, depth: &str, calls: &str) -> Option<
     };
     let depth = read_number(depth.as_bytes())?;
     let calls = calls_named(calls)?;
-    if !limits.are_allowed() || depth == 0 || depth > MAX_DEPTH {
+    if !limits.are_allowed() || depth == 0 || depth > u64::from(MAX_DEPTH) {
         return None;
     }
     Some(GraphRequest {

@@ -1,5 +1,6 @@
 //! Which calls seats may begin in a graph that is printed.
 use lfm_core::Call;
+use lfm_shown::call_name;
 
 /// Which calls seats may begin.
 #[derive(Clone, Copy, Debug, PartialEq, Eq)]
@@ -11,6 +12,16 @@ pub struct Calls {
     start_wait: bool,
     send_lock: bool,
 }
+
+/// A call of each kind.
+const KINDS: [Call; 6] = [
+    Call::Lock,
+    Call::TryLock,
+    Call::Unlock,
+    Call::Receive,
+    Call::StartWait,
+    Call::SendLock(1),
+];
 
 /// No call.
 const NONE: Calls = Calls {
@@ -50,16 +61,25 @@ pub fn calls_named(word: &str) -> Option<Calls> {
 impl Calls {
     /// Adds the call of this name. Returns whether there is one.
     fn add(&mut self, name: &str) -> bool {
-        match name {
-            "lock" => self.lock = true,
-            "try_lock" => self.try_lock = true,
-            "unlock" => self.unlock = true,
-            "receive" => self.receive = true,
-            "start_wait" => self.start_wait = true,
-            "send_lock" => self.send_lock = true,
-            _ => return false,
+        for call in &KINDS {
+            if name == call_name(*call) {
+                self.add_kind(*call);
+                return true;
+            }
         }
-        true
+        false
+    }
+
+    /// Adds the calls of this kind, with any target.
+    fn add_kind(&mut self, kind: Call) {
+        match kind {
+            Call::Lock => self.lock = true,
+            Call::TryLock => self.try_lock = true,
+            Call::Unlock => self.unlock = true,
+            Call::Receive => self.receive = true,
+            Call::StartWait => self.start_wait = true,
+            Call::SendLock(_) => self.send_lock = true,
+        }
     }
 
     /// Whether seats may begin this call.

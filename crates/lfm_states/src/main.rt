@@ -2,7 +2,7 @@
 //! the laws of `lfm_laws` bound.
 //!
 //! It shows what no proof states: which of the bounds are reached, and how close the greatest counts are to the others.
-//! `scripts/further/search_states` runs it.
+//! `scripts/further/search_states` runs it. With the word `graph` it prints all states of a small mutex, for the pages.
 #![tactic(auto)]
 
 mod arguments;

@@ -1,5 +1,8 @@
 //! Prints the graph of a small mutex. Each event of each seat is tried in each state that was found, in the order in which the
 //! states were found, until there is no new state.
+ghost use Rattle.std.specs.Prelude.{◌≡◌, Some, map, slice_get, IfOk, OnOk};
+ghost use Rattle.lfm_states.specs.Keys.{IsNumberOf, PrintsAttempt};
+
 use crate::calls::Calls;
 use crate::keys::key_of;
 use crate::weights::is_open;
@@ -8,7 +11,7 @@ use lfm_core::{Call, Limits, State, Turn};
 use lfm_shown::graphs::write_header;
 use lfm_shown::{Event, GraphFault, Texts};
 use lfm_text::flush;
-use std::alloc::Global;
+use std::alloc::{AllocError, Global};
 use std::collections::VecDeque;
 use std::io::Write;
 
@@ -41,9 +44,9 @@ const PLAIN_CALLS: [Call; 5] = [
     Call::StartWait,
 ];
 
-/// The data of a search.
+/// What was found of a graph and what was printed of it.
 #[derive(Drop)]
-struct Search {
+struct Printer {
     alloc: Global,
     request: GraphRequest,
     /// The keys of the states that were found. The index of a key is the number of its state.
@@ -67,18 +70,18 @@ pub fn print_graph<W: Write>(
     let Ok(start) = State::new(alloc, seats, budget) else {
         return Err(GraphFault::Memory);
     };
-    let mut search = Search::new(alloc, request);
+    let mut printer = Printer::new(alloc, request);
     write_header(writer, seats, budget)?;
-    search.number_of(start)?;
-    search.print(writer)?;
+    printer.number_of(start)?;
+    printer.print(writer)?;
     flush(writer)?;
-    Ok(search.totals())
+    Ok(printer.totals())
 }
 
-impl Search {
-    /// A search that has found no state.
-    fn new(alloc: Global, request: GraphRequest) -> Search {
-        Search {
+impl Printer {
+    /// A printer that has found no state.
+    fn new(alloc: Global, request: GraphRequest) -> Printer {
+        Printer {
             alloc,
             request,
             keys: IndexSet::new(alloc),
@@ -97,20 +100,33 @@ impl Search {
     }
 
     /// The number of a state, which is kept to be printed if it is new.
-    fn number_of(&mut self, state: State) -> Result<usize, GraphFault> {
+    fn number_of(&mut self, state: State) -> Result<usize, GraphFault>
+        ensures texts { self.new.texts ≡ self.old.texts }
+        ensures number { IfOk result (λ n. IsNumberOf (map (λ v. v.items) self.new.keys.keys) n state) }
+    {
         let key = key_of(self.alloc, &state)?;
-        match self.keys.insert_full(key) {
-            Ok((number, true)) => {
-                self.keep(state)?;
-                Ok(number)
-            }
-            Ok((number, false)) => Ok(number),
-            Err(_) => Err(GraphFault::Memory),
-        }
+        let (number, is_new) = self.add_key(key)?;
+        self.keep_if(is_new, state)?;
+        Ok(number)
     }
 
-    /// Keeps a state that is to be printed.
-    fn keep(&mut self, state: State) -> Result<(), GraphFault> {
+    /// The number of this key, and whether it is new. A new one is added. It allocates memory.
+    fn add_key(&mut self, key: Vec<u8>) -> Result<(usize, bool), AllocError>
+        ensures texts { self.new.texts ≡ self.old.texts }
+        ensures number { IfOk result (λ r. slice_get (map (λ v. v.items) self.new.keys.keys) r.0 ≡ Some key.items) }
+    {
+        let added = self.keys.insert_full(key)?;
+        Ok(added)
+    }
+
+    /// Keeps a state that is to be printed, if it is new.
+    fn keep_if(&mut self, is_new: bool, state: State) -> Result<(), GraphFault>
+        ensures texts { self.new.texts ≡ self.old.texts }
+        ensures keys { self.new.keys ≡ self.old.keys }
+    {
+        if !is_new {
+            return Ok(());
+        }
         match self.pending.push_back(state) {
             Ok(()) => Ok(()),
             Err(_) => Err(GraphFault::Memory),
@@ -183,15 +199,23 @@ impl Search {
         writer: &mut W,
         state: &State,
         event: Event,
-    ) -> Result<(), GraphFault> {
+    ) -> Result<(), GraphFault>
+        // Exactly the line of this event is appended, after its text if that is new.
+        ensures { OnOk result (PrintsAttempt (W.contents writer.old) (W.contents writer.new) self.old.texts self.new.texts
+            (map (λ v. v.items) self.new.keys.keys) state.now event) }
+    {
         let (made, next) = event.after(self.alloc, state)?;
         let target = self.number_of(next)?;
         self.count(event, made.turn);
-        self.texts.print_event(writer, &made, target)
+        self.texts.print_event(writer, &made, target)?;
+        Ok(())
     }
 
     /// Counts an event, if it is not a call that was refused at its start.
-    fn count(&mut self, event: Event, turn: Turn) {
+    fn count(&mut self, event: Event, turn: Turn)
+        ensures texts { self.new.texts ≡ self.old.texts }
+        ensures keys { self.new.keys ≡ self.old.keys }
+    {
         if let (Event::Begin(_, _), Turn::Refused(_)) = (event, turn) {
             return;
         }

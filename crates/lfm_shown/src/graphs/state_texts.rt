@@ -1,7 +1,11 @@
 //! The texts of a state, each in a vector of its own: what a trace shows of the state, its push word, and each seat.
+#![tactic(auto, using(lfm_text::proofs::Writes::writings))]
+
 ghost use Rattle.std.specs.Prelude.{◌≡◌, ◌≤◌, length, vec_capacity, IfOk};
 ghost use Rattle.lfm_core.specs.text.Trace.{state_text};
+ghost use Rattle.lfm_shown.specs.Graphs.{barred_text, seats_text, key_text};
 ghost use Rattle.lfm_shown.specs.Texts.{link_text, seat_text};
+ghost use Rattle.lfm_text.specs.Writing.{Writes};
 
 use crate::seats::write_seat;
 use crate::values::write_link;
@@ -54,13 +58,30 @@ pub fn write_key_text<W: Write>(
     records: &mut Vec<Record>,
 ) -> Result<(), WriteFault>
     requires { length state.now.seats ≤ vec_capacity records.old }
+    ensures { Writes (W.contents writer.old) (W.contents writer.new) (key_text state.now) result }
 {
     write_state(writer, state, records)?;
     write_text(writer, b"|")?;
     write_link(writer, state.push_word())?;
-    for s in 0..state.seats() {
-        write_text(writer, b"|")?;
-        write_seat(writer, state, s + 1)?;
+    write_seats(writer, state)?;
+    Ok(())
+}
+
+/// Writes what each seat has in a state, each after a bar.
+fn write_seats<W: Write>(writer: &mut W, state: &State) -> Result<(), WriteFault>
+    ensures { Writes (W.contents writer.old) (W.contents writer.new) (seats_text state.now 0 (length state.now.seats)) result }
+{
+    'seats: for s in 0..state.seats() {
+        write_barred(writer, state, s + 1)?;
     }
+    write_text(writer, b"")
+}
+
+/// Writes what seat s has in a state, after a bar.
+fn write_barred<W: Write>(writer: &mut W, state: &State, s: u64) -> Result<(), WriteFault>
+    ensures { Writes (W.contents writer.old) (W.contents writer.new) (barred_text state.now s) result }
+{
+    write_text(writer, b"|")?;
+    write_seat(writer, state, s)?;
     Ok(())
 }

@@ -1,12 +1,12 @@
 //! The texts of a graph that were printed so far, and the lines that name them by their numbers.
 #![tactic(auto, using(lfm_text::proofs::Writes::writings))]
 
-ghost use Rattle.std.specs.Prelude.{◌≡◌, ℕ, List, [], ◌∷◌, ◌++◌, Option, Some, length, take, slice_get, IfOk, OnOk};
-ghost use Rattle.std.specs.Io.KnownBytes.{Appends};
-ghost use Rattle.lfm_shown.specs.Graphs.{Name, texts_of_state, state_line, event_line};
+ghost use Rattle.std.specs.Prelude.{◌≡◌, ℕ, List, [], ◌∷◌, ◌++◌, Some, length, take, slice_get, IfOk, OnOk};
+ghost use Rattle.lfm_shown.specs.Graphs.{Name, texts_of_state, text_line, text_lines, state_line, event_line};
+ghost use Rattle.lfm_shown.specs.Printed.{Prints, PrintsState, PrintsEvent, new_text};
 ghost use Rattle.lfm_text.specs.Writing.{Writes};
 
-use crate::graphs::event_texts::write_event;
+use crate::graphs::event_texts::event_text_of;
 use crate::graphs::faults::GraphFault;
 use crate::graphs::state_texts::{push_text_of, seat_text_of, trace_text_of};
 use crate::successors::MadeEvent;
@@ -48,17 +48,29 @@ impl Texts {
     fn number_of<W: Write>(&mut self, writer: &mut W, text: Vec<u8>) -> Result<usize, GraphFault>
         ensures named { IfOk result (λ n. slice_get self.new n ≡ Some text.items) }
         ensures kept { take (length self.old) self.new ≡ self.old }
+        ensures printed { OnOk result (Prints (W.contents writer.old) (W.contents writer.new) self.old self.new (text.items ∷ []) []) }
     {
-        if !self.printed.contains(text.as_slice()) {
-            write_new_text(writer, text.as_slice())?;
+        self.write_if_new(writer, text.as_slice())?;
+        let number = self.add(text)?;
+        Ok(number)
+    }
+
+    /// Prints this text, if it was not printed yet.
+    fn write_if_new<W: Write>(&self, writer: &mut W, text: &[u8]) -> Result<(), WriteFault>
+        ensures { Writes (W.contents writer.old) (W.contents writer.new) (text_lines (new_text self.now text.now)) result }
+    {
+        if self.printed.contains(text) {
+            write_text(writer, b"")
+        } else {
+            write_new_text(writer, text)
         }
-        self.add(text).map_err(|_| GraphFault::Memory)
     }
 
     /// The number of this text, which is added if it is new. It allocates memory.
     fn add(&mut self, text: Vec<u8>) -> Result<usize, AllocError>
         ensures named { IfOk result (λ n. slice_get self.new n ≡ Some text.items) }
         ensures kept { take (length self.old) self.new ≡ self.old }
+        ensures all { OnOk result (self.new ≡ self.old ++ new_text self.old text.items) }
     {
         let (number, _) = self.printed.insert_full(text)?;
         Ok(number)
@@ -71,6 +83,7 @@ impl Texts {
         state: &State,
     ) -> Result<Vec<usize>, GraphFault>
         ensures named { IfOk result (λ numbers. Name self.new numbers.items (texts_of_state state.now)) }
+        ensures printed { OnOk result (Prints (W.contents writer.old) (W.contents writer.new) self.old self.new (texts_of_state state.now) []) }
     {
         let alloc = self.alloc;
         let mut numbers = Vec::new(alloc);
@@ -89,8 +102,9 @@ impl Texts {
         numbers: &mut Vec<usize>,
         text: Vec<u8>,
     ) -> Result<(), GraphFault>
-        ensures { OnOk result ((known : List (List ℕ)) → Name self.old numbers.old.items known
+        ensures named { OnOk result ((known : List (List ℕ)) → Name self.old numbers.old.items known
             → Name self.new numbers.new.items (known ++ text.items ∷ [])) }
+        ensures printed { OnOk result (Prints (W.contents writer.old) (W.contents writer.new) self.old self.new (text.items ∷ []) []) }
     {
         let number = self.number_of(writer, text)?;
         push_number(numbers, number)?;
@@ -99,10 +113,8 @@ impl Texts {
 
     /// Prints a state: its texts that were not printed yet, and then its line. It allocates memory.
     pub fn print_state<W: Write>(&mut self, writer: &mut W, state: &State) -> Result<(), GraphFault>
-        // The last bytes are the line of the state: the texts with its numbers are those of the state.
-        ensures { OnOk result ((numbers : List ℕ) × (before : Option (List ℕ))
-            × Name self.new numbers (texts_of_state state.now)
-            × Appends before (W.contents writer.new) (state_line numbers)) }
+        // Exactly the new texts of the state and its line are appended; the texts with its numbers are those of the state.
+        ensures { OnOk result (PrintsState (W.contents writer.old) (W.contents writer.new) self.old self.new state.now) }
     {
         let numbers = self.numbers_of(writer, state)?;
         write_state_line(writer, &numbers)?;
@@ -116,11 +128,11 @@ impl Texts {
         writer: &mut W,
         made: &MadeEvent,
         target: usize,
-    ) -> Result<(), GraphFault> {
-        let mut text = Vec::new(self.alloc);
-        if write_event(&mut text, made).is_err() {
-            return Err(GraphFault::Memory);
-        }
+    ) -> Result<(), GraphFault>
+        // Exactly the text of the event, if it is new, and its line are appended; the text with its number is that of the event.
+        ensures { OnOk result (PrintsEvent (W.contents writer.old) (W.contents writer.new) self.old self.new made.now target) }
+    {
+        let text = event_text_of(self.alloc, made)?;
         let number = self.number_of(writer, text)?;
         write_event_line(writer, made.event.seat(), number, target)?;
         Ok(())
@@ -136,10 +148,13 @@ fn push_number(numbers: &mut Vec<usize>, number: usize) -> Result<(), AllocError
 }
 
 /// Prints a new text.
-fn write_new_text<W: Write>(writer: &mut W, text: &[u8]) -> Result<(), WriteFault> {
+fn write_new_text<W: Write>(writer: &mut W, text: &[u8]) -> Result<(), WriteFault>
+    ensures { Writes (W.contents writer.old) (W.contents writer.new) (text_line text.now) result }
+{
     write_text(writer, b"+")?;
     write_text(writer, text)?;
-    write_line_feed(writer)
+    write_line_feed(writer)?;
+    Ok(())
 }
 
 /// Writes the line of a state that has texts with these numbers.

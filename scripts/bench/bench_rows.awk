@@ -74,6 +74,22 @@ function chart(name, head, table, fits, unit, fairness,    i, greatest) {
   }
 }
 
+# prints a chart of both kinds of condition variables and of std's
+function chart_of_conditions(name, head, fits, unit,    table, i, greatest) {
+  table = "nanoseconds"
+  sort_rows(table, fits)
+  for (i = 1; i <= many; i++) {
+    greatest = larger(greatest, larger(mean(table, order[i], "barging"), larger(mean(table, order[i], "plain"), mean(table, order[i], "std"))))
+  }
+  printf "chart %s|%s|barging over std's, two runs; plain over std's|%s\n", name, head, rounded(1.25 * greatest / unit)
+  print "series in order|*barging|plain|Rust's std"
+  for (i = 1; i <= many; i++) {
+    printf "row %s|%s|%s|%s|%s|%s; %s\n", order[i], rounded(mean(table, order[i], "in order") / unit), rounded(mean(table, order[i], "barging") / unit), \
+      rounded(mean(table, order[i], "plain") / unit), rounded(mean(table, order[i], "std") / unit), \
+      ratios(table, order[i], "barging", "std"), ratios(table, order[i], "plain", "std")
+  }
+}
+
 function larger(a, b) {
   return a > b ? a : b
 }
@@ -95,7 +111,7 @@ END {
   # on one processor a measurement may end before each thread has had its turn
   chart(kind == "quiet" ? "several_threads" : kind, place ": nanoseconds an acquisition", "nanoseconds an acquisition", "", 1, kind == "one_processor" ? "" : "most over fewest")
   if (kind == "quiet") {
-    chart("condition_variables", "Condition variables: microseconds", "nanoseconds", "^(ping-pong|wake_all)", 1000, "")
-    chart("bounded_queue", "A bounded queue between threads: nanoseconds a number", "nanoseconds", "^bounded queue", 1, "")
+    chart_of_conditions("condition_variables", "Condition variables: microseconds", "^(ping-pong|wake_all)", 1000)
+    chart_of_conditions("bounded_queue", "A bounded queue between threads: nanoseconds a number", "^bounded queue", 1)
   }
 }

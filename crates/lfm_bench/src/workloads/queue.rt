@@ -7,10 +7,10 @@ ghost use Rattle.lfm_bench.specs.Deliveries.{CountUp, IsEachOnce};
 use crate::measure::clocks::{now, since};
 use crate::measure::{Gate, Round, Sample};
 use crate::peers::guarded::{Operation, Queue};
-use crate::peers::morphing::{MorphingPlaces, MorphingShared};
+use crate::peers::morphing::{MorphingParticipant, MorphingPlaces, MorphingShared};
 use crate::peers::ours::Locking;
-use crate::peers::participants::{Participant, Places, Side, lock_and_apply};
-use crate::peers::plain::{PlainPlaces, PlainShared};
+use crate::peers::participants::{Places, Side, lock_and_apply};
+use crate::peers::plain::{PlainParticipant, PlainPlaces, PlainShared};
 use std::alloc::{AllocError, Global};
 use std::io;
 use std::sync::{Condvar, Mutex, Wait};
@@ -42,21 +42,27 @@ trait Mover {
     fn take<R: Wait>(&mut self, rt: &R) -> Option<u64>;
 }
 
-/// A thread at our mutex.
-#[derive(Drop)]
-struct OurMover<P> {
-    participant: P,
-}
-
-impl<P: Participant> Mover for OurMover<P> {
+impl Mover for MorphingParticipant<'_> {
     /// In one hold of our mutex.
     fn put<R: Wait>(&mut self, rt: &R, number: u64) -> bool {
-        lock_and_apply(rt, &mut self.participant, Operation::Put(number)).is_some()
+        lock_and_apply(rt, self, Operation::Put(number)).is_some()
     }
 
     /// In one hold of our mutex.
     fn take<R: Wait>(&mut self, rt: &R) -> Option<u64> {
-        lock_and_apply(rt, &mut self.participant, Operation::Take)
+        lock_and_apply(rt, self, Operation::Take)
+    }
+}
+
+impl Mover for PlainParticipant<'_> {
+    /// In one hold of our mutex.
+    fn put<R: Wait>(&mut self, rt: &R, number: u64) -> bool {
+        lock_and_apply(rt, self, Operation::Put(number)).is_some()
+    }
+
+    /// In one hold of our mutex.
+    fn take<R: Wait>(&mut self, rt: &R) -> Option<u64> {
+        lock_and_apply(rt, self, Operation::Take)
     }
 }
 
@@ -145,19 +151,15 @@ fn ours<R: Threads + Sync + Wait + Clock + AllocGlobal, S: Places>(
     rt: &R,
     load: Load,
     mut places: S,
-) -> io::Result<Sample> {
+) -> io::Result<Sample>
+where
+    S::One: Mover,
+{
     let mut movers = Vec::new(rt.alloc());
     for place in 0..load.threads {
         let first = place.wrapping_mul(load.numbers);
-        let putter = places.next(Side::First)?;
-        let taker = places.next(Side::Second)?;
-        movers.push((
-            OurMover {
-                participant: putter,
-            },
-            Task::Put { first },
-        ))?;
-        movers.push((OurMover { participant: taker }, Task::Take))?;
+        movers.push((places.next(Side::First)?, Task::Put { first }))?;
+        movers.push((places.next(Side::Second)?, Task::Take))?;
     }
     Ok(moved(rt, load, movers)?)
 }

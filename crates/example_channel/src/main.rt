@@ -1,15 +1,23 @@
 //! Four threads send numbers through a channel, and a fifth receives them until all senders have closed their ends. A monitor
-//! guards the channel. A thread that finds it full, or empty, waits on a condition until another thread wakes it.
+//! guards the channel. A thread that finds it full, or empty, waits on a condition until another thread wakes it. Then, on a
+//! second channel, one thread receives with a time limit: first when nothing was sent, and then after a number was.
 #![tactic(auto)]
 
 mod channel;
+mod receiving;
+
+ghost use Rattle.lfm_monitor.specs.Belongs.{OfMonitor};
+ghost use Rattle.std.specs.Prelude.{IfSome};
 
 use crate::channel::{Channel, ChannelOp, ChannelReply};
+use crate::receiving::{Receipt, receive_for};
 use anyhow::bail;
 use lfm_model::{Refusal, lawful, replay};
 use lfm_monitor::{CriticalSection, Monitor, Pass};
+use std::alloc::Global;
 use std::ops::ControlFlow;
 use std::sync::Wait;
+use std::time::{Clock, Duration};
 
 /// How many threads send. The thread with the pass after theirs receives.
 const SENDERS: u64 = 4;
@@ -30,6 +38,9 @@ const ENTRIES: u64 = 5_000;
 const NOT_EMPTY: u64 = 1;
 
 const NOT_FULL: u64 = 2;
+
+/// How long the receives with a time limit wait for a number, in milliseconds.
+const LIMIT: u64 = 10;
 
 /// The role of a thread depends on the number of its pass: passes 1 to 4 send, and pass 5 receives.
 struct Roles;
@@ -87,7 +98,39 @@ fn received(replies: &[ChannelReply]) -> (u64, u64) {
     (count, sum)
 }
 
-/// Runs all five threads, and then counts by the journal what was received.
+/// A channel for one sender, guarded by a monitor with plain conditions, and the monitor's one pass.
+fn own_channel(alloc: Global) -> Option<(Monitor<Channel>, Pass<Channel>)>
+    ensures { IfSome result (λ r. OfMonitor r.1 r.0) }
+{
+    // the pass writes fewer than 20 entries
+    let channel = Channel::new(1);
+    let Ok((monitor, mut passes)) = Monitor::with_plain_conditions(alloc, 1, 20, 2, channel) else {
+        return None;
+    };
+    let pass = passes.pop()?;
+    Some((monitor, pass))
+}
+
+/// Receives with a time limit, sends this number, and receives again. Returns what the two receives answered.
+fn receive_twice<R: Wait + Clock>(
+    rt: &R,
+    monitor: &Monitor<Channel>,
+    pass: &mut Pass<Channel>,
+    number: u64,
+) -> Result<(Receipt, Receipt), Refusal>
+    requires { OfMonitor pass.old monitor.now }
+    ensures { OfMonitor pass.new monitor.now }
+{
+    let limit = Duration::from_millis(LIMIT);
+    monitor.enter(rt, pass)?;
+    let first = receive_for(rt, monitor, pass, limit)?;
+    monitor.apply(pass, ChannelOp::Send(number))?;
+    let second = receive_for(rt, monitor, pass, limit)?;
+    monitor.leave(pass)?;
+    Ok((first, second))
+}
+
+/// Runs all five threads, and then counts by the journal what was received. Then it receives with a time limit.
 fn main(rt: HostRuntime) -> anyhow::Result<()> {
     // a monitor with a pass for each thread, each of which may write `ENTRIES` entries, and two conditions; it guards the
     // channel
@@ -104,5 +147,14 @@ fn main(rt: HostRuntime) -> anyhow::Result<()> {
     let (count, sum) = received(&replies);
     println!(rt; "{count} numbers were received, and their sum is {sum}")?;
     println!(rt; "lawful: {}", lawful(&journal))?;
+
+    let Some((monitor, mut pass)) = own_channel(rt.alloc()) else {
+        bail!("out of memory");
+    };
+    let Ok((first, second)) = receive_twice(&rt, &monitor, &mut pass, 7) else {
+        bail!("a call was refused");
+    };
+    println!(rt; "a receive for {LIMIT} ms from an empty channel: {first:?}")?;
+    println!(rt; "a receive for {LIMIT} ms after 7 was sent: {second:?}")?;
     Ok(())
 }

@@ -1,3 +1,4 @@
 pub mod Broadcasts
 pub mod Deliveries
+pub mod PlainSeats
 pub mod Quartiles

@@ -103,6 +103,21 @@ const IN_BOTH_WAYS: [Column; 8] = [
     Column::Spread(Peer::Standard),
 ];
 
+/// The columns of condition variables.
+const IN_ALL_WAYS: [Column; 11] = [
+    Column::Median(Peer::InOrder),
+    Column::Spread(Peer::InOrder),
+    Column::Ratio(Peer::InOrder, Peer::Standard),
+    Column::Median(Peer::Barging),
+    Column::Spread(Peer::Barging),
+    Column::Ratio(Peer::Barging, Peer::Standard),
+    Column::Median(Peer::Plain),
+    Column::Spread(Peer::Plain),
+    Column::Ratio(Peer::Plain, Peer::Standard),
+    Column::Median(Peer::Standard),
+    Column::Spread(Peer::Standard),
+];
+
 /// The columns of the fairness. A ratio would have no meaning there.
 const FAIRNESS_IN_BOTH_WAYS: [Column; 3] = [
     Column::Median(Peer::InOrder),
@@ -144,7 +159,7 @@ const VIEWS_OF_WAITS: [View<'static>; 2] = [
 const VIEWS_OF_CONDITIONS: [View<'static>; 1] = [View {
     head: "nanoseconds",
     measure: Measure::Cost,
-    columns: &IN_BOTH_WAYS,
+    columns: &IN_ALL_WAYS,
 }];
 
 /// Measures and prints one table after the other.

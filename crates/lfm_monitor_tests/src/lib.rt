@@ -1,5 +1,5 @@
 //! Tests of the monitor on its public calls, in one thread and in several: takes, ops, critical sections, rounds, waits and
-//! wakes, refusals and limits; and of the commands of one worker, which are calls of a monitor.
+//! wakes, refusals, limits and time limits; and of the commands of one worker, which are calls of a monitor.
 #![tactic(auto)]
 
 #[cfg(test)]
@@ -9,6 +9,8 @@ mod conditions;
 #[cfg(test)]
 mod driving;
 #[cfg(test)]
+mod limit_refusals;
+#[cfg(test)]
 mod limits;
 #[cfg(test)]
 mod monitors;
@@ -16,6 +18,10 @@ mod monitors;
 pub mod passes;
 #[cfg(test)]
 mod performing;
+#[cfg(test)]
+mod plain_passes;
+#[cfg(test)]
+mod plain_threads;
 #[cfg(test)]
 mod producers;
 #[cfg(test)]
@@ -27,5 +33,7 @@ mod seeing;
 pub mod slot;
 #[cfg(test)]
 mod steps;
+#[cfg(test)]
+mod time_limits;
 #[cfg(test)]
 mod tries;

@@ -11,6 +11,11 @@ fn refused(alloc: Global, passes: u64, entries: u64, conditions: u64) -> Option<
     Monitor::new(alloc, passes, entries, conditions, Total(0)).err()
 }
 
+/// The same if its conditions are plain.
+fn refused_plain(alloc: Global, passes: u64, entries: u64, conditions: u64) -> Option<NewFault> {
+    Monitor::with_plain_conditions(alloc, passes, entries, conditions, Total(0)).err()
+}
+
 /// Numbers of passes, entries and conditions that no monitor can have.
 const TOO_FEW_OR_MANY: [(u64, u64, u64); 5] = [
     (0, 1, 0),
@@ -28,9 +33,15 @@ fn limits(rt: HostRuntime) {
             Some(NewFault::Limit),
             "{passes} passes, {entries} entries, {conditions} conditions"
         );
+        assert_eq!(rt;
+            refused_plain(rt.alloc(), passes, entries, conditions),
+            Some(NewFault::Limit),
+            "{passes} passes, {entries} entries, {conditions} plain conditions"
+        );
     }
     assert_eq!(rt; MAX_CONDITIONS, 16);
     assert_eq!(rt; refused(rt.alloc(), 3, 2, MAX_CONDITIONS), None);
+    assert_eq!(rt; refused_plain(rt.alloc(), 3, 2, MAX_CONDITIONS), None);
 }
 
 #[test]

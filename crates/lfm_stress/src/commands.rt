@@ -2,7 +2,7 @@
 ghost use Rattle.std.specs.Prelude.{◌≡◌, if◌then◌else◌};
 
 use crate::arguments::{Request, requested};
-use crate::loads::buffer;
+use crate::loads::{buffer, limits};
 use crate::plan::{Load, OutOfRange, Plan};
 use crate::running;
 use std::io;
@@ -30,7 +30,7 @@ pub fn run<R: Env + AllocGlobal + Print + Eprint + Threads + Wait + Sync + Clock
         }
         Request::Other => {
             let _ = rt.eprintln(
-                "usage: lfm_stress lock|mixed|ping_pong|broadcast|buffer in_order|barging THREADS COUNT",
+                "usage: lfm_stress lock|mixed|ping_pong|broadcast|buffer|limits in_order|barging THREADS COUNT",
             );
             USAGE
         }
@@ -73,11 +73,16 @@ fn status<R: AllocGlobal + Print + Eprint + Threads + Wait + Sync + Clock>(
 }
 
 /// Makes a run of this plan and prints what it left. Returns whether nothing was lost.
-fn made<R: AllocGlobal + Print + Threads + Wait + Sync + Clock>(
+fn made<R: AllocGlobal + Print + Eprint + Threads + Wait + Sync + Clock>(
     rt: &R,
     plan: Plan,
 ) -> io::Result<bool> {
     let sums = match plan.load() {
+        Load::Limits => {
+            let sums = limits::run(rt, plan)?;
+            sums.print(rt, plan)?;
+            return Ok(sums.is_exact(plan));
+        }
         Load::Buffer => buffer::run(rt, plan)?,
         Load::Lock | Load::Mixed | Load::PingPong | Load::Broadcast => running::run(rt, plan)?,
     };

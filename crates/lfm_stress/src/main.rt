@@ -1,5 +1,5 @@
-//! The program `lfm_stress`: threads make many calls on one mutex, its condition variables or a monitor. At the end no
-//! addition, no wake-up and no item may be lost.
+//! The program `lfm_stress`: threads make many calls on one mutex, its condition variables, a plain condition variable or a
+//! monitor. At the end no addition, no wake-up and no item may be lost.
 //!
 //! It tests what is not proved: that real threads reach the end of long runs. `scripts/further/stress` runs it, by hand.
 #![tactic(auto)]
@@ -11,6 +11,7 @@ mod plan;
 mod progress;
 mod running;
 mod sums;
+mod waits;
 
 use std::process::ExitCode;
 

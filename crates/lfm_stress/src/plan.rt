@@ -20,6 +20,12 @@ const MOVERS: u64 = 4;
 /// The most turns of a thread.
 pub const MOST_TURNS: u64 = 1_000_000_000;
 
+/// How many threads of `limits` wake the others. THREADS does not count them.
+pub const WAKERS: u64 = 2;
+
+/// The most threads of `limits` that wait. The other seats of a mutex are for those that wake.
+const MOST_WAITERS: u64 = 4_093;
+
 /// The most items that go through the buffer. The journal of a monitor has room for a tenth of them.
 pub const MOST_ITEMS: u64 = 800_000;
 
@@ -36,6 +42,8 @@ pub enum Load {
     Broadcast,
     /// Two threads put items into a bounded buffer, which a monitor guards, and two take them out.
     Buffer,
+    /// Threads wait on a plain condvar with time limits, and two further threads wake one of them at a time.
+    Limits,
 }
 
 impl Load {
@@ -47,6 +55,7 @@ impl Load {
             "ping_pong" => Some(Load::PingPong),
             "broadcast" => Some(Load::Broadcast),
             "buffer" => Some(Load::Buffer),
+            "limits" => Some(Load::Limits),
             _ => None,
         }
     }
@@ -59,6 +68,7 @@ impl Load {
             Load::PingPong => "ping_pong",
             Load::Broadcast => "broadcast",
             Load::Buffer => "buffer",
+            Load::Limits => "limits",
         }
     }
 
@@ -69,7 +79,7 @@ impl Load {
         match self {
             Load::PingPong => PLAYERS,
             Load::Buffer => MOVERS,
-            Load::Lock | Load::Mixed | Load::Broadcast => LEAST_THREADS,
+            Load::Lock | Load::Mixed | Load::Broadcast | Load::Limits => LEAST_THREADS,
         }
     }
 
@@ -81,6 +91,7 @@ impl Load {
             Load::PingPong => PLAYERS,
             Load::Buffer => MOVERS,
             Load::Lock | Load::Mixed | Load::Broadcast => MOST_THREADS,
+            Load::Limits => MOST_WAITERS,
         }
     }
 
@@ -89,7 +100,9 @@ impl Load {
         ensures { result ≡ most_turns self }
     {
         match self {
-            Load::Lock | Load::Mixed | Load::PingPong | Load::Broadcast => MOST_TURNS,
+            Load::Lock | Load::Mixed | Load::PingPong | Load::Broadcast | Load::Limits => {
+                MOST_TURNS
+            }
             Load::Buffer => MOST_ITEMS,
         }
     }
@@ -170,13 +183,14 @@ impl Plan {
         self.threads
     }
 
-    /// How many seats the mutex and its condvars must have: one for each thread, and in `broadcast` one more, for the thread
-    /// that wakes the others.
+    /// How many seats the mutex and its condvars must have: one for each thread, and more for the threads that wake the others,
+    /// of which `broadcast` has one and `limits` two.
     pub fn seats(self) -> u64
         ensures { result ≡ seats_of self.load self.threads }
     {
         match self.load {
             Load::Broadcast => self.threads() + 1,
+            Load::Limits => self.threads() + WAKERS,
             Load::Lock | Load::Mixed | Load::PingPong | Load::Buffer => self.threads(),
         }
     }

@@ -77,8 +77,8 @@ impl<R: Wait> Task<R> for Turns {
             Load::Mixed => mixed::take_turns(rt, shared, tenth, part),
             Load::PingPong => ping_pong::take_turns(rt, shared, tenth, part),
             Load::Broadcast => broadcast::take_turns(rt, shared, tenth, self.plan.threads(), part),
-            // its items go through a monitor, which has passes instead of parts
-            Load::Buffer => part,
+            // a monitor has passes instead of parts, and a plain condvar hands
+            Load::Buffer | Load::Limits => part,
         }
     }
 }

@@ -1,4 +1,4 @@
-//! What a run leaves, and whether nothing was lost.
+//! What a run leaves, and whether nothing was lost. A run of `limits` leaves what `waits` says.
 ghost use Rattle.std.specs.Prelude.{◌≡◌, ◌≤◌};
 ghost use Rattle.lfm_stress.specs.Totals.{additions_of, least_of, woken_of, number_of, is_exact};
 
@@ -25,6 +25,7 @@ fn additions_of(plan: Plan) -> u64
         Load::Lock | Load::Mixed | Load::PingPong => threads * turns,
         Load::Broadcast => (threads * 2 + 1) * turns,
         Load::Buffer => turns,
+        Load::Limits => 0,
     }
 }
 
@@ -35,7 +36,9 @@ fn least_of(plan: Plan) -> u64
 {
     match plan.load() {
         Load::Mixed => plan.threads() * (plan.turns() / 2) + 1,
-        Load::Lock | Load::PingPong | Load::Broadcast | Load::Buffer => additions_of(plan),
+        Load::Lock | Load::PingPong | Load::Broadcast | Load::Buffer | Load::Limits => {
+            additions_of(plan)
+        }
     }
 }
 
@@ -45,7 +48,7 @@ fn woken_of(plan: Plan) -> u64
 {
     match plan.load() {
         Load::Broadcast => plan.threads() * plan.turns(),
-        Load::Lock | Load::Mixed | Load::PingPong | Load::Buffer => 0,
+        Load::Lock | Load::Mixed | Load::PingPong | Load::Buffer | Load::Limits => 0,
     }
 }
 
@@ -56,7 +59,7 @@ fn number_of(plan: Plan, made: u64) -> u64
 {
     let _turns = plan.turns();
     match plan.load() {
-        Load::Lock | Load::Mixed | Load::PingPong | Load::Broadcast => made,
+        Load::Lock | Load::Mixed | Load::PingPong | Load::Broadcast | Load::Limits => made,
         Load::Buffer => made * (made + 1) / 2,
     }
 }

@@ -11,10 +11,13 @@ use std::io;
 pub enum Peer {
     /// One thread that uses our mutex.
     Ours,
-    /// Several threads that lock our mutex by `lock`.
+    /// Several threads that lock our mutex by `lock`. If they wait, it is on condvars that put a woken thread into the queue of
+    /// the mutex.
     InOrder,
-    /// Several threads that lock our mutex by `lock_barging`.
+    /// The same by `lock_barging`.
     Barging,
+    /// Several threads that lock our mutex by `lock_barging`, and wait on plain condvars.
+    Plain,
     /// The bare steps of our mutex's calls.
     Bare,
     /// Std's mutex and condvars.
@@ -28,6 +31,7 @@ impl Peer {
             Peer::Ours => "ours",
             Peer::InOrder => "in order",
             Peer::Barging => "barging",
+            Peer::Plain => "plain",
             Peer::Bare => "bare",
             Peer::Standard => "std",
         }
@@ -62,6 +66,7 @@ pub struct Round {
     pub ours: Option<Sample>,
     pub in_order: Option<Sample>,
     pub barging: Option<Sample>,
+    pub plain: Option<Sample>,
     pub bare: Option<Sample>,
     pub standard: Option<Sample>,
 }
@@ -72,6 +77,7 @@ impl Round {
         ours: None,
         in_order: None,
         barging: None,
+        plain: None,
         bare: None,
         standard: None,
     };
@@ -86,6 +92,7 @@ pub struct Row {
     ours: Figures,
     in_order: Figures,
     barging: Figures,
+    plain: Figures,
     bare: Figures,
     standard: Figures,
 }
@@ -99,6 +106,7 @@ impl Row {
             ours: Figures::new(alloc),
             in_order: Figures::new(alloc),
             barging: Figures::new(alloc),
+            plain: Figures::new(alloc),
             bare: Figures::new(alloc),
             standard: Figures::new(alloc),
         }
@@ -109,6 +117,7 @@ impl Row {
         self.ours.add_if_any(round.ours)?;
         self.in_order.add_if_any(round.in_order)?;
         self.barging.add_if_any(round.barging)?;
+        self.plain.add_if_any(round.plain)?;
         self.bare.add_if_any(round.bare)?;
         self.standard.add_if_any(round.standard)
     }
@@ -118,6 +127,7 @@ impl Row {
         let exact = self.ours.is_exact()
             && self.in_order.is_exact()
             && self.barging.is_exact()
+            && self.plain.is_exact()
             && self.bare.is_exact()
             && self.standard.is_exact();
         let name = self.name.as_str();
@@ -166,6 +176,7 @@ impl Row {
             Peer::Ours => self.ours.quartiles(measure),
             Peer::InOrder => self.in_order.quartiles(measure),
             Peer::Barging => self.barging.quartiles(measure),
+            Peer::Plain => self.plain.quartiles(measure),
             Peer::Bare => self.bare.quartiles(measure),
             Peer::Standard => self.standard.quartiles(measure),
         }

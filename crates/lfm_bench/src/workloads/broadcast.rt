@@ -9,13 +9,15 @@ ghost use Rattle.lfm_bench.specs.Broadcasts.{made, ended};
 use crate::measure::clocks::{now, since};
 use crate::measure::{Round, Sample};
 use crate::peers::guarded::Operation;
+use crate::peers::morphing::{MorphingPlaces, MorphingShared};
 use crate::peers::ours::Locking;
-use crate::peers::participants::{Participant, Places, Shared, Side};
+use crate::peers::participants::{Participant, Places, Side, wait_and_apply};
+use crate::peers::plain::{PlainPlaces, PlainShared};
 use crate::peers::standard::wait_until;
 use std::alloc::AllocError;
 use std::sync::atomic::{AtomicU64, Ordering};
 use std::sync::{Condvar, Mutex, Wait};
-use std::thread::{Threads, join, map_indices};
+use std::thread::{Threads, join, map_indices, map_vec};
 use std::time::{Clock, Duration, Instant};
 use std::{io, thread};
 
@@ -32,6 +34,11 @@ pub struct Load {
 }
 
 impl Load {
+    /// How many threads there are with the caller.
+    fn seats(self) -> u64 {
+        self.threads.saturating_add(1)
+    }
+
     /// The number when this broadcast is made. The start of the threads counts as broadcast 0.
     fn made(self, broadcast: u64) -> u64
         ensures { result ≡ made self broadcast }
@@ -111,73 +118,73 @@ pub fn round<R: Threads + Sync + Wait + Clock + AllocGlobal>(
     load: Load,
 ) -> io::Result<Round> {
     Ok(Round {
-        in_order: Some(ours(rt, load, Locking::InOrder)?),
-        barging: Some(ours(rt, load, Locking::Barging)?),
+        in_order: Some(morphing(rt, load, Locking::InOrder)?),
+        barging: Some(morphing(rt, load, Locking::Barging)?),
+        plain: Some(plain(rt, load)?),
         standard: Some(standard(rt, load)?),
         ..Round::NONE
     })
 }
 
-/// Our mutex and condvars.
-fn ours<R: Threads + Sync + Wait + Clock + AllocGlobal>(
+/// Our mutex and condvars that morph waits.
+fn morphing<R: Threads + Sync + Wait + Clock + AllocGlobal>(
     rt: &R,
     load: Load,
     locking: Locking,
 ) -> io::Result<Sample> {
-    let (shared, free) = Shared::new(rt, load.threads.saturating_add(1))?;
-    let mut places = Places::new(&shared, free, locking);
-    let caller = places.next(Side::Second)?;
-    Ok(our_round(rt, load, caller, places)?)
+    let (shared, free) = MorphingShared::new(rt, load.seats())?;
+    ours(rt, load, MorphingPlaces::new(&shared, free, locking))
 }
 
-/// A round of the caller and the threads that take the other places.
-fn our_round<R: Threads + Sync + Wait + Clock + AllocGlobal>(
+/// Our mutex and plain condvars.
+fn plain<R: Threads + Sync + Wait + Clock + AllocGlobal>(rt: &R, load: Load) -> io::Result<Sample> {
+    let (shared, free) = PlainShared::new(rt, load.seats())?;
+    ours(rt, load, PlainPlaces::new(&shared, free))
+}
+
+/// Our mutex and condvars.
+fn ours<R: Threads + Sync + Wait + Clock + AllocGlobal, S: Places>(
     rt: &R,
     load: Load,
-    caller: Participant,
-    places: Places,
+    mut places: S,
+) -> io::Result<Sample> {
+    let caller = places.next(Side::Second)?;
+    let mut others = Vec::new(rt.alloc());
+    for _ in 0..load.threads {
+        others.push(places.next(Side::First)?)?;
+    }
+    Ok(our_round(rt, load, caller, others)?)
+}
+
+/// A round of the caller and the other threads.
+fn our_round<R: Threads + Sync + Wait + Clock, P: Participant>(
+    rt: &R,
+    load: Load,
+    caller: P,
+    others: Vec<P>,
 ) -> Result<Sample, AllocError> {
-    let rest = Mutex::new(places);
     let times = Times::new(rt);
-    let (shared_rest, shared_times) = (&rest, &times);
+    let shared_times = &times;
     let (calls, holds) = join(
         rt,
         move || our_calls(rt, load, shared_times, caller),
-        move || all_our_holds(rt, load, shared_times, shared_rest),
+        move || map_vec(rt, others, &|one| our_holds(rt, load, shared_times, one)),
     );
     Ok(sample(load, calls, &holds?))
 }
 
-/// How often each thread held.
-fn all_our_holds<R: Threads + Sync + Wait + Clock + AllocGlobal>(
+/// How often one thread held.
+fn our_holds<R: Wait + Clock, P: Participant>(
     rt: &R,
     load: Load,
     times: &Times,
-    places: &Mutex<Places>,
-) -> Result<Vec<u64>, AllocError> {
-    map_indices(
-        rt,
-        rt.alloc(),
-        load.threads as usize,
-        &|_| our_part(rt, load, times, places),
-    )
-}
-
-/// Takes the place of one thread. Returns how often the thread held.
-fn our_part<R: Wait + Clock>(rt: &R, load: Load, times: &Times, places: &Mutex<Places>) -> u64 {
-    let taken = places.lock(rt).next(Side::First);
-    match taken {
-        Ok(one) => our_holds(rt, load, times, one),
-        Err(_) => 0,
-    }
-}
-
-/// How often one thread held.
-fn our_holds<R: Wait + Clock>(rt: &R, load: Load, times: &Times, mut one: Participant) -> u64 {
+    mut one: P,
+) -> u64 {
     let mut held = 0u64;
     one.lock(rt);
     for broadcast in 0..=load.broadcasts {
-        let number = one.wait_and_apply(rt, Operation::AddOneTo(load.made(broadcast)));
+        let due = Operation::AddOneTo(load.made(broadcast));
+        let number = wait_and_apply(rt, &mut one, due);
         if number.is_none() {
             break;
         }
@@ -192,18 +199,23 @@ fn our_holds<R: Wait + Clock>(rt: &R, load: Load, times: &Times, mut one: Partic
 }
 
 /// The caller's broadcasts.
-fn our_calls<R: Wait + Clock>(rt: &R, load: Load, times: &Times, mut caller: Participant) -> Calls {
+fn our_calls<R: Wait + Clock, P: Participant>(
+    rt: &R,
+    load: Load,
+    times: &Times,
+    mut caller: P,
+) -> Calls {
     let mut nanoseconds = 0u64;
     let mut woken = 0u64;
     caller.lock(rt);
-    let mut number = caller.wait_and_apply(rt, Operation::ReadFrom(load.ended(0)));
+    let mut number = wait_and_apply(rt, &mut caller, Operation::ReadFrom(load.ended(0)));
     for broadcast in 0..load.broadcasts {
         thread::sleep(rt, Duration::from_micros(SETTLING));
         caller.apply(Operation::AddOneTo(0));
         let called = times.now(rt);
         woken = woken.wrapping_add(caller.wake_all(rt));
         let due = load.ended(broadcast.wrapping_add(1));
-        number = caller.wait_and_apply(rt, Operation::ReadFrom(due));
+        number = wait_and_apply(rt, &mut caller, Operation::ReadFrom(due));
         if number.is_none() {
             break;
         }

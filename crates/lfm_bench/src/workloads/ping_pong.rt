@@ -5,13 +5,18 @@ ghost use Rattle.std.specs.Prelude.{◌≡◌, ◌*◌, ◌%◌, ◌^◌, Some, 
 use crate::measure::clocks::{now, since};
 use crate::measure::{Gate, Round, Sample};
 use crate::peers::guarded::Operation;
+use crate::peers::morphing::{MorphingPlaces, MorphingShared};
 use crate::peers::ours::Locking;
-use crate::peers::participants::{Participant, Places, Shared, Side};
+use crate::peers::participants::{Participant, Places, Side, lock_and_apply};
+use crate::peers::plain::{PlainPlaces, PlainShared};
 use crate::peers::standard::wait_until;
 use std::io;
 use std::sync::{Condvar, Mutex, Wait};
 use std::thread::{Threads, join};
 use std::time::Clock;
+
+/// How many seats there are: one for each of the two threads, and one that reads the number after them.
+const SEATS: u64 = 3;
 
 /// What one thread did.
 #[derive(Clone, Copy)]
@@ -38,35 +43,50 @@ pub fn round<R: Threads + Sync + Wait + Clock + AllocGlobal>(
     turns: u64,
 ) -> io::Result<Round> {
     Ok(Round {
-        in_order: Some(ours(rt, turns, Locking::InOrder)?),
-        barging: Some(ours(rt, turns, Locking::Barging)?),
+        in_order: Some(morphing(rt, turns, Locking::InOrder)?),
+        barging: Some(morphing(rt, turns, Locking::Barging)?),
+        plain: Some(plain(rt, turns)?),
         standard: Some(standard(rt, turns)),
         ..Round::NONE
     })
 }
 
-/// Our mutex and condvars, with this number of turns of each thread. The number is read after them.
-fn ours<R: Threads + Sync + Wait + Clock + AllocGlobal>(
+/// Our mutex and condvars that morph waits, with this number of turns of each thread.
+fn morphing<R: Threads + Sync + Wait + Clock + AllocGlobal>(
     rt: &R,
     turns: u64,
     locking: Locking,
 ) -> io::Result<Sample> {
-    let (shared, free) = Shared::new(rt, 3)?;
-    let mut places = Places::new(&shared, free, locking);
+    let (shared, free) = MorphingShared::new(rt, SEATS)?;
+    ours(rt, turns, MorphingPlaces::new(&shared, free, locking))
+}
+
+/// Our mutex and plain condvars, with this number of turns of each thread.
+fn plain<R: Threads + Sync + Wait + Clock + AllocGlobal>(rt: &R, turns: u64) -> io::Result<Sample> {
+    let (shared, free) = PlainShared::new(rt, SEATS)?;
+    ours(rt, turns, PlainPlaces::new(&shared, free))
+}
+
+/// Our mutex and condvars, with this number of turns of each thread. The number is read after them.
+fn ours<R: Threads + Sync + Wait + Clock, S: Places>(
+    rt: &R,
+    turns: u64,
+    mut places: S,
+) -> io::Result<Sample> {
     let mut reader = places.next(Side::First)?;
     let first = places.next(Side::First)?;
     let second = places.next(Side::Second)?;
     let (ping, pong) = our_pair(rt, turns, first, second);
-    let number = reader.lock_and_apply(rt, Operation::ReadFrom(0));
+    let number = lock_and_apply(rt, &mut reader, Operation::ReadFrom(0));
     Ok(sample(ping, pong, turns, number))
 }
 
 /// The turns of two participants. The first participant takes the first turn.
-fn our_pair<R: Threads + Sync + Wait + Clock>(
+fn our_pair<R: Threads + Sync + Wait + Clock, P: Participant>(
     rt: &R,
     turns: u64,
-    first: Participant,
-    second: Participant,
+    first: P,
+    second: P,
 ) -> (TurnsTaken, TurnsTaken) {
     let gate = Gate::new(2);
     let start = &gate;
@@ -78,22 +98,20 @@ fn our_pair<R: Threads + Sync + Wait + Clock>(
 }
 
 /// The turns of one participant, of which it takes the first when the number is this.
-fn our_turns<R: Wait + Clock>(
+fn our_turns<R: Wait + Clock, P: Participant>(
     rt: &R,
     gate: &Gate,
     turns: u64,
     first: u64,
-    mut participant: Participant,
+    mut participant: P,
 ) -> TurnsTaken {
     let mut made = 0u64;
     gate.pass();
     let start = now(rt);
     for turn in 0..turns {
         let due = turn.wrapping_mul(2).wrapping_add(first);
-        if participant
-            .lock_and_apply(rt, Operation::AddOneTo(due))
-            .is_some()
-        {
+        let number = lock_and_apply(rt, &mut participant, Operation::AddOneTo(due));
+        if number.is_some() {
             made = made.wrapping_add(1);
         }
     }

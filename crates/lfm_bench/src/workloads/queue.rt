@@ -7,8 +7,10 @@ ghost use Rattle.lfm_bench.specs.Deliveries.{CountUp, IsEachOnce};
 use crate::measure::clocks::{now, since};
 use crate::measure::{Gate, Round, Sample};
 use crate::peers::guarded::{Operation, Queue};
+use crate::peers::morphing::{MorphingParticipant, MorphingPlaces, MorphingShared};
 use crate::peers::ours::Locking;
-use crate::peers::participants::{Participant, Places, Shared, Side};
+use crate::peers::participants::{Places, Side, lock_and_apply};
+use crate::peers::plain::{PlainParticipant, PlainPlaces, PlainShared};
 use std::alloc::{AllocError, Global};
 use std::io;
 use std::sync::{Condvar, Mutex, Wait};
@@ -24,6 +26,13 @@ pub struct Load {
     pub numbers: u64,
 }
 
+impl Load {
+    /// How many threads there are together.
+    fn all_threads(self) -> u64 {
+        self.threads.saturating_mul(2)
+    }
+}
+
 /// A thread that puts numbers in or takes them out.
 trait Mover {
     /// Puts this number in, as soon as there is room. Returns whether it was put in.
@@ -33,15 +42,27 @@ trait Mover {
     fn take<R: Wait>(&mut self, rt: &R) -> Option<u64>;
 }
 
-impl Mover for Participant<'_> {
+impl Mover for MorphingParticipant<'_> {
     /// In one hold of our mutex.
     fn put<R: Wait>(&mut self, rt: &R, number: u64) -> bool {
-        self.lock_and_apply(rt, Operation::Put(number)).is_some()
+        lock_and_apply(rt, self, Operation::Put(number)).is_some()
     }
 
     /// In one hold of our mutex.
     fn take<R: Wait>(&mut self, rt: &R) -> Option<u64> {
-        self.lock_and_apply(rt, Operation::Take)
+        lock_and_apply(rt, self, Operation::Take)
+    }
+}
+
+impl Mover for PlainParticipant<'_> {
+    /// In one hold of our mutex.
+    fn put<R: Wait>(&mut self, rt: &R, number: u64) -> bool {
+        lock_and_apply(rt, self, Operation::Put(number)).is_some()
+    }
+
+    /// In one hold of our mutex.
+    fn take<R: Wait>(&mut self, rt: &R) -> Option<u64> {
+        lock_and_apply(rt, self, Operation::Take)
     }
 }
 
@@ -101,21 +122,39 @@ pub fn round<R: Threads + Sync + Wait + Clock + AllocGlobal>(
     load: Load,
 ) -> io::Result<Round> {
     Ok(Round {
-        in_order: Some(ours(rt, load, Locking::InOrder)?),
-        barging: Some(ours(rt, load, Locking::Barging)?),
+        in_order: Some(morphing(rt, load, Locking::InOrder)?),
+        barging: Some(morphing(rt, load, Locking::Barging)?),
+        plain: Some(plain(rt, load)?),
         standard: Some(standard(rt, load)?),
         ..Round::NONE
     })
 }
 
-/// Our mutex and condvars.
-fn ours<R: Threads + Sync + Wait + Clock + AllocGlobal>(
+/// Our mutex and condvars that morph waits.
+fn morphing<R: Threads + Sync + Wait + Clock + AllocGlobal>(
     rt: &R,
     load: Load,
     locking: Locking,
 ) -> io::Result<Sample> {
-    let (shared, free) = Shared::new(rt, load.threads.saturating_mul(2))?;
-    let mut places = Places::new(&shared, free, locking);
+    let (shared, free) = MorphingShared::new(rt, load.all_threads())?;
+    ours(rt, load, MorphingPlaces::new(&shared, free, locking))
+}
+
+/// Our mutex and plain condvars.
+fn plain<R: Threads + Sync + Wait + Clock + AllocGlobal>(rt: &R, load: Load) -> io::Result<Sample> {
+    let (shared, free) = PlainShared::new(rt, load.all_threads())?;
+    ours(rt, load, PlainPlaces::new(&shared, free))
+}
+
+/// Our mutex and condvars.
+fn ours<R: Threads + Sync + Wait + Clock + AllocGlobal, S: Places>(
+    rt: &R,
+    load: Load,
+    mut places: S,
+) -> io::Result<Sample>
+where
+    S::One: Mover,
+{
     let mut movers = Vec::new(rt.alloc());
     for place in 0..load.threads {
         let first = place.wrapping_mul(load.numbers);
@@ -150,7 +189,7 @@ fn moved<R: Threads + Sync + Wait + Clock + AllocGlobal, M: Mover + Send + Drop>
     load: Load,
     movers: Vec<(M, Task)>,
 ) -> Result<Sample, AllocError> {
-    let gate = Gate::new(load.threads.saturating_mul(2));
+    let gate = Gate::new(load.all_threads());
     let shared = &gate;
     let alloc = rt.alloc();
     let deliveries = map_vec(

@@ -1,6 +1,6 @@
 use Rattle.std.proofs.Common.{length}
 use Rattle.lfm_mutex.proofs.ends.Ends.{was_last, was_there}
-use Rattle.lfm_bench.proofs.peers.participants.last_cond_seat.Goals as goal
+use Rattle.lfm_bench.proofs.peers.morphing.last_cond_seat.Goals as goal
 
 pub returns-clause-one : goal.returns-clause-one
 returns-clause-one c = c.requires (length c.pop.new.self.items) c.in_ok-seat.seat (was_last _ _ c.in_ok-seat.seat c.in_ok-seat.ensures.items)

@@ -1,5 +1,5 @@
 use Rattle.std.proofs.Common.{◌∙◌, ap}
-use Rattle.lfm_bench.proofs.peers.participants.Participant.apply.Goals as goal
+use Rattle.lfm_bench.proofs.peers.plain.PlainParticipantParticipant.apply.Goals as goal
 
 pub invariant_of-self-clause-of_mutex : goal.invariant_of-self-clause-of_mutex
 invariant_of-self-clause-of_mutex c =

@@ -1,7 +1,7 @@
 use Rattle.std.proofs.Common.{◌∙◌, ap, subst, sym}
 use Rattle.lfm_condvar.specs.Belongs.{cond_sight}
 use Rattle.lfm_condvar.specs.Holds.{MadeFor}
-use Rattle.lfm_bench.proofs.peers.participants.new_condvar.Goals as goal
+use Rattle.lfm_bench.proofs.peers.morphing.new_condvar.Goals as goal
 
 -- which condvar the seats belong to does not depend on the pace
 pub returns-clause-seats : goal.returns-clause-seats

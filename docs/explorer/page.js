@@ -165,16 +165,21 @@ function startFree() {
   load(graphs.whole, 'seats ' + graphs.whole.seats);
 }
 
+function endTask() {
+  view.task = null;
+  if ($('examples').value === 'task') $('examples').value = '';
+}
+
 // shows an edited schedule. One that does not go on from the start of the task ends the task
 function editSchedule() {
   const graph = view.graph.kind === 'path' ? graphs.whole : view.graph, schedule = $('schedule').value;
-  if (!goesOn(view.path.slice(0, view.given), follow(graph, schedule).path)) view.task = null;
+  if (!goesOn(view.path.slice(0, view.given), follow(graph, schedule).path)) endTask();
   load(graph, schedule);
 }
 
 function startTask(number) {
   view.task = tasks[number];
-  $('examples').value = '';
+  $('examples').value = 'task';
   const { graph, schedule } = view.task, { path } = follow(graph, `seats ${graph.seats}\n${schedule}`);
   Object.assign(view, { graph, path, given: path.length });
   $('fault').textContent = '';
@@ -297,7 +302,9 @@ function listen() {
   $('slider').oninput = () => goTo(Number($('slider').value));
   $('schedule').onchange = editSchedule;
   $('copy').onclick = copySchedule;
-  $('examples').innerHTML = options('a free mutex', examples.map(({ title }, i) => `${i + 1}. ${title}`));
+  // a task is not chosen here: the list shows that one was started
+  $('examples').innerHTML = options('a free mutex', examples.map(({ title }, i) => `${i + 1}. ${title}`))
+    + '<option value="task" hidden>the task shown here</option>';
   listenToList($('examples'), value => value === '' ? startFree() : startExample(Number(value)));
   const ways = WAYS.filter(([, isWanted]) => hasEvent(graphs.whole, isWanted));
   $('ways').innerHTML = options('the shortest way to …', ways.map(([name]) => name));

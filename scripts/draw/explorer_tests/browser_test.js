@@ -146,6 +146,17 @@ test('the list leads from a wrong mutex to the free one', async () => {
   assert.deepStrictEqual(await browser.run('[view.graph.kind, view.path.length]'), ['whole', 0]);
 });
 
+test('the list says that a task was started, and leads from it to the free mutex', async () => {
+  const listed = () => browser.run(`document.getElementById('examples').value`);
+  await browser.run('startTask(1)');
+  assert.strictEqual(await listed(), 'task');
+  await writeSchedule(['seats 2 2', '2 lock']);
+  assert.strictEqual(await listed(), '');
+  await browser.run('startTask(1)');
+  await choose('examples', '');
+  assert.deepStrictEqual(await browser.run('[view.task, view.path.length]'), [null, 0]);
+});
+
 test('a row is a way back', async () => {
   await chooseTitle('Both see each other: the locker wins');
   await browser.key('End', 'End');

@@ -7,7 +7,7 @@ use Rattle.lfm_table.specs.declared.seat_view.View.{View}
 use Rattle.lfm_pool.specs.declared.ask.Asking.{Asking}
 use Rattle.lfm_pool.specs.declared.finish_ask.Finished.{Finished}
 use Rattle.lfm_pool.specs.declared.pool.Pool.{Pool}
-use Rattle.lfm_pool.specs.declared.pool.PoolSeat.{PoolSeat}
+use Rattle.lfm_pool.specs.declared.pool.TableSeat.{TableSeat}
 use Rattle.lfm_pool.specs.Ask.{AsksIn, MakesBesideFailuresIn}
 use Rattle.lfm_pool.specs.AskAll.{TakesOverAllIn}
 use Rattle.lfm_pool.specs.Belongs.{SameSeat}
@@ -26,7 +26,7 @@ finished_anywhere : (result : Finished) (x : SeatState) (q : Point) → finished
 finished_anywhere (Finished.Held stamp) x q = refl
 finished_anywhere (Finished.Granted r) x q = refl
 
-module _ (s t u : PoolSeat) (p : Pool) (m : ℕ) (may : MayStepIn s p m) (same : SameSeat s t) (asks : AsksIn s t m Asking.Carries) (result : Finished) (ends : FinishesIn result t u p m) where
+module _ (s t u : TableSeat) (p : Pool) (m : ℕ) (may : MayStepIn s p m) (same : SameSeat s t) (asks : AsksIn s t m Asking.Carries) (result : Finished) (ends : FinishesIn result t u p m) where
   pub takes_all : TakesOverAllIn result s u p m
   takes_all =
       let x = state_of s m in
@@ -53,7 +53,7 @@ module _ (s t u : PoolSeat) (p : Pool) (m : ℕ) (may : MayStepIn s p m) (same :
 
 -- The number of steps
 
-pub all_bounded : (s u : PoolSeat) (p : Pool) (m : ℕ) → MayStepIn s p m → (result : Finished) → TakesOverAllIn result s u p m → MakesBesideFailuresIn (10 + length (popped_of u m)) s u m
+pub all_bounded : (s u : TableSeat) (p : Pool) (m : ℕ) → MayStepIn s p m → (result : Finished) → TakesOverAllIn result s u p m → MakesBesideFailuresIn (10 + length (popped_of u m)) s u m
 all_bounded s u p m may result all =
     let a = all.3.0 in
     let now = part_now s.number s.place.id m p.limits s.place.me u.place.me u.place.me (inside s u p m may) all.0 all.1 all.2 in

@@ -1,7 +1,7 @@
 -- The calls of a seat of any depth: what holds of the seat before and after them.
 use Rattle.std.proofs.Common.{◌≡◌, ◌≢◌, ℕ, ◌+◌, ◌-◌, ◌*◌, ◌<◌, ◌≤◌, List, [], ◌++◌, length, Option, Some, None, refl, sym, ap, ◌∙◌, subst, inl, inr, arith, append-nil, length-append}
 use Rattle.std.specs.Prelude.{⊤, Bool, IfOk, true, false, Result, Ok, Err}
-use Rattle.std.proofs.lemmas.Bool.{cases_eq, false≢true}
+use Rattle.std.proofs.lemmas.Bool.{cases_eq}
 use Rattle.atomic_table.specs.Table.{Me}
 use Rattle.lfm_model.specs.declared.answers.Asked.{Asked}
 use Rattle.lfm_model.specs.declared.answers.How.{How}
@@ -17,7 +17,7 @@ use Rattle.lfm_table.specs.declared.seat_view.View.{View}
 use Rattle.lfm_table.proofs.tables.StepFacts.{became_depth}
 use Rattle.lfm_pool.specs.declared.ask.Asking.{Asking}
 use Rattle.lfm_pool.specs.declared.pool.Pool.{Pool}
-use Rattle.lfm_pool.specs.declared.pool.PoolSeat.{PoolSeat}
+use Rattle.lfm_pool.specs.declared.pool.TableSeat.{TableSeat}
 use Rattle.lfm_pool.specs.declared.finish_ask.Finished.{Finished}
 use Rattle.lfm_pool.specs.declared.unlock.Released.{Released}
 use Rattle.lfm_pool.specs.declared.unlock.Unlocking.{Unlocking}
@@ -25,10 +25,10 @@ use Rattle.lfm_pool.specs.declared.view.Note.{Note}
 use Rattle.lfm_pool.specs.declared.view.PoolView.{PoolView}
 use Rattle.lfm_pool.specs.Ask.{AskSteps, AsksIn, MakesBesideFailuresIn, asked, failed_pushes}
 use Rattle.lfm_pool.specs.AskAll.{AsksAllIn, IsReadyAsked, TakesOverAllIn}
-use Rattle.lfm_pool.specs.Belongs.{IsMutex, IsNew, OfPool, SameSeat}
-use Rattle.lfm_pool.specs.AnyDepth.{AsksAtAnyDepth, IsAtRest, IsAwayIn, IsBetweenCalls, TriesAtAnyDepth, UnlocksAtAnyDepth, sleeps_after}
+use Rattle.lfm_pool.specs.Belongs.{IsMutex, OfPool, SameSeat}
+use Rattle.lfm_pool.specs.AnyDepth.{AsksAtAnyDepth, IsAtRest, IsAwayIn, IsPlacedBy, TriesAtAnyDepth, UnlocksAtAnyDepth}
 use Rattle.lfm_pool.specs.SeatWords.{Sleeps}
-use Rattle.lfm_pool.specs.declared.calls.Release.{Release}
+use Rattle.lfm_pool.specs.declared.any_depth.Release.{Release}
 use Rattle.lfm_pool.specs.Chain.{deep, first_seat, note_since, rested}
 use Rattle.lfm_pool.specs.Depths.{AskAgainSteps, DeepensBy, GivesUpIn, HasDepth, HasDepthIn, TryAgainSteps}
 use Rattle.lfm_pool.specs.FastPaths.{KnowsMoreOf, Leaves}
@@ -37,7 +37,7 @@ use Rattle.lfm_pool.specs.Handoff.{recounted}
 use Rattle.lfm_pool.specs.Receive.{ReceivedIn}
 use Rattle.lfm_pool.specs.Moves.{Made, MakesAtMostIn, MayStepIn}
 use Rattle.lfm_pool.specs.Seats.{HoldsOnceIn, MayTryIn, RestsInOthers, popped_of, state_of}
-use Rattle.lfm_pool.specs.Steps.{RestsElsewhere, Sits, state_at, state_in}
+use Rattle.lfm_pool.specs.Steps.{Sits, state_at, state_in}
 use Rattle.lfm_pool.specs.Tables.{note, part, rests_at, with_part}
 use Rattle.lfm_pool.specs.TryLock.{AcceptSteps, StepsIfPosted, TriesIn, TrySteps, tried}
 use Rattle.lfm_pool.specs.Unlock.{Hands, PassesOn, PassesOnIn, ReleasesIn, UnlocksIn}
@@ -50,7 +50,7 @@ use Rattle.lfm_pool.proofs.SeveralSteps.{inside, state_after}
 once_noted : (popped : List Record) → rested popped ≡ deep (1 - 1) popped
 once_noted popped = let e : first_seat popped ≡ (1 - 1) * seat_field_size + first_seat popped = omega arith in λ i. record (rested popped) { carried = e i }
 
-pub has_one : (s : PoolSeat) (p : Pool) (m : ℕ) → HoldsOnceIn s p m → HasDepthIn s p m 1
+pub has_one : (s : TableSeat) (p : Pool) (m : ℕ) → HoldsOnceIn s p m → HasDepthIn s p m 1
 has_one s p m holds = record {
   sits = holds.sits;
   now = holds.now;
@@ -59,7 +59,7 @@ has_one s p m holds = record {
   noted = λ above. holds.noted ∙ once_noted (popped_of s m);
 }
 
-pub holds_one : (s : PoolSeat) (p : Pool) (m : ℕ) → HasDepthIn s p m 1 → HoldsOnceIn s p m
+pub holds_one : (s : TableSeat) (p : Pool) (m : ℕ) → HasDepthIn s p m 1 → HoldsOnceIn s p m
 holds_one s p m has = record {
   sits = has.sits;
   now = has.now;
@@ -76,7 +76,7 @@ has_none number id p v k sits rests flat = record {
   noted = λ above. absurd (omega (arith, above));
 }
 
-pub may_try_flat : (s : PoolSeat) (p : Pool) (m : ℕ) → HasDepthIn s p m 0 → (state_of s m).takes < p.limits.budget → MayTryIn s p m
+pub may_try_flat : (s : TableSeat) (p : Pool) (m : ℕ) → HasDepthIn s p m 0 → (state_of s m).takes < p.limits.budget → MayTryIn s p m
 may_try_flat s p m has charged = record {
   sits = has.sits;
   rests = has.rests;
@@ -84,35 +84,25 @@ may_try_flat s p m has charged = record {
   charged = charged;
 }
 
--- a new seat is between two calls
-pub new_between : (s : PoolSeat) (p : Pool) (number : ℕ) → OfPool s p → IsNew number p s → IsBetweenCalls s p
-new_between s p number belongs new = record {
-  awake = λ e. record {
-    belongs = belongs;
-    depths = λ m less. let may = new.may_try m less in (0, has_none s.number s.place.id p (part s.place.me.0 m) (note s.place.me.0 m) may.sits may.rests may.flat);
-  };
-  sleeps = λ e. absurd (false≢true (sym new.awake ∙ e));
-}
-
--- Between two calls
+-- A seat at rest
 
 -- what a seat knows of a mutex at which it is at rest does not depend on more than this
 abbrev pub DepthFrom : ℕ × ℕ × Me ℕ PoolView → Pool → ℕ → ℕ → Type 0
 DepthFrom z p m depth = HasDepth z.0 z.1 p.limits (part z.2.0 m) (note z.2.0 m) depth
 
-abbrev pub from_of : PoolSeat → ℕ × ℕ × Me ℕ PoolView
+abbrev pub from_of : TableSeat → ℕ × ℕ × Me ℕ PoolView
 from_of s = (s.number, s.place.id, s.place.me)
 
-pub same_from : (s t : PoolSeat) → SameSeat s t → t.place.me ≡ s.place.me → from_of t ≡ from_of s
+pub same_from : (s t : TableSeat) → SameSeat s t → t.place.me ≡ s.place.me → from_of t ≡ from_of s
 same_from s t same knows = λ i. (same.number i, same.id i, knows i)
 
-pub rest_then : (s t : PoolSeat) (p : Pool) → IsAtRest s p → SameSeat s t → t.place.me ≡ s.place.me → IsAtRest t p
+pub rest_then : (s t : TableSeat) (p : Pool) → IsAtRest s p → SameSeat s t → t.place.me ≡ s.place.me → IsAtRest t p
 rest_then s t p rest same knows = record {
   belongs = record { table = same.table ∙ rest.belongs.table; parts = same.parts ∙ rest.belongs.parts };
   depths = λ m less. let d = rest.depths m less in (d.0, subst (λ (z : ℕ × ℕ × Me ℕ PoolView). DepthFrom z p m d.0) (sym (same_from s t same knows)) d.1);
 }
 
-module _ (s : PoolSeat) (p : Pool) (rest : IsAtRest s p) where
+module _ (s : TableSeat) (p : Pool) (rest : IsAtRest s p) where
   pub others_rest : (m : ℕ) → RestsInOthers s m
   others_rest m n less other = let parts = rest.belongs.parts in ap rests_at (rest.depths n (omega (arith, parts, less))).1.rests
 
@@ -120,7 +110,7 @@ module _ (s : PoolSeat) (p : Pool) (rest : IsAtRest s p) where
   may_at_rest m less = record { belongs = rest.belongs; mutex = less; sits = (rest.depths m less).1.sits; elsewhere = others_rest m }
 
 -- a call in mutex m changes nothing in the others
-module _ (s t : PoolSeat) (p : Pool) (m : ℕ) (belongs : OfPool s p) (less : IsMutex m p) (others : (n : ℕ) → IsMutex n p → n ≢ m → (depth : ℕ) × HasDepthIn s p n depth) (same : SameSeat s t)
+module _ (s t : TableSeat) (p : Pool) (m : ℕ) (belongs : OfPool s p) (less : IsMutex m p) (others : (n : ℕ) → IsMutex n p → n ≢ m → (depth : ℕ) × HasDepthIn s p n depth) (same : SameSeat s t)
     (w : View ⊤) (k : Note) (knows : t.place.me ≡ (with_part s.place.me.0 m w k, s.place.me.1)) where
   here : m < length s.place.me.0.parts
   here = let parts = belongs.parts in omega (arith, parts, less)
@@ -152,56 +142,32 @@ module _ (s t : PoolSeat) (p : Pool) (m : ℕ) (belongs : OfPool s p) (less : Is
   pub away_after : MayStepIn t p m → IsAwayIn t p m
   away_after may = record { may = may; depths = other_depth }
 
--- What a seat says of itself
-
-pub awake_rests : (t : PoolSeat) (p : Pool) → t.asleep ≡ false → IsAtRest t p → IsBetweenCalls t p
-awake_rests t p awake rest = record { awake = λ e. rest; sleeps = λ e. absurd (false≢true (sym awake ∙ e)) }
-
--- a seat in which only that has changed
-pub rest_said : (s t : PoolSeat) (p : Pool) → t.place ≡ s.place → t.number ≡ s.number → IsAtRest s p → IsAtRest t p
-rest_said s t p place number rest = record {
-  belongs = record { table = (λ i. (place i).table_id) ∙ rest.belongs.table; parts = (λ i. length (place i).me.0.parts) ∙ rest.belongs.parts };
-  depths = λ m less. let d = rest.depths m less in (d.0, subst (λ (z : ℕ × ℕ × Me ℕ PoolView). DepthFrom z p m d.0) (λ i. (sym number i, sym (λ j. (place j).id) i, sym (λ j. (place j).me) i)) d.1);
-}
-
-pub away_said : (s t : PoolSeat) (p : Pool) (m : ℕ) → t.place ≡ s.place → t.number ≡ s.number → IsAwayIn s p m → IsAwayIn t p m
-away_said s t p m place number away = record {
-  may = record {
-    belongs = record { table = (λ i. (place i).table_id) ∙ away.may.belongs.table; parts = (λ i. length (place i).me.0.parts) ∙ away.may.belongs.parts };
-    mutex = away.may.mutex;
-    sits = subst (λ (z : ℕ × ℕ × Me ℕ PoolView). Sits z.0 z.1 p.limits (state_in z.2.0 m) (part z.2.0 m)) (λ i. (sym number i, sym (λ j. (place j).id) i, sym (λ j. (place j).me) i)) away.may.sits;
-    elsewhere = subst (λ (z : Me ℕ PoolView). RestsElsewhere z.0 m) (λ i. sym (λ j. (place j).me) i) away.may.elsewhere;
-  };
-  depths = λ n less other. let d = away.depths n less other in
-      (d.0, subst (λ (z : ℕ × ℕ × Me ℕ PoolView). DepthFrom z p n d.0) (λ i. (sym number i, sym (λ j. (place j).id) i, sym (λ j. (place j).me) i)) d.1);
-}
-
 -- What a call tells of a seat of which nothing has changed since, before it
 
-abbrev pub TriesFrom : ℕ × ℕ × Me ℕ PoolView → PoolSeat → ℕ → Result Locked Refusal → Type 0
+abbrev pub TriesFrom : ℕ × ℕ × Me ℕ PoolView → TableSeat → ℕ → Result Locked Refusal → Type 0
 TriesFrom z u m result =
     (new : List Seen) × TrySteps z.0 result new
     × KnowsMoreOf m (λ w k. Made new (tried result (state_in z.2.0 m)) (part z.2.0 m) w × (k ≡ note_since w (note z.2.0 m))) z.2 u.place.me
 
-module _ (s t u : PoolSeat) (p : Pool) (m : ℕ) (same : SameSeat s t) (knows : t.place.me ≡ s.place.me) where
+module _ (s t u : TableSeat) (p : Pool) (m : ℕ) (same : SameSeat s t) (knows : t.place.me ≡ s.place.me) where
   pub tries_then : (result : Result Locked Refusal) → TriesIn t u m result → TriesIn s u m result
   tries_then result did = subst (λ (z : ℕ × ℕ × Me ℕ PoolView). TriesFrom z u m result) (same_from s t same knows) did
 
-abbrev pub AsksFrom : ℕ × ℕ × Me ℕ PoolView → PoolSeat → ℕ → Asking → Type 0
+abbrev pub AsksFrom : ℕ × ℕ × Me ℕ PoolView → TableSeat → ℕ → Asking → Type 0
 AsksFrom z u m asking =
     (new : List Seen) × AskSteps asking z.0 new
     × KnowsMoreOf m (λ w k. Made new (asked asking z.0 (part u.place.me.0 m).popped (state_in z.2.0 m)) (part z.2.0 m) w × (k ≡ note_since w (note z.2.0 m))) z.2 u.place.me
 
-abbrev pub DeepensFrom : ℕ × ℕ × Me ℕ PoolView → (ℕ → List Seen → Type 0) → PoolSeat → Pool → ℕ → ℕ → Type 0
+abbrev pub DeepensFrom : ℕ × ℕ × Me ℕ PoolView → (ℕ → List Seen → Type 0) → TableSeat → Pool → ℕ → ℕ → Type 0
 DeepensFrom z steps u p m depth =
     KnowsMoreOf m
     (λ w k. ((new : List Seen) × steps z.0 new × Made new (record (state_in z.2.0 m) { depth = depth }) (part z.2.0 m) w) × HasDepth z.0 z.1 p.limits w k depth)
     z.2 u.place.me
 
-abbrev pub GivesUpFrom : ℕ × ℕ × Me ℕ PoolView → PoolSeat → Pool → ℕ → ℕ → Type 0
+abbrev pub GivesUpFrom : ℕ × ℕ × Me ℕ PoolView → TableSeat → Pool → ℕ → ℕ → Type 0
 GivesUpFrom z u p m depth = KnowsMoreOf m (λ w k. (w ≡ part z.2.0 m) × HasDepth z.0 z.1 p.limits w k depth) z.2 u.place.me
 
-abbrev pub TakesOverFrom : Finished → ℕ × ℕ × Me ℕ PoolView → PoolSeat → Pool → ℕ → Type 0
+abbrev pub TakesOverFrom : Finished → ℕ × ℕ × Me ℕ PoolView → TableSeat → Pool → ℕ → Type 0
 TakesOverFrom result z u p m =
     KnowsMoreOf m
     (λ w k.
@@ -210,17 +176,17 @@ TakesOverFrom result z u p m =
     × Sits z.0 z.1 p.limits w.state w × NotesFinished result k w.popped)
     z.2 u.place.me
 
-abbrev pub LeavesFrom : ℕ × ℕ × Me ℕ PoolView → PoolSeat → Pool → ℕ → Type 0
+abbrev pub LeavesFrom : ℕ × ℕ × Me ℕ PoolView → TableSeat → Pool → ℕ → Type 0
 LeavesFrom z u p m = KnowsMoreOf m (λ w k. Leaves (part z.2.0 m) w × Sits z.0 z.1 p.limits w.state w) z.2 u.place.me
 
-abbrev pub HandsFrom : Record → ℕ × ℕ × Me ℕ PoolView → PoolSeat → Pool → ℕ → Type 0
+abbrev pub HandsFrom : Record → ℕ × ℕ × Me ℕ PoolView → TableSeat → Pool → ℕ → Type 0
 HandsFrom r z u p m = KnowsMoreOf m (λ w k. Hands r (part z.2.0 m) w × Sits z.0 z.1 p.limits w.state w) z.2 u.place.me
 
-abbrev pub PassesOnFrom : Released → ℕ × (ℕ × ℕ × Me ℕ PoolView) → PoolSeat → Pool → ℕ → Type 0
+abbrev pub PassesOnFrom : Released → ℕ × (ℕ × ℕ × Me ℕ PoolView) → TableSeat → Pool → ℕ → Type 0
 PassesOnFrom result z u p m =
     KnowsMoreOf m (λ w k. PassesOn result z.1.0 (part z.1.2.0 m) w × Sits z.1.0 z.1.1 p.limits w.state w) (record z.1.2.0 { posts = z.0 + 1 }, z.1.2.1) u.place.me
 
-module _ (s t u : PoolSeat) (p : Pool) (m : ℕ) (same : SameSeat s t) (knows : t.place.me ≡ s.place.me) where
+module _ (s t u : TableSeat) (p : Pool) (m : ℕ) (same : SameSeat s t) (knows : t.place.me ≡ s.place.me) where
   asks_then : (asking : Asking) → AsksIn t u m asking → AsksIn s u m asking
   asks_then asking did = subst (λ (z : ℕ × ℕ × Me ℕ PoolView). AsksFrom z u m asking) (same_from s t same knows) did
 
@@ -264,7 +230,7 @@ module _ (s t u : PoolSeat) (p : Pool) (m : ℕ) (same : SameSeat s t) (knows : 
 
 -- The seat after each call, which began at rest
 
-module _ (s t : PoolSeat) (p : Pool) (m : ℕ) (rest : IsAtRest s p) (less : IsMutex m p) (same : SameSeat s t) where
+module _ (s t : TableSeat) (p : Pool) (m : ℕ) (rest : IsAtRest s p) (less : IsMutex m p) (same : SameSeat s t) where
   may : MayStepIn s p m
   may = may_at_rest s p rest m less
 
@@ -297,7 +263,7 @@ module _ (s t : PoolSeat) (p : Pool) (m : ℕ) (rest : IsAtRest s p) (less : IsM
       rest_after s t p m rest.belongs less others same did.0 did.1 did.2 0
       (depth_after s t p m rest.belongs less others same did.0 did.1 did.2 0 (has_none s.number s.place.id p did.0 did.1 did.3.1 (ap (λ (x : SeatState). x.point) did.3.0.state) (ap (λ (x : SeatState). x.depth) did.3.0.state)))
 
-  abbrev one_more : PoolSeat
+  abbrev one_more : TableSeat
   one_more = recounted s (s.posts + 1)
 
   passed_rest : (result : Released) → PassesOnIn result s t p m → IsAtRest t p
@@ -322,37 +288,22 @@ module _ (s t : PoolSeat) (p : Pool) (m : ℕ) (rest : IsAtRest s p) (less : IsM
   served_rest : (result : Finished) → TakesOverAllIn result s t p m → HoldsOnceIn t p m → IsAtRest t p
   served_rest result did holds = rest_after s t p m rest.belongs less others same did.0 did.1 did.2 1 (has_one t p m holds)
 
-  -- the seat `u` is `t`, and says of itself whether it sleeps
-  module _ (u : PoolSeat) (place : u.place ≡ t.place) (number : u.number ≡ t.number) where
-    pub after_unlock : (result : Released) → ReleasesIn result s t p m → u.asleep ≡ false → IsBetweenCalls u p
-    after_unlock result did awake = awake_rests u p awake (rest_said t u p place number (released_rest result did))
-
-    sleeps_there : IsAwayIn t p m → Sleeps (state_of t m) → u.asleep ≡ true → IsBetweenCalls u p
-    sleeps_there away ready says = record {
-      awake = λ e. absurd (false≢true (sym e ∙ says));
-      sleeps = λ e. (m, away_said t u p m place number away, subst (λ (x : Me ℕ PoolView). Sleeps (state_in x.0 m)) (λ i. (sym place i).me) ready);
-    }
-
-    pub after_ask : (asked : Asked) (granted : Option Record) → AsksAllIn asked granted s t p m → MayStepIn t p m → IsReadyAsked asked t p m → u.asleep ≡ sleeps_after asked → IsBetweenCalls u p
-    after_ask (Asked.Held How.Free) None did later ready says = awake_rests u p says (rest_said t u p place number (held_rest did ready))
-    after_ask (Asked.Held (How.Queued stamp)) None did later ready says = awake_rests u p says (rest_said t u p place number (served_rest (Finished.Held stamp) did ready))
-    after_ask (Asked.Held How.Free) (Some r) did later ready says = absurd did
-    after_ask (Asked.Held (How.Queued stamp)) (Some r) did later ready says = absurd did
-    after_ask Asked.Asleep None did later ready says = sleeps_there (away_after s t p m rest.belongs less others same did.2.0 did.2.1 did.2.2 later) ready says
-    after_ask Asked.Asleep (Some r) did later ready says = sleeps_there (away_after s t p m rest.belongs less others same did.0 did.1 did.2 later) ready says
-    after_ask (Asked.Again depth) None did later ready says = absurd did
-    after_ask (Asked.Again depth) (Some r) did later ready says = absurd did
+  -- it sleeps there, or rests in every mutex
+  pub placed : (asked : Asked) (granted : Option Record) → AsksAllIn asked granted s t p m → MayStepIn t p m → IsReadyAsked asked t p m → IsPlacedBy (Ok asked) t p m
+  placed (Asked.Held How.Free) None did later ready = held_rest did ready
+  placed (Asked.Held (How.Queued stamp)) None did later ready = served_rest (Finished.Held stamp) did ready
+  placed (Asked.Held How.Free) (Some r) did later ready = absurd did
+  placed (Asked.Held (How.Queued stamp)) (Some r) did later ready = absurd did
+  placed Asked.Asleep None did later ready = (away_after s t p m rest.belongs less others same did.2.0 did.2.1 did.2.2 later, ready)
+  placed Asked.Asleep (Some r) did later ready = (away_after s t p m rest.belongs less others same did.0 did.1 did.2 later, ready)
+  placed (Asked.Again depth) None did later ready = absurd did
+  placed (Asked.Again depth) (Some r) did later ready = absurd did
 
 -- what a seat has been told of its depth holds of it after a load that changes nothing
-pub depth_then_at : (s t : PoolSeat) (p : Pool) (m depth : ℕ) → SameSeat s t → t.place.me ≡ s.place.me → HasDepthIn s p m depth → HasDepthIn t p m depth
+pub depth_then_at : (s t : TableSeat) (p : Pool) (m depth : ℕ) → SameSeat s t → t.place.me ≡ s.place.me → HasDepthIn s p m depth → HasDepthIn t p m depth
 depth_then_at s t p m depth same knows has = subst (λ (z : ℕ × ℕ × Me ℕ PoolView). DepthFrom z p m depth) (sym (same_from s t same knows)) has
 
 -- The answers
-
-module _ (s u : PoolSeat) (b : Bool) (c : u.place.me.0.posts ≡ u.posts) where
-  -- a seat in which only that has changed
-  pub same_said : SameSeat s u → SameSeat s (record u { asleep = b; counted = c })
-  same_said same = record { table = same.table; id = same.id; number = same.number; parts = same.parts }
 
 -- an answer that a try_lock of a seat gives which does not hold the mutex
 abbrev IsTryAnswer : Result Locked Refusal → Type 0
@@ -376,126 +327,89 @@ try_answers number result new steps =
       | inr h ↦ let later = h.3 in posted_answers (is_posted_word later.1) number later.1 result later.2 later.4
     ]
 
-module _ (s u : PoolSeat) (p : Pool) (m : ℕ) (awake : s.asleep ≡ false) (b : Bool) (c : u.place.me.0.posts ≡ u.posts) where
-  try_told_by : (result : Result Locked Refusal) → IsTryAnswer result → HasDepthIn s p m 0 → TriesIn s u m result → IfOk result (λ _. HoldsOnceIn u p m) → TriesAtAnyDepth result s (record u { asleep = b; counted = c }) p m
-  try_told_by (Ok (Locked.Held how)) is has did holds = (awake, has, did, has_one u p m holds)
-  try_told_by (Err Refusal.Busy) is has did holds = (awake, has, did)
+module _ (s u : TableSeat) (p : Pool) (m : ℕ) where
+  try_told_by : (result : Result Locked Refusal) → IsTryAnswer result → HasDepthIn s p m 0 → TriesIn s u m result → IfOk result (λ _. HoldsOnceIn u p m) → TriesAtAnyDepth result s u p m
+  try_told_by (Ok (Locked.Held how)) is has did holds = (has, did, has_one u p m holds)
+  try_told_by (Err Refusal.Busy) is has did holds = (has, did)
   try_told_by _ is has did holds = absurd is
 
-  pub try_told : (result : Result Locked Refusal) → HasDepthIn s p m 0 → TriesIn s u m result → IfOk result (λ _. HoldsOnceIn u p m) → TriesAtAnyDepth result s (record u { asleep = b; counted = c }) p m
+  pub try_told : (result : Result Locked Refusal) → HasDepthIn s p m 0 → TriesIn s u m result → IfOk result (λ _. HoldsOnceIn u p m) → TriesAtAnyDepth result s u p m
   try_told result has did holds = try_told_by result (try_answers s.number result did.0 did.1) has did holds
 
   -- a hold that was made deeper
-  pub again_told : (held deeper : ℕ) → deeper ≡ held + 1 → 0 < held → HasDepthIn s p m held → DeepensBy TryAgainSteps s u p m (held + 1) → TriesAtAnyDepth (Ok (Locked.Again deeper)) s (record u { asleep = b; counted = c }) p m
+  pub again_told : (held deeper : ℕ) → deeper ≡ held + 1 → 0 < held → HasDepthIn s p m held → DeepensBy TryAgainSteps s u p m (held + 1) → TriesAtAnyDepth (Ok (Locked.Again deeper)) s u p m
   again_told held deeper is above has did = (
-    awake,
     omega (arith, is, above),
     subst (λ (d : ℕ). HasDepthIn s p m d) (let e : held ≡ deeper - 1 = omega (arith, is) in e) has,
     subst (λ (d : ℕ). DeepensBy TryAgainSteps s u p m d) (sym is) did,
   )
 
-  pub asked_again : (held deeper : ℕ) → deeper ≡ held + 1 → 0 < held → HasDepthIn s p m held → DeepensBy AskAgainSteps s u p m (held + 1) → AsksAtAnyDepth (Ok (Asked.Again deeper)) None s (record u { asleep = b; counted = c }) p m
+  pub asked_again : (held deeper : ℕ) → deeper ≡ held + 1 → 0 < held → HasDepthIn s p m held → DeepensBy AskAgainSteps s u p m (held + 1) → AsksAtAnyDepth (Ok (Asked.Again deeper)) None s u p m
   asked_again held deeper is above has did = (
-    awake,
     omega (arith, is, above),
     subst (λ (d : ℕ). HasDepthIn s p m d) (let e : held ≡ deeper - 1 = omega (arith, is) in e) has,
     subst (λ (d : ℕ). DeepensBy AskAgainSteps s u p m d) (sym is) did,
   )
 
-  pub asked_first : (asked : Asked) (granted : Option Record) → HasDepthIn s p m 0 → AsksAllIn asked granted s u p m → IsReadyAsked asked u p m → AsksAtAnyDepth (Ok asked) granted s (record u { asleep = b; counted = c }) p m
-  asked_first (Asked.Held How.Free) None has did ready = (awake, has, did, ready)
-  asked_first (Asked.Held (How.Queued stamp)) None has did ready = (awake, has, did, ready)
+  pub asked_first : (asked : Asked) (granted : Option Record) → HasDepthIn s p m 0 → AsksAllIn asked granted s u p m → IsReadyAsked asked u p m → AsksAtAnyDepth (Ok asked) granted s u p m
+  asked_first (Asked.Held How.Free) None has did ready = (has, did, ready)
+  asked_first (Asked.Held (How.Queued stamp)) None has did ready = (has, did, ready)
   asked_first (Asked.Held How.Free) (Some r) has did ready = absurd did
   asked_first (Asked.Held (How.Queued stamp)) (Some r) has did ready = absurd did
-  asked_first Asked.Asleep None has did ready = (awake, has, did, ready)
-  asked_first Asked.Asleep (Some r) has did ready = (awake, has, did, ready)
+  asked_first Asked.Asleep None has did ready = (has, did, ready)
+  asked_first Asked.Asleep (Some r) has did ready = (has, did, ready)
   asked_first (Asked.Again depth) None has did ready = absurd did
   asked_first (Asked.Again depth) (Some r) has did ready = absurd did
 
   -- a hold that was given up
-  pub still_told : (held fewer : ℕ) → fewer + 1 ≡ held → 1 < held → HasDepthIn s p m held → GivesUpIn s u p m (held - 1) → UnlocksAtAnyDepth (Ok (Release.Still fewer)) s (record u { asleep = b; counted = c }) p m
+  pub still_told : (held fewer : ℕ) → fewer + 1 ≡ held → 1 < held → HasDepthIn s p m held → GivesUpIn s u p m (held - 1) → UnlocksAtAnyDepth (Ok (Release.Still fewer)) s u p m
   still_told held fewer is inner has did = (
-    awake,
     omega (arith, is, inner),
     subst (λ (d : ℕ). HasDepthIn s p m d) (sym is) has,
     subst (λ (d : ℕ). GivesUpIn s u p m d) (let e : held - 1 ≡ fewer = omega (arith, is) in e) did,
   )
 
-  released_said : (result : Released) → ReleasesIn result s u p m → ReleasesIn result s (record u { asleep = b; counted = c }) p m
-  released_said Released.Free did = did
-  released_said (Released.Granted r) did = did
-  released_said Released.Posted did = did
-  released_said Released.TakenOver did = did
-
-  pub last_told : (result : Released) → HasDepthIn s p m 1 → ReleasesIn result s u p m → UnlocksAtAnyDepth (Ok (Release.Last result)) s (record u { asleep = b; counted = c }) p m
-  last_told result has did = (awake, has, released_said result did)
+  pub last_told : (result : Released) → HasDepthIn s p m 1 → ReleasesIn result s u p m → UnlocksAtAnyDepth (Ok (Release.Last result)) s u p m
+  last_told result has did = (has, did)
 
 -- a seat that is refused at its greatest depth
-pub full : (s : PoolSeat) (p : Pool) (m held : ℕ) → HasDepthIn s p m held → max_depth ≤ held → HasDepthIn s p m max_depth
+pub full : (s : TableSeat) (p : Pool) (m held : ℕ) → HasDepthIn s p m held → max_depth ≤ held → HasDepthIn s p m max_depth
 full s p m held has most = subst (λ (d : ℕ). HasDepthIn s p m d) (let few = has.most in let e : held ≡ max_depth = omega (arith, few, most) in e) has
 
-pub same_self : (s : PoolSeat) → SameSeat s s
+pub same_self : (s : TableSeat) → SameSeat s s
 same_self s = record { table = refl; id = refl; number = refl; parts = refl }
 
 -- A receive
 
--- a seat that sleeps in mutex m, between two calls, is at rest in all others
-module _ (s : PoolSeat) (p : Pool) (m : ℕ) (between : IsBetweenCalls s p) (less : IsMutex m p) (sleeping : Sleeps (state_of s m)) where
-  no_rest : (state_of s m).point ≡ Rest → ⊥
-  no_rest rests = false≢true (sym (ap rests_at sleeping.1) ∙ ap rests_at rests)
+module _ (s u : TableSeat) (p : Pool) (m : ℕ) (away : IsAwayIn s p m) (same : SameSeat s u) where
+  pub receive_rests : (how : How) → ReceivedIn s u m (Some how) → HoldsOnceIn u p m → IsAtRest u p
+  receive_rests how did holds = rest_after s u p m away.may.belongs away.may.mutex away.depths same did.4.0 did.4.1 did.4.2 1 (has_one u p m holds)
 
-  away_by : (b : Bool) → s.asleep ≡ b → IsAwayIn s p m
-  away_by false e = absurd (no_rest ((between.awake e).depths m less).1.rests)
-  away_by true e = let x = between.sleeps e in elim (cases_eq m x.0) [
-    | inl same ↦ subst (λ (i : ℕ). IsAwayIn s p i) (sym same) x.1
-    | inr other ↦ absurd (no_rest (x.1.depths m less other).1.rests)
-  ]
-
-  pub sleeper_away : IsAwayIn s p m
-  sleeper_away = away_by s.asleep refl
-
-module _ (s u : PoolSeat) (p : Pool) (m : ℕ) (away : IsAwayIn s p m) (same : SameSeat s u) (c : u.place.me.0.posts ≡ u.posts) where
-  sleeps_said : IsAwayIn u p m → Sleeps (state_of u m) → IsBetweenCalls (record u { asleep = true; counted = c }) p
-  sleeps_said later sleeping = record {
-    awake = λ e. absurd (false≢true (sym e));
-    sleeps = λ e. (m, away_said u (record u { asleep = true; counted = c }) p m refl refl later, sleeping);
-  }
-
-  pub receive_holds : (how : How) → ReceivedIn s u m (Some how) → HoldsOnceIn u p m → IsBetweenCalls (record u { asleep = false; counted = c }) p
-  receive_holds how did holds =
-      awake_rests (record u { asleep = false; counted = c }) p refl
-      (rest_said u (record u { asleep = false; counted = c }) p refl refl (rest_after s u p m away.may.belongs away.may.mutex away.depths same did.4.0 did.4.1 did.4.2 1 (has_one u p m holds)))
-
-  pub receive_sleeps : ReceivedIn s u m None → MayStepIn u p m → Sleeps (state_of s m) → IsBetweenCalls (record u { asleep = true; counted = c }) p
+  pub receive_sleeps : ReceivedIn s u m None → MayStepIn u p m → Sleeps (state_of s m) → IsAwayIn u p m × Sleeps (state_of u m)
   receive_sleeps did later sleeping =
       let is = state_after s u p m did.1 (state_of s m) away.may did.4 in
-      sleeps_said (away_after s u p m away.may.belongs away.may.mutex away.depths same did.4.0 did.4.1 did.4.2 later) (sleeping.0, ap (λ (x : SeatState). x.point) is ∙ sleeping.1)
-
--- an answer that is no How is None
-pub any_none : (o : Option How) → ((how : How) → o ≡ Some how → ⊥) → o ≡ None
-any_none None other = refl
-any_none (Some how) other = absurd (other how refl)
+      (away_after s u p m away.may.belongs away.may.mutex away.depths same did.4.0 did.4.1 did.4.2 later, (sleeping.0, ap (λ (x : SeatState). x.point) is ∙ sleeping.1))
 
 -- The number of steps
 
-pub bounded_then : (s t u : PoolSeat) (m most : ℕ) → t.place.me ≡ s.place.me → MakesAtMostIn most t u m → MakesAtMostIn most s u m
+pub bounded_then : (s t u : TableSeat) (m most : ℕ) → t.place.me ≡ s.place.me → MakesAtMostIn most t u m → MakesAtMostIn most s u m
 bounded_then s t u m most knows less = subst (λ (z : Me ℕ PoolView). length (part u.place.me.0 m).trail ≤ length (part z.0 m).trail + most) knows less
 
 -- a call that made no step
-pub none_made : (s t : PoolSeat) (m most : ℕ) → part t.place.me.0 m ≡ part s.place.me.0 m → MakesAtMostIn most s t m
+pub none_made : (s t : TableSeat) (m most : ℕ) → part t.place.me.0 m ≡ part s.place.me.0 m → MakesAtMostIn most s t m
 none_made s t m most same = let long = ap (λ (v : View ⊤). length v.trail) same in omega (arith, long)
 
-pub refused_made : (s t : PoolSeat) (m most : ℕ) → t.place.me ≡ s.place.me → MakesAtMostIn most s t m
+pub refused_made : (s t : TableSeat) (m most : ℕ) → t.place.me ≡ s.place.me → MakesAtMostIn most s t m
 refused_made s t m most knows = none_made s t m most (ap (λ (z : Me ℕ PoolView). part z.0 m) knows)
 
-pub beside_then : (s t u : PoolSeat) (m most : ℕ) → t.place.me ≡ s.place.me → MakesBesideFailuresIn most t u m → MakesBesideFailuresIn most s u m
+pub beside_then : (s t u : TableSeat) (m most : ℕ) → t.place.me ≡ s.place.me → MakesBesideFailuresIn most t u m → MakesBesideFailuresIn most s u m
 beside_then s t u m most knows less =
     subst (λ (z : Me ℕ PoolView). (new : List Seen) × ((part u.place.me.0 m).trail ≡ (part z.0 m).trail ++ new) × (length new ≤ most + 2 * failed_pushes new)) knows less
 
-pub refused_beside : (s t : PoolSeat) (m most : ℕ) → t.place.me ≡ s.place.me → MakesBesideFailuresIn most s t m
+pub refused_beside : (s t : TableSeat) (m most : ℕ) → t.place.me ≡ s.place.me → MakesBesideFailuresIn most s t m
 refused_beside s t m most knows = ([], ap (λ (z : Me ℕ PoolView). (part z.0 m).trail) knows ∙ sym (append-nil (part s.place.me.0 m).trail), omega arith)
 
-module _ (s u : PoolSeat) (p : Pool) (m : ℕ) (may : MayStepIn s p m) where
+module _ (s u : TableSeat) (p : Pool) (m : ℕ) (may : MayStepIn s p m) where
   made_now : (steps : ℕ → List Seen → Type 0) (depth : ℕ) → (did : DeepensBy steps s u p m depth) → (part u.place.me.0 m).trail ≡ (part s.place.me.0 m).trail ++ did.3.0.0
   made_now steps depth did =
       ap (λ (v : View ⊤). v.trail) (part_now s.number s.place.id m p.limits s.place.me u.place.me u.place.me (inside s s p m may) did.0 did.1 did.2) ∙ did.3.0.2.trail

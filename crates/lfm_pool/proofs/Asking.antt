@@ -34,7 +34,7 @@ use Rattle.lfm_table.specs.Actions.{seen}
 use Rattle.lfm_table.proofs.tables.StepFacts.{carrying, made_of, taking}
 use Rattle.lfm_pool.specs.declared.ask.Asking.{Asking}
 use Rattle.lfm_pool.specs.declared.pool.Pool.{Pool}
-use Rattle.lfm_pool.specs.declared.pool.PoolSeat.{PoolSeat}
+use Rattle.lfm_pool.specs.declared.pool.TableSeat.{TableSeat}
 use Rattle.lfm_pool.specs.declared.view.PoolView.{PoolView}
 use Rattle.lfm_pool.specs.Ask.{AsksIn, AskSteps, FindsChanges, IsChanged, IsReadyAfter, MakesBesideFailuresIn, PushSteps, QueuesIn, QueueSteps, StepsIfPosted, TakeOverSteps, WaitsIn, asked, asked_point, attempt, attempts, failed_pushes}
 use Rattle.lfm_pool.specs.Belongs.{SameSeat}
@@ -130,7 +130,7 @@ attempts_more first (n ∷ finds) last found changes = ap (λ (l : List Seen). a
 -- The push
 
 -- the seat s has loaded the push word and made attempts that failed, and is t now: the next attempt is after this word
-pub record Pushing (s t : PoolSeat) (p : Pool) (m word : ℕ) : Type 0 where
+pub record Pushing (s t : TableSeat) (p : Pool) (m word : ℕ) : Type 0 where
   pub belongs : SameSeat s t
   pub may : MayStepIn t p m
   pub first : ℕ
@@ -140,13 +140,13 @@ pub record Pushing (s t : PoolSeat) (p : Pool) (m word : ℕ) : Type 0 where
   pub made : MakesIn s t m (seen (PushLoad Pusher.Locker) first ∷ attempts first finds) (record (state_of s m) { point = LinkStore Pusher.Locker (link_of word) })
 
 -- one step that changes only the point
-step_from : (s t : PoolSeat) (p : Pool) (m n : ℕ) (q r : Point) → StepsFrom s t p m q n r → MakesIn s t m (seen q n ∷ []) (record (state_of s m) { point = r })
+step_from : (s t : TableSeat) (p : Pool) (m n : ℕ) (q r : Point) → StepsFrom s t p m q n r → MakesIn s t m (seen q n ∷ []) (record (state_of s m) { point = r })
 step_from s t p m n q r did = (did.0, did.1, did.2, (record { trail = did.3.0.trail; state = did.3.0.state; run = did.3.0.run }, did.3.2))
 
-may_from : (s t : PoolSeat) (p : Pool) (m n : ℕ) (q r : Point) → MayStepIn s p m → SameSeat s t → StepsFrom s t p m q n r → MayStepIn t p m
+may_from : (s t : TableSeat) (p : Pool) (m n : ℕ) (q r : Point) → MayStepIn s p m → SameSeat s t → StepsFrom s t p m q n r → MayStepIn t p m
 may_from s t p m n q r may same did = may_then s t p m may same (did.0, did.1, did.2, did.3.1)
 
-pub begins_push : (s t : PoolSeat) (p : Pool) (m word : ℕ) → MayStepIn s p m → SameSeat s t → LoadsPushIn s t p m word → Pushing s t p m word
+pub begins_push : (s t : TableSeat) (p : Pool) (m word : ℕ) → MayStepIn s p m → SameSeat s t → LoadsPushIn s t p m word → Pushing s t p m word
 begins_push s t p m word may same did = record {
   belongs = same;
   may = may_from s t p m word (PushLoad Pusher.Locker) (LinkStore Pusher.Locker (link_of word)) may same did;
@@ -157,7 +157,7 @@ begins_push s t p m word may same did = record {
   made = step_from s t p m word (PushLoad Pusher.Locker) (LinkStore Pusher.Locker (link_of word)) did;
 }
 
-module _ (s t : PoolSeat) (p : Pool) (m word : ℕ) (may : MayStepIn s p m) (so : Pushing s t p m word) where
+module _ (s t : TableSeat) (p : Pool) (m word : ℕ) (may : MayStepIn s p m) (so : Pushing s t p m word) where
   abbrev x : SeatState
   x = state_of s m
 
@@ -167,7 +167,7 @@ module _ (s t : PoolSeat) (p : Pool) (m word : ℕ) (may : MayStepIn s p m) (so 
   pub stores_next : (link : Link) → link ≡ link_of word → StoresLink link (state_of t m)
   stores_next link e = ap (λ (z : SeatState). z.point) (state_after s t p m _ _ may so.made) ∙ ap (λ (l : Link). LinkStore Pusher.Locker l) (sym e)
 
-  module _ (u : PoolSeat) (n : ℕ) (link : Link) (is : link ≡ link_of word) (did : PushesIn t u p m link n) where
+  module _ (u : TableSeat) (n : ℕ) (link : Link) (is : link ≡ link_of word) (did : PushesIn t u p m link n) where
     did_of : PushesIn t u p m (link_of word) n
     did_of = subst (λ (l : Link). PushesIn t u p m l n) is did
 
@@ -214,14 +214,14 @@ handoff_none word q r none = let h = not-false (nat_eq (handoff_of word).seat 0)
 handoff_some : (word : ℕ) (q r : Point) → is_posted_word word ≡ true → (if nat_eq (handoff_of word).seat 0 then q else r) ≡ r
 handoff_some word q r some = let h = not-true (nat_eq (handoff_of word).seat 0) some in rw h refl
 
-module _ (s t : PoolSeat) (p : Pool) (m : ℕ) (may : MayStepIn s p m) (pushed : QueuesIn s t m) where
+module _ (s t : TableSeat) (p : Pool) (m : ℕ) (may : MayStepIn s p m) (pushed : QueuesIn s t m) where
   abbrev y : SeatState
   y = state_of s m
 
   pub at_handoff : LoadsHandoff (state_of t m)
   at_handoff = ap (λ (z : SeatState). z.point) (state_after s t p m _ _ may pushed.2)
 
-  module _ (u : PoolSeat) (word : ℕ) (did : LoadsHandoffIn t u p m word) where
+  module _ (u : TableSeat) (word : ℕ) (did : LoadsHandoffIn t u p m word) where
     read_to : (q : Point) → (if nat_eq (handoff_of word).seat 0 then Asleep Sleeper.Locker else PushedHandoffExchange Pusher.Locker (handoff_of word)) ≡ q → MakesIn t u m (seen (PushedHandoffLoad Pusher.Locker) word ∷ []) (record y { point = q })
     read_to q leads =
         subst (λ (z : SeatState). MakesIn t u m (seen (PushedHandoffLoad Pusher.Locker) word ∷ []) z)
@@ -252,7 +252,7 @@ module _ (s t : PoolSeat) (p : Pool) (m : ℕ) (may : MayStepIn s p m) (pushed :
       pub at_post : (posted : Handoff) → posted ≡ handoff_of word → TakesPost posted (state_of u m)
       at_post posted e = ap (λ (z : SeatState). z.point) (state_after t u p m _ _ may1 found) ∙ ap (λ (h : Handoff). PushedHandoffExchange Pusher.Locker h) (sym e)
 
-      module _ (v : PoolSeat) (n : ℕ) (posted : Handoff) (is : posted ≡ handoff_of word) (may2 : MayStepIn u p m) (took : TakesOverIn u v p m posted n) where
+      module _ (v : TableSeat) (n : ℕ) (posted : Handoff) (is : posted ≡ handoff_of word) (may2 : MayStepIn u p m) (took : TakesOverIn u v p m posted n) where
         took_of : TakesOverIn u v p m (handoff_of word) n
         took_of = subst (λ (h : Handoff). TakesOverIn u v p m h n) is took
 
@@ -310,7 +310,7 @@ module _ (s t : PoolSeat) (p : Pool) (m : ℕ) (may : MayStepIn s p m) (pushed :
 -- By the handoff word of the mutex
 
 -- a seat that remembers no number knows all that it knows without it
-pub waits_remember : (s u : PoolSeat) (m : ℕ) (asking : Asking) → u.place.me.0.found ≡ 0 → WaitsIn s (forgotten u) m asking → WaitsIn s u m asking
+pub waits_remember : (s u : TableSeat) (m : ℕ) (asking : Asking) → u.place.me.0.found ≡ 0 → WaitsIn s (forgotten u) m asking → WaitsIn s u m asking
 waits_remember s u m asking none waits =
     subst
     (λ (z : Me ℕ PoolView).
@@ -321,7 +321,7 @@ waits_remember s u m asking none waits =
 same_posted : (n l : ℕ) → (handoff_of l).seat ≡ (handoff_of n).seat → is_posted_word l ≡ is_posted_word n
 same_posted n l same = ap (λ (t : ℕ). not (nat_eq t 0)) same
 
-module _ (s t : PoolSeat) (p : Pool) (m : ℕ) (may : MayStepIn s p m) (pushed : QueuesIn s t m) (may1 : MayStepIn t p m) (u : PoolSeat) (n : ℕ) (did : FindsHandoffIn t u p m n) where
+module _ (s t : TableSeat) (p : Pool) (m : ℕ) (may : MayStepIn s p m) (pushed : QueuesIn s t m) (may1 : MayStepIn t p m) (u : TableSeat) (n : ℕ) (did : FindsHandoffIn t u p m n) where
   -- nothing is posted
   pub sleeps_at_none : is_posted_word n ≡ false → WaitsIn s u m Asking.Asleep
   sleeps_at_none none =
@@ -344,7 +344,7 @@ module _ (s t : PoolSeat) (p : Pool) (m : ℕ) (may : MayStepIn s p m) (pushed :
       sym (packs_handoff n) ∙ (λ i. handoff_word (record { seat = sym did.2.seat i; post = sym did.3 i })),
     )
 
-    module _ (v : PoolSeat) (k : ℕ) (took : TakesWordIn u v p m n k) where
+    module _ (v : TableSeat) (k : ℕ) (took : TakesWordIn u v p m n k) where
       -- the post is the one that the seat has loaded
       posted_is : took.0 ≡ handoff_of did.0
       posted_is = let e : PushedHandoffExchange Pusher.Locker took.0 ≡ PushedHandoffExchange Pusher.Locker (handoff_of did.0) = sym took.2 ∙ at_there (handoff_of did.0) refl in cc
@@ -386,14 +386,14 @@ never_held true word later h = h
 never_held false word later h = let e = h.0 in cc
 
 -- a lock that has found the mutex taken, by how far it has come
-asks_as : (s v : PoolSeat) (m : ℕ) (asking : Asking) (count owner : ℕ) (later : List Seen) → count ≢ 0 → owner ≢ s.number → QueueSteps asking later
+asks_as : (s v : TableSeat) (m : ℕ) (asking : Asking) (count owner : ℕ) (later : List Seen) → count ≢ 0 → owner ≢ s.number → QueueSteps asking later
     → MakesIn s v m (seen LockCountAdd count ∷ seen LockOwnerLoad owner ∷ later) (record (state_of s m) { takes = (state_of s m).takes + 1; point = asked_point asking s.number (part v.place.me.0 m).popped })
     → AsksIn s v m asking
 asks_as s v m Asking.Held count owner later beside other steps made = absurd (never_held (is_posted_word steps.1) steps.1 steps.2 steps.4)
 asks_as s v m Asking.Asleep count owner later beside other steps made = (seen LockCountAdd count ∷ seen LockOwnerLoad owner ∷ later, (count, owner, later, beside, other, steps, refl), made)
 asks_as s v m Asking.Carries count owner later beside other steps made = (seen LockCountAdd count ∷ seen LockOwnerLoad owner ∷ later, (count, owner, later, beside, other, steps, refl), made)
 
-module _ (s : PoolSeat) (p : Pool) (m : ℕ) (may : MayStepIn s p m) (try : MayTryIn s p m) where
+module _ (s : TableSeat) (p : Pool) (m : ℕ) (may : MayStepIn s p m) (try : MayTryIn s p m) where
   abbrev z : SeatState
   z = state_of s m
 
@@ -403,7 +403,7 @@ module _ (s : PoolSeat) (p : Pool) (m : ℕ) (may : MayStepIn s p m) (try : MayT
   pub counts : IsPlainAccessOf p.limits.seats s.number (begun_in s.place.me.0 m p.limits Call.Lock) (Access.FetchAdd 0 1)
   counts = subst (λ (w : SeatState). IsPlainAccessOf p.limits.seats s.number w (Access.FetchAdd 0 1)) (sym begun) (((Kind.CountAdd, refl, refl, (λ n. refl), refl), omega arith, λ e. omega (arith, e)), refl)
 
-  module _ (t : PoolSeat) (count : ℕ) (did : StartsIn s t p m Call.Lock count) (may1 : MayStepIn t p m) where
+  module _ (t : TableSeat) (count : ℕ) (did : StartsIn s t p m Call.Lock count) (may1 : MayStepIn t p m) where
     -- the mutex was free
     module _ (free : count ≡ 0) where
       alone : MakesIn s t m (seen LockCountAdd 0 ∷ []) (made_of 0 (z.takes + 1) z.posts (EnterOwnerStore Entrant.Locker How.Free))
@@ -414,7 +414,7 @@ module _ (s : PoolSeat) (p : Pool) (m : ℕ) (may : MayStepIn s p m) (try : MayT
       pub enters : IsPlainAccessOf p.limits.seats t.number (state_of t m) (Access.Store 1 t.number)
       enters = next_access s t p m _ _ p.limits.seats (Access.Store 1 t.number) may alone (enters_by p.limits.seats t.number 0 (z.takes + 1) z.posts Entrant.Locker How.Free)
 
-      pub holds : (u : PoolSeat) (stored : ℕ) → MovesIn t u p m stored → stored ≡ s.number → AsksIn s u m Asking.Held
+      pub holds : (u : TableSeat) (stored : ℕ) → MovesIn t u p m stored → stored ≡ s.number → AsksIn s u m Asking.Held
       holds u stored entered told = (
         seen LockCountAdd 0 ∷ seen (EnterOwnerStore Entrant.Locker How.Free) s.number ∷ [],
         refl,
@@ -431,7 +431,7 @@ module _ (s : PoolSeat) (p : Pool) (m : ℕ) (may : MayStepIn s p m) (try : MayT
       pub loads_owner : IsPlainAccessOf p.limits.seats t.number (state_of t m) (Access.Load 1)
       loads_owner = next_access s t p m _ _ p.limits.seats (Access.Load 1) may second (((Kind.OwnerLoad, refl, refl, (λ n. refl), refl), omega arith, λ e. omega (arith, e)), refl)
 
-      module _ (u : PoolSeat) (owner : ℕ) (loaded : MovesIn t u p m owner) (finds : Finds t.number (state_of t m) owner) (may2 : MayStepIn u p m) where
+      module _ (u : TableSeat) (owner : ℕ) (loaded : MovesIn t u p m owner) (finds : Finds t.number (state_of t m) owner) (may2 : MayStepIn u p m) where
         not_own : owner ≢ t.number
         not_own same =
             let at = state_after s t p m _ _ may second in
@@ -445,7 +445,7 @@ module _ (s : PoolSeat) (p : Pool) (m : ℕ) (may : MayStepIn s p m) (try : MayT
         pub at_push : LoadsPush (state_of u m)
         at_push = ap (λ (w : SeatState). w.point) (state_after s u p m _ _ may third)
 
-        module _ (v : PoolSeat) (asking : Asking) (waits : WaitsIn u v m asking) (named : t.number ≡ s.number) (same : u.number ≡ s.number) where
+        module _ (v : TableSeat) (asking : Asking) (waits : WaitsIn u v m asking) (named : t.number ≡ s.number) (same : u.number ≡ s.number) where
           waited : MakesIn s v m (seen LockCountAdd count ∷ seen LockOwnerLoad owner ∷ waits.0) (made_of 0 (z.takes + 1) z.posts (asked_point asking s.number (part v.place.me.0 m).popped))
           waited =
               join s u v p m may _ _ third refl waits.0 (made_of 0 (z.takes + 1) z.posts (asked_point asking s.number (part v.place.me.0 m).popped))
@@ -465,7 +465,7 @@ module _ (s : PoolSeat) (p : Pool) (m : ℕ) (may : MayStepIn s p m) (try : MayT
               (subst (λ (w : SeatState). MakesIn s v m (seen LockCountAdd count ∷ seen LockOwnerLoad owner ∷ waits.0) w) (flat_now (asked_point asking s.number (part v.place.me.0 m).popped)) waited)
 
 -- what the seat is ready for
-pub ready : (s t : PoolSeat) (p : Pool) (m : ℕ) (asking : Asking) → MayStepIn s p m → (state_of s m).point ≡ Rest → SameSeat s t → MayStepIn t p m → AsksIn s t m asking → IsReadyAfter asking t p m
+pub ready : (s t : TableSeat) (p : Pool) (m : ℕ) (asking : Asking) → MayStepIn s p m → (state_of s m).point ≡ Rest → SameSeat s t → MayStepIn t p m → AsksIn s t m asking → IsReadyAfter asking t p m
 ready s t p m Asking.Held may rests same later asks = holds_after s t p m asks.0 (asked Asking.Held s.number (part t.place.me.0 m).popped (state_of s m)) may asks.2 later rests refl
 ready s t p m Asking.Asleep may rests same later asks = (Sleeper.Locker, ap (λ (w : SeatState). w.point) (state_after s t p m asks.0 (asked Asking.Asleep s.number (part t.place.me.0 m).popped (state_of s m)) may asks.2))
 ready s t p m Asking.Carries may rests same later asks = (
@@ -525,5 +525,5 @@ ask_count Asking.Held number new e = let size = ap length e in omega (arith, siz
 ask_count Asking.Asleep number new h = more_steps Asking.Asleep h.0 h.1 h.2 new h.5 h.6
 ask_count Asking.Carries number new h = more_steps Asking.Carries h.0 h.1 h.2 new h.5 h.6
 
-pub ask_bounded : (s t : PoolSeat) (p : Pool) (m : ℕ) (asking : Asking) → MayStepIn s p m → AsksIn s t m asking → MakesBesideFailuresIn 7 s t m
+pub ask_bounded : (s t : TableSeat) (p : Pool) (m : ℕ) (asking : Asking) → MayStepIn s p m → AsksIn s t m asking → MakesBesideFailuresIn 7 s t m
 ask_bounded s t p m asking may asks = (asks.0, ap (λ (v : View ⊤). v.trail) (part_after s t p m _ _ may asks.2) ∙ asks.2.3.0.trail, ask_count asking s.number asks.0 asks.1)

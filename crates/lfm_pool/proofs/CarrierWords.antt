@@ -15,7 +15,7 @@ use Rattle.lfm_laws.specs.table.Carried.{carries_value}
 use Rattle.lfm_table.specs.declared.seat_view.View.{View}
 use Rattle.lfm_table.proofs.tables.RuleKept.{length_at}
 use Rattle.lfm_pool.specs.declared.pool.Pool.{Pool}
-use Rattle.lfm_pool.specs.declared.pool.PoolSeat.{PoolSeat}
+use Rattle.lfm_pool.specs.declared.pool.TableSeat.{TableSeat}
 use Rattle.lfm_pool.specs.declared.view.Note.{Note}
 use Rattle.lfm_pool.specs.declared.view.PoolView.{PoolView}
 use Rattle.lfm_pool.specs.Belongs.{IsMutex, OfPool, SameSeat}
@@ -282,7 +282,7 @@ first_record [] above = absurd (omega (arith, above))
 first_record (r ∷ rest) above = (r, rest, refl)
 
 -- a pool has as many mutexes as a seat of it knows
-mutexes_are : (p : Pool) (t : PoolSeat) → OfPool t p → (s : State ℕ PoolView) (h : HeldPool s) → get_elem? s.views t.place.id ≡ some t.place.me.0 → h.mutexes ≡ p.mutexes
+mutexes_are : (p : Pool) (t : TableSeat) → OfPool t p → (s : State ℕ PoolView) (h : HeldPool s) → get_elem? s.views t.place.id ≡ some t.place.me.0 → h.mutexes ≡ p.mutexes
 mutexes_are p t belongs s h at = sym (h.wide t.place.id t.place.me.0 at) ∙ belongs.parts
 
 -- a view in which only a note has changed says the same of posts
@@ -299,7 +299,7 @@ notes_keep v m k here = record {
   ];
 }
 
-module _ (p : Pool) (t : PoolSeat) (m : ℕ) (belongs : OfPool t p) (mutex : IsMutex m p) (carries : CarriesIn t m) where
+module _ (p : Pool) (t : TableSeat) (m : ℕ) (belongs : OfPool t p) (mutex : IsMutex m p) (carries : CarriesIn t m) where
   here : m < length t.place.me.0.parts
   here = let n = belongs.parts in omega (arith, n, mutex)
 
@@ -380,7 +380,7 @@ module _ (p : Pool) (t : PoolSeat) (m : ℕ) (belongs : OfPool t p) (mutex : IsM
 
 -- The seat after such an access
 
-pub same_noted : (s t : PoolSeat) (m : ℕ) (k : Note) → (t.place.table_id ≡ s.place.table_id) × (t.place.id ≡ s.place.id) × (t.number ≡ s.number) → NotesIn s t m k → SameSeat s t
+pub same_noted : (s t : TableSeat) (m : ℕ) (k : Note) → (t.place.table_id ≡ s.place.table_id) × (t.place.id ≡ s.place.id) × (t.number ≡ s.number) → NotesIn s t m k → SameSeat s t
 same_noted s t m k same notes = record {
   table = same.0;
   id = same.1;
@@ -388,5 +388,5 @@ same_noted s t m k same notes = record {
   parts = ap (λ (z : Me ℕ PoolView). length z.0.parts) notes ∙ length-set s.place.me.0.parts m (record { view = part s.place.me.0 m; note = k });
 }
 
-pub same_known : (s t : PoolSeat) → (t.place.table_id ≡ s.place.table_id) × (t.place.id ≡ s.place.id) × (t.number ≡ s.number) → t.place.me ≡ s.place.me → SameSeat s t
+pub same_known : (s t : TableSeat) → (t.place.table_id ≡ s.place.table_id) × (t.place.id ≡ s.place.id) × (t.number ≡ s.number) → t.place.me ≡ s.place.me → SameSeat s t
 same_known s t same knows = record { table = same.0; id = same.1; number = same.2; parts = ap (λ (z : Me ℕ PoolView). length z.0.parts) knows }

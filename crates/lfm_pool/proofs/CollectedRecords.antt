@@ -18,7 +18,7 @@ use Rattle.lfm_table.specs.declared.seat_view.View.{View}
 use Rattle.lfm_table.specs.Steps.{gives_at}
 use Rattle.lfm_table.proofs.tables.StepFacts.{carrying, keeps_value, made_of}
 use Rattle.lfm_pool.specs.declared.pool.Pool.{Pool}
-use Rattle.lfm_pool.specs.declared.pool.PoolSeat.{PoolSeat}
+use Rattle.lfm_pool.specs.declared.pool.TableSeat.{TableSeat}
 use Rattle.lfm_pool.specs.declared.view.Note.{Note}
 use Rattle.lfm_pool.specs.declared.view.PoolView.{PoolView}
 use Rattle.lfm_pool.specs.Belongs.{IsMutex, OfPool}
@@ -31,7 +31,7 @@ use Rattle.lfm_pool.specs.Steps.{IsOwnAccessOf}
 use Rattle.lfm_pool.specs.Tables.{part, with_part}
 use Rattle.lfm_pool.proofs.FastPaths.{note_now, part_now, twice_with}
 
-module _ (p : Pool) (s s1 : PoolSeat) (m target n : ℕ) (mutex : IsMutex m p) (belongs : OfPool s p) (at : LoadsLink target (state_of s m)) (step : MovesIn s s1 p m n) where
+module _ (p : Pool) (s s1 : TableSeat) (m target n : ℕ) (mutex : IsMutex m p) (belongs : OfPool s p) (at : LoadsLink target (state_of s m)) (step : MovesIn s s1 p m n) where
   here : m < length s.place.me.0.parts
   here = let n = belongs.parts in omega (arith, n, mutex)
 
@@ -62,7 +62,7 @@ module _ (p : Pool) (s s1 : PoolSeat) (m target n : ℕ) (mutex : IsMutex m p) (
   pub collected_due : (note_of s m).due ≡ 0 → (note_of s1 m).due ≡ 1
   collected_due whole = ap (λ (k : Note). k.due) collected_note ∙ ap (λ (d : ℕ). d + 1) whole
 
-  pub collected : (s2 : PoolSeat) → (note_of s m).due ≡ 0 → NotesIn s1 s2 m (record (note_of s1 m) { due = 0 }) → CollectsOneIn s s2 p m n
+  pub collected : (s2 : TableSeat) → (note_of s m).due ≡ 0 → NotesIn s1 s2 m (record (note_of s1 m) { due = 0 }) → CollectsOneIn s s2 p m n
   collected s2 whole notes = (
     step.0,
     record (note_of s1 m) { due = 0 },

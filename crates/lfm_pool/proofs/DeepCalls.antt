@@ -16,7 +16,7 @@ use Rattle.lfm_table.specs.declared.seat_view.Seen.{Seen}
 use Rattle.lfm_table.specs.Actions.{seen}
 use Rattle.lfm_table.proofs.tables.StepFacts.{became_depth, made_of}
 use Rattle.lfm_pool.specs.declared.pool.Pool.{Pool}
-use Rattle.lfm_pool.specs.declared.pool.PoolSeat.{PoolSeat}
+use Rattle.lfm_pool.specs.declared.pool.TableSeat.{TableSeat}
 use Rattle.lfm_pool.specs.declared.view.PoolView.{PoolView}
 use Rattle.lfm_pool.specs.declared.view.Note.{Note}
 use Rattle.lfm_pool.specs.Belongs.{SameSeat}
@@ -41,7 +41,7 @@ first_below (r ∷ rest) within = let most = within r.seat (inl refl) in omega (
 pub kept_first : (more carried first depth : ℕ) → carried ≡ more * seat_field_size + first → first < seat_field_size → (depth - 1) * seat_field_size + carried % seat_field_size ≡ (depth - 1) * seat_field_size + first
 kept_first more carried first depth is small = omega (arith, is, small)
 
-pub noted_deep : (s t u : PoolSeat) (m more depth number : ℕ) → t.place.me ≡ s.place.me → note_of s m ≡ deep more (popped_of s m) → number ≡ (depth - 1) * seat_field_size + first_seat (popped_of s m)
+pub noted_deep : (s t u : TableSeat) (m more depth number : ℕ) → t.place.me ≡ s.place.me → note_of s m ≡ deep more (popped_of s m) → number ≡ (depth - 1) * seat_field_size + first_seat (popped_of s m)
     → NotesIn t u m (record (note_of t m) { carried = number }) → NotesIn s u m (deep (depth - 1) (popped_of s m))
 noted_deep s t u m more depth number same noted is notes =
     subst (λ (z : Me ℕ PoolView). u.place.me ≡ (with_part z.0 m (part z.0 m) (record (note z.0 m) { carried = number }), z.1)) same notes
@@ -53,7 +53,7 @@ depth_told carried first depth is small above = omega (arith, is, small, above)
 
 -- try_lock of a seat that holds the mutex
 
-module _ (s : PoolSeat) (p : Pool) (m depth : ℕ) (may : MayStepIn s p m) (has : HasDepthIn s p m depth) (above : 0 < depth) (less : depth < max_depth) where
+module _ (s : TableSeat) (p : Pool) (m depth : ℕ) (may : MayStepIn s p m) (has : HasDepthIn s p m depth) (above : 0 < depth) (less : depth < max_depth) where
   abbrev tk : ℕ
   tk = (state_of s m).takes
 
@@ -79,7 +79,7 @@ module _ (s : PoolSeat) (p : Pool) (m depth : ℕ) (may : MayStepIn s p m) (has 
   counts = subst (λ (z : SeatState). IsPlainAccessOf p.limits.seats s.number z (Access.FetchAdd 0 1)) (sym ask_begun) (counts_deep p.limits.seats s.number depth tk ps)
 
   -- the seat after its first step may store its depth
-  module _ (t : PoolSeat) (new : List Seen) (q : SeatState) (first : GoesTo s t p m new q (note_of s m)) (deep_there : q.depth ≡ depth) where
+  module _ (t : TableSeat) (new : List Seen) (q : SeatState) (first : GoesTo s t p m new q (note_of s m)) (deep_there : q.depth ≡ depth) where
     pub carries_there : CarriesIn t m
     carries_there = ap carries_value (state_goes s t t p m here new q (note_of s m) first) ∙ carries q deep_there
 
@@ -90,14 +90,14 @@ module _ (s : PoolSeat) (p : Pool) (m depth : ℕ) (may : MayStepIn s p m) (has 
     )
 
     -- and has this note then
-    pub noted_here : (u : PoolSeat) → NotesIn t u m (deep (depth + 1 - 1) (popped_of t m)) → GoesTo s u p m new q (deep (depth + 1 - 1) (popped_of s m))
+    pub noted_here : (u : TableSeat) → NotesIn t u m (deep (depth + 1 - 1) (popped_of t m)) → GoesTo s u p m new q (deep (depth + 1 - 1) (popped_of s m))
     noted_here u notes =
         subst (λ (l : List Record). GoesTo s u p m new q (deep (depth + 1 - 1) l)) (list_goes s t t p m here new q (note_of s m) first)
         (stored s t u p m here new q (note_of s m) first (deep (depth + 1 - 1) (popped_of t m)) notes)
 
   -- try_lock: the exchange of the count
 
-  module _ (t : PoolSeat) (count : ℕ) (did : StartsAtIn s t p m depth Call.TryLock count) where
+  module _ (t : TableSeat) (count : ℕ) (did : StartsAtIn s t p m depth Call.TryLock count) where
     exchange : StepsIn s.number s.place.id m p.limits (made_of depth tk ps TryCountExchange) s.place.me count t.place.me
     exchange = subst (λ (z : SeatState). StepsIn s.number s.place.id m p.limits z s.place.me count t.place.me) try_begun did
 
@@ -109,14 +109,14 @@ module _ (s : PoolSeat) (p : Pool) (m depth : ℕ) (may : MayStepIn s p m) (has 
         (record { carries = carries (made_of depth tk ps TryCountExchange) refl; plain = refl; list = λ l. refl; leads = λ o h. exchange_leads depth tk ps s.number count o above h }) depth Call.TryLock has.now try_begun did
 
     -- the store of the depth, and the load of the owner
-    module _ (same : SameSeat s t) (u : PoolSeat) (notes : NotesIn t u m (deep (depth + 1 - 1) (popped_of t m))) (same' : SameSeat t u) where
+    module _ (same : SameSeat s t) (u : TableSeat) (notes : NotesIn t u m (deep (depth + 1 - 1) (popped_of t m))) (same' : SameSeat t u) where
       noted : GoesTo s u p m (seen TryCountExchange count ∷ []) (made_of depth tk ps TryOwnerLoad) (deep (depth + 1 - 1) (popped_of s m))
       noted = noted_here t (seen TryCountExchange count ∷ []) (made_of depth tk ps TryOwnerLoad) exchanged refl u notes
 
       pub loads_owner : IsPlainAccessOf p.limits.seats u.number (state_of u m) (Access.Load 1)
       loads_owner = access_goes s u u p m here (seen TryCountExchange count ∷ []) (made_of depth tk ps TryOwnerLoad) (deep (depth + 1 - 1) (popped_of s m)) noted p.limits.seats (Access.Load 1) (tries_owner p.limits.seats u.number depth tk ps)
 
-      module _ (v : PoolSeat) (owner : ℕ) (loads : MovesIn u v p m owner) (may_now : MayStepIn u p m) where
+      module _ (v : TableSeat) (owner : ℕ) (loads : MovesIn u v p m owner) (may_now : MayStepIn u p m) where
         same_u : SameSeat s u
         same_u = same_then s t u same same'
 
@@ -136,7 +136,7 @@ module _ (s : PoolSeat) (p : Pool) (m depth : ℕ) (may : MayStepIn s p m) (has 
 
   -- lock: the addition to the count
 
-  module _ (t : PoolSeat) (count : ℕ) (did : StartsAtIn s t p m depth Call.Lock count) where
+  module _ (t : TableSeat) (count : ℕ) (did : StartsAtIn s t p m depth Call.Lock count) where
     addition : StepsIn s.number s.place.id m p.limits (made_of depth tk ps LockCountAdd) s.place.me count t.place.me
     addition = subst (λ (z : SeatState). StepsIn s.number s.place.id m p.limits z s.place.me count t.place.me) ask_begun did
 
@@ -151,7 +151,7 @@ module _ (s : PoolSeat) (p : Pool) (m depth : ℕ) (may : MayStepIn s p m) (has 
     asks_for_owner = access_goes s t t p m here (seen LockCountAdd count ∷ []) (made_of depth tk ps LockOwnerLoad) (note_of s m) added p.limits.seats (Access.Load 1) (asks_owner p.limits.seats t.number depth tk ps)
 
     -- the load of the owner
-    module _ (same : SameSeat s t) (may_t : MayStepIn t p m) (u : PoolSeat) (owner : ℕ) (loads : MovesIn t u p m owner) (same' : SameSeat t u) where
+    module _ (same : SameSeat s t) (may_t : MayStepIn t p m) (u : TableSeat) (owner : ℕ) (loads : MovesIn t u p m owner) (same' : SameSeat t u) where
       owner_load : StepsIn t.number t.place.id m p.limits (made_of depth tk ps LockOwnerLoad) t.place.me owner u.place.me
       owner_load = subst (λ (z : SeatState). StepsIn t.number t.place.id m p.limits z t.place.me owner u.place.me) (state_goes s t t p m here _ _ _ added) loads
 
@@ -163,7 +163,7 @@ module _ (s : PoolSeat) (p : Pool) (m depth : ℕ) (may : MayStepIn s p m) (has 
           (record { carries = carries (made_of depth tk ps LockOwnerLoad) refl; plain = refl; list = λ l. refl; leads = λ o h. asked_leads depth tk ps t.number owner o above h }) same may_t.sits loads
 
       -- the store of the depth, and the subtraction from the count
-      module _ (v : PoolSeat) (notes : NotesIn u v m (deep (depth + 1 - 1) (popped_of u m))) (same'' : SameSeat u v) where
+      module _ (v : TableSeat) (notes : NotesIn u v m (deep (depth + 1 - 1) (popped_of u m))) (same'' : SameSeat u v) where
         noted_ask : GoesTo s v p m (seen LockCountAdd count ∷ seen LockOwnerLoad owner ∷ []) (made_of depth tk ps LockCountSubtract) (deep (depth + 1 - 1) (popped_of s m))
         noted_ask = noted_here u (seen LockCountAdd count ∷ seen LockOwnerLoad owner ∷ []) (made_of depth tk ps LockCountSubtract) owner_loaded refl v notes
 
@@ -171,7 +171,7 @@ module _ (s : PoolSeat) (p : Pool) (m depth : ℕ) (may : MayStepIn s p m) (has 
         subtracts = access_goes s v v p m here (seen LockCountAdd count ∷ seen LockOwnerLoad owner ∷ []) (made_of depth tk ps LockCountSubtract) (deep (depth + 1 - 1) (popped_of s m)) noted_ask p.limits.seats (Access.FetchSub 0 1)
             (subtracts_deep p.limits.seats v.number depth tk ps)
 
-        module _ (w : PoolSeat) (last : ℕ) (taken_back : MovesIn v w p m last) (may_v : MayStepIn v p m) where
+        module _ (w : TableSeat) (last : ℕ) (taken_back : MovesIn v w p m last) (may_v : MayStepIn v p m) where
           ended : GoesTo s w p m (seen LockCountAdd count ∷ seen LockOwnerLoad owner ∷ seen LockCountSubtract last ∷ []) (made_of (depth + 1) tk ps Rest) (deep (depth + 1 - 1) (popped_of s m))
           ended = moved s v w p m here (seen LockCountAdd count ∷ seen LockOwnerLoad owner ∷ []) (made_of depth tk ps LockCountSubtract) (deep (depth + 1 - 1) (popped_of s m)) noted_ask last (made_of (depth + 1) tk ps Rest)
               (record { carries = carries (made_of depth tk ps LockCountSubtract) refl; plain = refl; list = λ l. refl; leads = λ o h. refl }) (same_then s u v (same_then s t u same same') same'') may_v.sits taken_back
@@ -183,7 +183,7 @@ module _ (s : PoolSeat) (p : Pool) (m depth : ℕ) (may : MayStepIn s p m) (has 
 
 -- unlock of a seat that holds the mutex more than once
 
-module _ (s : PoolSeat) (p : Pool) (m depth : ℕ) (has : HasDepthIn s p m depth) (inner : 1 < depth) where
+module _ (s : TableSeat) (p : Pool) (m depth : ℕ) (has : HasDepthIn s p m depth) (inner : 1 < depth) where
   held : 0 < (state_of s m).depth
   held = let more = has.now.became.deep in omega (arith, more, inner)
 
@@ -193,7 +193,7 @@ module _ (s : PoolSeat) (p : Pool) (m depth : ℕ) (has : HasDepthIn s p m depth
   pub noted_inner : (more : ℕ) × (note_of s m ≡ deep more (popped_of s m))
   noted_inner = (depth - 1, has.noted (omega (arith, inner)))
 
-  pub gives_up : (t : PoolSeat) → NotesIn s t m (deep (depth - 1 - 1) (popped_of s m)) → GivesUpIn s t p m (depth - 1)
+  pub gives_up : (t : TableSeat) → NotesIn s t m (deep (depth - 1 - 1) (popped_of s m)) → GivesUpIn s t p m (depth - 1)
   gives_up t notes = (
     part s.place.me.0 m,
     deep (depth - 1 - 1) (popped_of s m),
@@ -213,7 +213,7 @@ module _ (s : PoolSeat) (p : Pool) (m depth : ℕ) (has : HasDepthIn s p m depth
 
 -- How many times a seat holds a mutex
 
-module _ (s : PoolSeat) (p : Pool) (m depth owner : ℕ) (has : HasDepthIn s p m depth) (tells : TellsOwner (part s.place.me.0 m) owner) where
+module _ (s : TableSeat) (p : Pool) (m depth owner : ℕ) (has : HasDepthIn s p m depth) (tells : TellsOwner (part s.place.me.0 m) owner) where
   -- another seat owns it, or none
   pub depth_none : owner ≢ s.number → HasDepthIn s p m 0
   depth_none other =
@@ -242,7 +242,7 @@ module _ (s : PoolSeat) (p : Pool) (m depth owner : ℕ) (has : HasDepthIn s p m
         depth_told carried (first_seat (popped_of s m)) depth (is ∙ ap (λ (k : Note). k.carried) (has.noted above_own)) (first_below (popped_of s m) within) above_own
 
     -- at the seat after the load of the owner, which changes nothing
-    module _ (t : PoolSeat) (knows : t.place.me ≡ s.place.me) where
+    module _ (t : TableSeat) (knows : t.place.me ≡ s.place.me) where
       pub carries_then : CarriesIn t m
       carries_then = subst (λ (z : Me ℕ PoolView). carries_value (state_in z.0 m) ≡ true) (sym knows) carries_own
 

@@ -21,7 +21,7 @@ use Rattle.lfm_table.specs.Actions.{RunGoesOn, seen}
 use Rattle.lfm_table.proofs.tables.Actions.{run_next}
 use Rattle.lfm_table.proofs.tables.StepFacts.{made_of}
 use Rattle.lfm_pool.specs.declared.pool.Pool.{Pool}
-use Rattle.lfm_pool.specs.declared.pool.PoolSeat.{PoolSeat}
+use Rattle.lfm_pool.specs.declared.pool.TableSeat.{TableSeat}
 use Rattle.lfm_pool.specs.declared.view.Note.{Note}
 use Rattle.lfm_pool.specs.Belongs.{SameSeat}
 use Rattle.lfm_pool.specs.Carrying.{NotesIn}
@@ -144,13 +144,13 @@ pub record StaysBy (x y : SeatState) (number n : ℕ) : Type 0 where
 
 -- From s to t the seat has made these steps in mutex m, its data are x now, its note is k, and the popped records are as
 -- they were.
-abbrev pub GoesTo : PoolSeat → PoolSeat → Pool → ℕ → List Seen → SeatState → Note → Type 0
+abbrev pub GoesTo : TableSeat → TableSeat → Pool → ℕ → List Seen → SeatState → Note → Type 0
 GoesTo s t p m new x k =
     KnowsMoreOf m
     (λ w n. Made new x (part s.place.me.0 m) w × Sits s.number s.place.id p.limits w.state w × (w.popped ≡ popped_of s m) × (n ≡ k))
     s.place.me t.place.me
 
-module _ (s t : PoolSeat) (p : Pool) (m n : ℕ) (x : SeatState) where
+module _ (s t : TableSeat) (p : Pool) (m n : ℕ) (x : SeatState) where
   -- what the step tells of the seat's data
   pub told_depth : (did : StepsIn s.number s.place.id m p.limits x s.place.me n t.place.me)
       → DepthAt (stepped_by x s.number n (oldest did.3.popped)).seat.depth (stepped_by x s.number n (oldest did.3.popped)).seat.point
@@ -183,7 +183,7 @@ module _ (s t : PoolSeat) (p : Pool) (m n : ℕ) (x : SeatState) where
 
 -- More after such steps
 
-module _ (s t u : PoolSeat) (p : Pool) (m : ℕ) (here : m < length s.place.me.0.parts) (new : List Seen) (x : SeatState) (k : Note) (first : GoesTo s t p m new x k) where
+module _ (s t u : TableSeat) (p : Pool) (m : ℕ) (here : m < length s.place.me.0.parts) (new : List Seen) (x : SeatState) (k : Note) (first : GoesTo s t p m new x k) where
   now : part t.place.me.0 m ≡ first.0
   now = part_now s.number s.place.id m p.limits s.place.me t.place.me t.place.me here first.0 first.1 first.2
 
@@ -260,5 +260,5 @@ module _ (s t u : PoolSeat) (p : Pool) (m : ℕ) (here : m < length s.place.me.0
   )
 
 -- the seat may go on after it has stored a number in the carried word
-pub may_noted : (s t : PoolSeat) (p : Pool) (m : ℕ) (note : Note) → MayStepIn s p m → SameSeat s t → NotesIn s t m note → MayStepIn t p m
+pub may_noted : (s t : TableSeat) (p : Pool) (m : ℕ) (note : Note) → MayStepIn s p m → SameSeat s t → NotesIn s t m note → MayStepIn t p m
 may_noted s t p m note may same notes = may_then s t p m may same (part s.place.me.0 m, note, notes, may.sits)

@@ -251,6 +251,7 @@ module _ (number id m : ℕ) (l : Limits) (me me1 me2 : Me ℕ PoolView) (here :
             trail = subst (λ (i : ℕ). second.0.trail ≡ (part me.0 m).trail ++ (seen (ReleaseOwnerStore Unlocker) i ∷ seen (ReleaseCountSubtract Unlocker) 1 ∷ [])) told (trail2 ∙ ap (λ ts. ts ++ seen (ReleaseCountSubtract Unlocker) 1 ∷ []) trail1 ∙ append_assoc (part me.0 m).trail (seen (ReleaseOwnerStore Unlocker) n ∷ []) (seen (ReleaseCountSubtract Unlocker) 1 ∷ []));
             rests = ap (λ (z : SeatState). z.point) p2;
             flat = ap (λ (z : SeatState). z.depth) p2;
+            takes = ap (λ (z : SeatState). z.takes) p2;
             run = run_next (goes_on number id l (Begin.begin x l Call.Unlock).seat first.0.state (part me.0 m) first.0 n (sits_after_begin number id l (at_once (part me.0 m)) (part me.0 m) holds.now Call.Unlock) first.2 first.3)
                 (subst (λ (y : View ⊤). RunGoesOn y second.0) now (goes_on number id l (part me1.0 m).state second.0.state (part me1.0 m) second.0 k (subst (λ (y : View ⊤). Sits number id l y.state y) (sym now) first.2) second.2 second.3));
           },

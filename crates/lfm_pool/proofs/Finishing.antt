@@ -29,7 +29,7 @@ use Rattle.lfm_table.proofs.tables.Actions.{run_next}
 use Rattle.lfm_table.proofs.tables.StepFacts.{carrying, made_of, taking}
 use Rattle.lfm_pool.specs.declared.finish_ask.Finished.{Finished}
 use Rattle.lfm_pool.specs.declared.pool.Pool.{Pool}
-use Rattle.lfm_pool.specs.declared.pool.PoolSeat.{PoolSeat}
+use Rattle.lfm_pool.specs.declared.pool.TableSeat.{TableSeat}
 use Rattle.lfm_pool.specs.declared.view.Note.{Note}
 use Rattle.lfm_pool.specs.declared.view.PoolView.{PoolView}
 use Rattle.lfm_pool.specs.Belongs.{SameSeat}
@@ -71,7 +71,7 @@ other_next s r other = let h = ne_eqb r.seat s other in rw h refl
 
 -- The last step: the seat u has the data y, and serves the first of these records
 
-module _ (u z : PoolSeat) (p : Pool) (m n : ℕ) (may : MayStepIn u p m) (y y' : SeatState) (at : state_of u m ≡ y) (on : carries y.point ≡ true) (loads : is_link_load y.point ≡ false) (r : Record) (rest : List Record)
+module _ (u z : TableSeat) (p : Pool) (m n : ℕ) (may : MayStepIn u p m) (y y' : SeatState) (at : state_of u m ≡ y) (on : carries y.point ≡ true) (loads : is_link_load y.point ≡ false) (r : Record) (rest : List Record)
     (list : popped_of u m ≡ r ∷ rest) (whole : note_of u m ≡ rested rest) (leads : (o : Option Record) → (stepped_by y u.number n o).seat ≡ y') (drops : (l : List Record) → popped_by_step y u.number n l ≡ drop 1 l) (did : MovesIn u z p m n) where
   abbrev Did : SeatState → Type 0
   Did x = StepsIn u.number u.place.id m p.limits x u.place.me n z.place.me
@@ -89,7 +89,7 @@ module _ (u z : PoolSeat) (p : Pool) (m n : ℕ) (may : MayStepIn u p m) (y y' :
   last_note = carried_on y last.0 (note_of u m) (carrying y on) loads ∙ whole ∙ ap rested (sym last_left)
 
   -- the whole, from the seat s on, which has come to u by these steps, and has the same number
-  module _ (s : PoolSeat) (same : SameSeat s u) (result : Finished) (new : List Seen) (x : SeatState) (earlier : Made new x (part s.place.me.0 m) (part u.place.me.0 m))
+  module _ (s : TableSeat) (same : SameSeat s u) (result : Finished) (new : List Seen) (x : SeatState) (earlier : Made new x (part s.place.me.0 m) (part u.place.me.0 m))
       (reaches : (w : View ⊤) (k : Note) → z.place.me ≡ (with_part u.place.me.0 m w k, u.place.me.1) → z.place.me ≡ (with_part s.place.me.0 m w k, s.place.me.1))
       (steps : FinishSteps result s.number (popped_of s m) rest (new ++ seen y.point n ∷ [])) (ends : y' ≡ finished result (state_of s m)) (notes : NotesFinished result (note_after y last.0 (note_of u m)) last.0.popped) where
     pub finishes : FinishesIn result s z p m
@@ -110,7 +110,7 @@ module _ (u z : PoolSeat) (p : Pool) (m n : ℕ) (may : MayStepIn u p m) (y y' :
 
 -- The seat after it
 
-module _ (s t : PoolSeat) (p : Pool) (m : ℕ) (may : MayStepIn s p m) (same : SameSeat s t) where
+module _ (s t : TableSeat) (p : Pool) (m : ℕ) (may : MayStepIn s p m) (same : SameSeat s t) where
   pub may_finished : (result : Finished) → FinishesIn result s t p m → MayStepIn t p m
   may_finished result did = may_then s t p m may same (did.0, did.1, did.2, did.3.1)
 
@@ -143,13 +143,13 @@ finish_length (Finished.Granted r) number before after new h =
     let long = ap length h.3 ∙ length-append (collecting Carrier.Locker before h.0 (r ∷ after)) (seen (GrantWakeStore Carrier.Locker r) (wake_word (Grant r.stamp)) ∷ []) in
     omega (arith, less, long)
 
-pub finish_bounded : (s t : PoolSeat) (p : Pool) (m : ℕ) → MayStepIn s p m → (result : Finished) → FinishesIn result s t p m → MakesAtMostIn (3 + length (popped_of t m)) s t m
+pub finish_bounded : (s t : TableSeat) (p : Pool) (m : ℕ) → MayStepIn s p m → (result : Finished) → FinishesIn result s t p m → MakesAtMostIn (3 + length (popped_of t m)) s t m
 finish_bounded s t p m may result did = bounded_by s t p m may 3 did.0 did.1 did.3.0.0 did.2 did.3.0.2.trail (finish_length result s.number (popped_of s m) did.0.popped did.3.0.0 did.3.0.1)
 
 -- Its parts
 
 -- a seat that knows the same as s
-module _ (s t : PoolSeat) (p : Pool) (m : ℕ) (same : SameSeat s t) (knows : t.place.me ≡ s.place.me) where
+module _ (s t : TableSeat) (p : Pool) (m : ℕ) (same : SameSeat s t) (knows : t.place.me ≡ s.place.me) where
   pub may_too : MayStepIn s p m → MayStepIn t p m
   may_too may = record {
     belongs = record { table = same.table ∙ may.belongs.table; parts = same.parts ∙ may.belongs.parts };
@@ -164,11 +164,11 @@ module _ (s t : PoolSeat) (p : Pool) (m : ℕ) (same : SameSeat s t) (knows : t.
   pub whole_too : note_of s m ≡ rested (popped_of s m) → note_of t m ≡ rested (popped_of t m)
   whole_too whole = subst (λ (z : Me ℕ PoolView). note z.0 m ≡ rested (part z.0 m).popped) (sym knows) whole
 
-  pub finishes_from : (u : PoolSeat) (result : Finished) → FinishesIn result t u p m → FinishesIn result s u p m
+  pub finishes_from : (u : TableSeat) (result : Finished) → FinishesIn result t u p m → FinishesIn result s u p m
   finishes_from u result did =
       subst (λ (y : ℕ × ℕ × Me ℕ PoolView). KnowsMoreOf m (λ w k. ((new : List Seen) × FinishSteps result y.0 (part y.2.0 m).popped w.popped new × Made new (finished result (part y.2.0 m).state) (part y.2.0 m) w) × Sits y.0 y.1 p.limits w.state w × NotesFinished result k w.popped) y.2 u.place.me) (λ i. (same.number i, same.id i, knows i)) did
 
-module _ (s : PoolSeat) (p : Pool) (m : ℕ) (may : MayStepIn s p m) (takes : TakesOldest s m) (whole : note_of s m ≡ rested (popped_of s m)) where
+module _ (s : TableSeat) (p : Pool) (m : ℕ) (may : MayStepIn s p m) (takes : TakesOldest s m) (whole : note_of s m ≡ rested (popped_of s m)) where
   pub taking_carries : CarriesIn s m
   taking_carries = carrying (state_of s m) (ap carries takes ∙ taking Carrier.Locker s.number (oldest (popped_of s m)))
 
@@ -209,7 +209,7 @@ module _ (s : PoolSeat) (p : Pool) (m : ℕ) (may : MayStepIn s p m) (takes : Ta
   clears_next none = takes ∙ ap (λ (l : List Record). take Carrier.Locker s.number (oldest l)) none
 
   -- it has granted a record that was popped
-  pub granted_other : (n : ℕ) → n ≡ (note_of s m).carried → n ≢ 0 → n ≢ s.number → (t : PoolSeat) (r : Record) → IsOldest r (popped_of s m) → GrantsIn s t p m r → FinishesIn (Finished.Granted r) s t p m
+  pub granted_other : (n : ℕ) → n ≡ (note_of s m).carried → n ≢ 0 → n ≢ s.number → (t : TableSeat) (r : Record) → IsOldest r (popped_of s m) → GrantsIn s t p m r → FinishesIn (Finished.Granted r) s t p m
   granted_other n e more other t r first did =
       let x = state_of s m in
       let v = part s.place.me.0 m in
@@ -245,7 +245,7 @@ module _ (s : PoolSeat) (p : Pool) (m : ℕ) (may : MayStepIn s p m) (takes : Ta
 
 -- It acquires the mutex by a record that was popped
 
-module _ (s : PoolSeat) (p : Pool) (m : ℕ) (may : MayStepIn s p m) (own : EntersByOwn s m) (whole : note_of s m ≡ rested (popped_of s m)) where
+module _ (s : TableSeat) (p : Pool) (m : ℕ) (may : MayStepIn s p m) (own : EntersByOwn s m) (whole : note_of s m ≡ rested (popped_of s m)) where
   abbrev entering : SeatState
   entering = made_of (state_of s m).depth (state_of s m).takes (state_of s m).posts (EnterOwnerStore Entrant.Locker (How.Queued own.0.stamp))
 
@@ -270,7 +270,7 @@ module _ (s : PoolSeat) (p : Pool) (m : ℕ) (may : MayStepIn s p m) (own : Ente
       let low = first_within max_seats own.3.0 later in
       omega (arith, same, small, low)
 
-  module _ (s1 s2 : PoolSeat) (knows : s1.place.me ≡ s.place.me) (same1 : SameSeat s s1) (same2 : SameSeat s1 s2) (next : ℕ) (notes : NotesIn s1 s2 m (record (note_of s1 m) { carried = next })) (next_is : next ≡ first_seat own.3.0) where
+  module _ (s1 s2 : TableSeat) (knows : s1.place.me ≡ s.place.me) (same1 : SameSeat s s1) (same2 : SameSeat s1 s2) (next : ℕ) (notes : NotesIn s1 s2 m (record (note_of s1 m) { carried = next })) (next_is : next ≡ first_seat own.3.0) where
     here : m < length s1.place.me.0.parts
     here = let a = same1.parts in let b = may.belongs.parts in let c = may.mutex in omega (arith, a, b, c)
 
@@ -304,7 +304,7 @@ module _ (s : PoolSeat) (p : Pool) (m : ℕ) (may : MayStepIn s p m) (own : Ente
     pub enter_keeps : KeepsChain (state_of s2 m) s2.number (part s2.place.me.0 m) (note_of s2 m)
     enter_keeps = keeps_at (state_of s2 m) s2.number (part s2.place.me.0 m) (note_of s2 m) (EnterOwnerStore Entrant.Locker (How.Queued own.0.stamp)) (ap (λ (y : SeatState). y.point) state2) refl refl
 
-    pub entered : (stamp : ℕ) → own.0.stamp ≡ stamp → (z : PoolSeat) (n : ℕ) → MovesIn s2 z p m n → n ≡ s.number → FinishesIn (Finished.Held stamp) s z p m
+    pub entered : (stamp : ℕ) → own.0.stamp ≡ stamp → (z : TableSeat) (n : ℕ) → MovesIn s2 z p m n → n ≡ s.number → FinishesIn (Finished.Held stamp) s z p m
     entered stamp stamp_is z n moved told =
         let did : MovesIn s2 z p m s.number = subst (λ (k : ℕ). MovesIn s2 z p m k) told moved in
         let list : popped_of s2 m ≡ own.0 ∷ own.3.0 = ap (λ (y : View ⊤). y.popped) part2 ∙ own.3.1 in
@@ -336,7 +336,7 @@ module _ (s : PoolSeat) (p : Pool) (m : ℕ) (may : MayStepIn s p m) (own : Ente
 
 -- It collects the push list, and serves the oldest record of it
 
-module _ (s : PoolSeat) (p : Pool) (m : ℕ) (may : MayStepIn s p m) (clears : ClearsForLock (state_of s m)) (none : popped_of s m ≡ []) (whole : note_of s m ≡ rested (popped_of s m)) (t : PoolSeat) (n : ℕ) (same : SameSeat s t)
+module _ (s : TableSeat) (p : Pool) (m : ℕ) (may : MayStepIn s p m) (clears : ClearsForLock (state_of s m)) (none : popped_of s m ≡ []) (whole : note_of s m ≡ rested (popped_of s m)) (t : TableSeat) (n : ℕ) (same : SameSeat s t)
     (did : MovesIn s t p m n) where
   pub may_cleared : MayStepIn t p m
   may_cleared = may_after s t p m (state_of s m) n may same did
@@ -372,7 +372,7 @@ module _ (s : PoolSeat) (p : Pool) (m : ℕ) (may : MayStepIn s p m) (clears : C
         run = goes_on s.number s.place.id p.limits (state_of s m) did.0.state (part s.place.me.0 m) did.0 n may.sits did.2 did.3;
       })
 
-  module _ (head : ℕ) (head_is : head ≡ (link_of n).next) (u : PoolSeat) (r : Record) (same' : SameSeat t u) (collected : CollectsIn t u p m head r) where
+  module _ (head : ℕ) (head_is : head ≡ (link_of n).next) (u : TableSeat) (r : Record) (same' : SameSeat t u) (collected : CollectsIn t u p m head r) where
     carrier_is : collected.0 ≡ Carrier.Locker
     carrier_is = let e : TakeLinkLoad collected.0 head ≡ TakeLinkLoad Carrier.Locker head = sym collected.1 ∙ cleared_at head head_is in cc
 
@@ -417,7 +417,7 @@ module _ (s : PoolSeat) (p : Pool) (m : ℕ) (may : MayStepIn s p m) (clears : C
     queued_all : AreQueued (popped_of s m) n (r ∷ collected.2.3.0.oldest.0)
     queued_all = subst (λ (l : List Record). AreQueued l n (r ∷ collected.2.3.0.oldest.0)) (sym none) (ap (λ (l : List Record). walk_head l 0) (sym collected.2.3.0.oldest.1) ∙ collected.2.3.0.begins ∙ head_is)
 
-    reaches : (z : PoolSeat) (w : View ⊤) (k : Note) → z.place.me ≡ (with_part u.place.me.0 m w k, u.place.me.1) → z.place.me ≡ (with_part s.place.me.0 m w k, s.place.me.1)
+    reaches : (z : TableSeat) (w : View ⊤) (k : Note) → z.place.me ≡ (with_part u.place.me.0 m w k, u.place.me.1) → z.place.me ≡ (with_part s.place.me.0 m w k, s.place.me.1)
     reaches z w k e =
         both s.number s.place.id m p.limits s.place.me t.place.me z.place.me (inside s t p m may) did.0 w _ k did.1
         (both t.number t.place.id m p.limits t.place.me u.place.me z.place.me (inside t u p m may_cleared) collected.2.0 w collected.2.1 k collected.2.2 e)
@@ -437,7 +437,7 @@ module _ (s : PoolSeat) (p : Pool) (m : ℕ) (may : MayStepIn s p m) (clears : C
       pub own_keeps : KeepsChain (state_of u m) u.number (part u.place.me.0 m) (note_of u m)
       own_keeps = keeps_at (state_of u m) u.number (part u.place.me.0 m) (note_of u m) (EnterOwnerStore Entrant.Locker (How.Queued r.stamp)) (ap (λ (y : SeatState). y.point) state_own) refl refl
 
-      pub finished_own : (stamp : ℕ) → r.stamp ≡ stamp → (z : PoolSeat) (k : ℕ) → MovesIn u z p m k → k ≡ s.number → FinishesIn (Finished.Held stamp) s z p m
+      pub finished_own : (stamp : ℕ) → r.stamp ≡ stamp → (z : TableSeat) (k : ℕ) → MovesIn u z p m k → k ≡ s.number → FinishesIn (Finished.Held stamp) s z p m
       finished_own stamp stamp_is z k moved told =
           let moves : MovesIn u z p m s.number = subst (λ (i : ℕ). MovesIn u z p m i) told moved in
           finishes u z p m s.number may_collected entering_own (made_of 1 (state_of s m).takes (state_of s m).posts Rest) state_own refl refl r collected.2.3.0.oldest.0 list_u note_u (λ o. refl) (λ l. refl) moves
@@ -463,7 +463,7 @@ module _ (s : PoolSeat) (p : Pool) (m : ℕ) (may : MayStepIn s p m) (clears : C
       pub other_grants : Grants r (state_of u m)
       other_grants = (Carrier.Locker, ap (λ (y : SeatState). y.point) state_other)
 
-      pub finished_other : (z : PoolSeat) → MovesIn u z p m (wake_word (Grant r.stamp)) → FinishesIn (Finished.Granted r) s z p m
+      pub finished_other : (z : TableSeat) → MovesIn u z p m (wake_word (Grant r.stamp)) → FinishesIn (Finished.Granted r) s z p m
       finished_other z moves =
           finishes u z p m (wake_word (Grant r.stamp)) may_collected granting (made_of (state_of s m).depth (state_of s m).takes (state_of s m).posts (Asleep Sleeper.Locker)) state_other refl refl r collected.2.3.0.oldest.0 list_u note_u (λ o. refl) (λ l. refl) moves
           s same_all (Finished.Granted r) (seen (TakeClearHead Carrier.Locker) n ∷ loads_of Carrier.Locker (r ∷ collected.2.3.0.oldest.0) 0) (record (state_of s m) { point = serves Carrier.Locker s.number r }) earlier (reaches z) (

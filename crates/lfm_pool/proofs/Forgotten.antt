@@ -3,13 +3,13 @@
 use Rattle.std.proofs.Common.{◌≡◌, ℕ, sym}
 use Rattle.atomic_table.specs.Table.{Me}
 use Rattle.lfm_pool.specs.declared.pool.Pool.{Pool}
-use Rattle.lfm_pool.specs.declared.pool.PoolSeat.{PoolSeat}
+use Rattle.lfm_pool.specs.declared.pool.TableSeat.{TableSeat}
 use Rattle.lfm_pool.specs.declared.view.PoolView.{PoolView}
 use Rattle.lfm_pool.specs.Belongs.{SameSeat}
 use Rattle.lfm_pool.specs.Handoff.{forgetting, forgotten, recounted}
 use Rattle.lfm_pool.specs.Moves.{MayStepIn}
 
-module _ (t : PoolSeat) (p : Pool) (m : ℕ) where
+module _ (t : TableSeat) (p : Pool) (m : ℕ) where
   pub may_forgotten : MayStepIn t p m → MayStepIn (forgotten t) p m
   may_forgotten may = record {
     belongs = record { table = may.belongs.table; parts = may.belongs.parts };
@@ -34,7 +34,7 @@ module _ (t : PoolSeat) (p : Pool) (m : ℕ) where
     elsewhere = may.elsewhere;
   }
 
-module _ (s t : PoolSeat) (same : SameSeat s t) where
+module _ (s t : TableSeat) (same : SameSeat s t) where
   pub same_forgotten : SameSeat s (forgotten t)
   same_forgotten = record { table = same.table; id = same.id; number = same.number; parts = same.parts }
 

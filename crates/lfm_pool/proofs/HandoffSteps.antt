@@ -32,7 +32,7 @@ use Rattle.lfm_table.specs.Steps.{CanMake}
 use Rattle.lfm_table.proofs.tables.RuleKept.{length_at}
 use Rattle.lfm_table.proofs.tables.StepFacts.{made_of}
 use Rattle.lfm_pool.specs.declared.pool.Pool.{Pool}
-use Rattle.lfm_pool.specs.declared.pool.PoolSeat.{PoolSeat}
+use Rattle.lfm_pool.specs.declared.pool.TableSeat.{TableSeat}
 use Rattle.lfm_pool.specs.declared.view.Note.{Note}
 use Rattle.lfm_pool.specs.declared.view.PoolView.{PoolView}
 use Rattle.lfm_pool.specs.Chain.{needs_chain, note_after, rested}
@@ -478,7 +478,7 @@ module _ (id m number mutexes seats : ℕ) (me : Me ℕ PoolView) (p : SeatState
 
 -- What the table requires of these accesses
 
-module _ (f : Pool) (s : PoolSeat) (m picked_m : ℕ) (p : SeatState) (hand : Option ⊤) (slots : List (ℕ × Slot)) (index : ℕ) (one : picked_m ≡ m) (now : p ≡ state_in s.place.me.0 m) (table : s.place.table_id ≡ f.table.shared.table_id)
+module _ (f : Pool) (s : TableSeat) (m picked_m : ℕ) (p : SeatState) (hand : Option ⊤) (slots : List (ℕ × Slot)) (index : ℕ) (one : picked_m ≡ m) (now : p ≡ state_in s.place.me.0 m) (table : s.place.table_id ≡ f.table.shared.table_id)
     (inside : (m < f.mutexes) × (length s.place.me.0.parts ≡ f.mutexes)) (can : CanMake any_follows any_fits p hand s.number f.limits.seats (4 + 2 * f.limits.seats) (part s.place.me.0 m, slots)) (elsewhere : RestsElsewhere s.place.me.0 m) (is_index : index ≡ own_at m 2) where
   low : index < f.table.shared.table_id.words
   low = let wide = f.wide in let less = inside.0 in omega (arith, wide, less, is_index)
@@ -526,7 +526,7 @@ module _ (f : Pool) (s : PoolSeat) (m picked_m : ℕ) (p : SeatState) (hand : Op
 
 -- The seat after such a step
 
-module _ (p : Pool) (s t : PoolSeat) (m : ℕ) where
+module _ (p : Pool) (s t : TableSeat) (m : ℕ) where
   abbrev x : SeatState
   x = state_of s m
 

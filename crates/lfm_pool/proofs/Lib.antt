@@ -3,10 +3,12 @@ pub use Rattle.atomic_table.proofs.Lists
 pub mod AllAsked
 pub mod AnyDepth
 pub mod Asking
+pub mod BetweenCalls
 pub mod CarrierWords
 pub mod ChainLaws
 pub mod Chains
 pub mod CollectedRecords
+pub mod CountedTakes
 pub mod FastPaths
 pub mod DeepCalls
 pub mod Deepening
@@ -35,12 +37,12 @@ pub mod SameParts
 pub mod SeatWords
 pub mod ServingRecords
 pub mod SeveralSteps
-pub mod Sleeping
 pub mod Splitting
 pub mod Steps
 pub mod Targets
 pub mod Trying
 pub mod UnlockSteps
 pub mod Unlocking
+pub mod Waits
 pub mod Walking
 pub mod WordIndexes

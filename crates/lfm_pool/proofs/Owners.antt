@@ -12,7 +12,7 @@ use Rattle.lfm_table.specs.declared.seat_view.View.{View}
 use Rattle.lfm_table.proofs.tables.CoreFacts.{owner_told}
 use Rattle.lfm_table.proofs.tables.RuleKept.{length_at}
 use Rattle.lfm_pool.specs.declared.pool.Pool.{Pool}
-use Rattle.lfm_pool.specs.declared.pool.PoolSeat.{PoolSeat}
+use Rattle.lfm_pool.specs.declared.pool.TableSeat.{TableSeat}
 use Rattle.lfm_pool.specs.declared.view.PoolView.{PoolView}
 use Rattle.lfm_pool.specs.Belongs.{IsMutex, OfPool}
 use Rattle.lfm_pool.specs.Depths.{TellsOwner}
@@ -22,7 +22,7 @@ use Rattle.lfm_pool.specs.Tables.{part}
 use Rattle.lfm_pool.proofs.PostStates.{keeps_same}
 use Rattle.lfm_pool.proofs.PostsKept.{allows_posts}
 
-module _ (p : Pool) (t : PoolSeat) (m : ℕ) (belongs : OfPool t p) (mutex : IsMutex m p) where
+module _ (p : Pool) (t : TableSeat) (m : ℕ) (belongs : OfPool t p) (mutex : IsMutex m p) where
   abbrev v : View ⊤
   v = part t.place.me.0 m
 

@@ -14,7 +14,7 @@ use Rattle.lfm_table.specs.declared.seat_view.View.{View}
 use Rattle.lfm_table.specs.Actions.{RunGoesOn, seen}
 use Rattle.lfm_table.proofs.tables.Actions.{run_next}
 use Rattle.lfm_pool.specs.declared.pool.Pool.{Pool}
-use Rattle.lfm_pool.specs.declared.pool.PoolSeat.{PoolSeat}
+use Rattle.lfm_pool.specs.declared.pool.TableSeat.{TableSeat}
 use Rattle.lfm_pool.specs.declared.unlock.Released.{Released}
 use Rattle.lfm_pool.specs.declared.unlock.Unlocking.{Unlocking}
 use Rattle.lfm_pool.specs.declared.view.PoolView.{PoolView}
@@ -32,7 +32,7 @@ use Rattle.lfm_pool.proofs.Forgotten.{may_recounted}
 use Rattle.lfm_pool.proofs.SeveralSteps.{inside}
 use Rattle.lfm_pool.proofs.UnlockSteps.{bounded_by, collecting_length}
 
-module _ (s t : PoolSeat) (p : Pool) (m : ℕ) (may : MayStepIn s p m) (begun : UnlocksIn Unlocking.Posts s t p m) where
+module _ (s t : TableSeat) (p : Pool) (m : ℕ) (may : MayStepIn s p m) (begun : UnlocksIn Unlocking.Posts s t p m) where
   part_t : part t.place.me.0 m ≡ begun.0
   part_t = part_now s.number s.place.id m p.limits s.place.me t.place.me t.place.me (inside s t p m may) begun.0 begun.1 begun.2
 
@@ -50,7 +50,7 @@ module _ (s t : PoolSeat) (p : Pool) (m : ℕ) (may : MayStepIn s p m) (begun : 
   pub same_posts : t.posts ≡ s.posts
   same_posts = sym t.counted ∙ ap (λ (z : Me ℕ PoolView). z.0.posts) begun.2 ∙ s.counted
 
-  module _ (u : PoolSeat) (same : SameSeat s t) (result : Released) (posted : PostsIn result t u p m) where
+  module _ (u : TableSeat) (same : SameSeat s t) (result : Released) (posted : PostsIn result t u p m) where
     pub passes_on : PassesOnIn result s u p m
     passes_on =
         let f = begun.3.0 in
@@ -79,7 +79,7 @@ module _ (s t : PoolSeat) (p : Pool) (m : ℕ) (may : MayStepIn s p m) (begun : 
         )
 
 -- the answer of an unlock that has posted
-pub has_released : (result : Released) (s u : PoolSeat) (p : Pool) (m : ℕ) → PassesOnIn result s u p m → ReleasesIn result s u p m
+pub has_released : (result : Released) (s u : TableSeat) (p : Pool) (m : ℕ) → PassesOnIn result s u p m → ReleasesIn result s u p m
 has_released Released.Free s u p m did = absurd did.3.0.steps
 has_released (Released.Granted r) s u p m did = inr did
 has_released Released.Posted s u p m did = did
@@ -97,7 +97,7 @@ post_length (Released.Granted r) number post popped new h =
     let long = length-append (collecting (Carrier.Reclaimer Unlocker) h.2 h.1 (r ∷ popped)) (seen (GrantWakeStore (Carrier.Reclaimer Unlocker) r) (wake_word (Grant r.stamp)) ∷ []) in
     omega (arith, e, less, long)
 
-pub passes_bounded : (result : Released) (s u : PoolSeat) (p : Pool) (m : ℕ) → MayStepIn s p m → PassesOnIn result s u p m → MakesAtMostIn (9 + length (popped_of u m)) s u m
+pub passes_bounded : (result : Released) (s u : TableSeat) (p : Pool) (m : ℕ) → MayStepIn s p m → PassesOnIn result s u p m → MakesAtMostIn (9 + length (popped_of u m)) s u m
 passes_bounded result s u p m may did =
     let d = did.3.0 in
     let less = post_length result s.number ((state_of s m).posts + 1) did.0.popped d.later d.steps in

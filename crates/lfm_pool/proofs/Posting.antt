@@ -26,7 +26,7 @@ use Rattle.lfm_table.specs.Actions.{RunGoesOn, seen}
 use Rattle.lfm_table.proofs.tables.Actions.{run_next}
 use Rattle.lfm_table.proofs.tables.StepFacts.{carrying, made_of, taking}
 use Rattle.lfm_pool.specs.declared.pool.Pool.{Pool}
-use Rattle.lfm_pool.specs.declared.pool.PoolSeat.{PoolSeat}
+use Rattle.lfm_pool.specs.declared.pool.TableSeat.{TableSeat}
 use Rattle.lfm_pool.specs.declared.unlock.Released.{Released}
 use Rattle.lfm_pool.specs.declared.view.PoolView.{PoolView}
 use Rattle.lfm_pool.specs.Belongs.{SameSeat}
@@ -49,17 +49,17 @@ use Rattle.lfm_pool.proofs.Trying.{posts_differ, same_post}
 -- Steps that say nothing of the note
 
 -- from s to t the seat has made exactly these steps in mutex m, and its data are x now
-abbrev pub DoesIn : PoolSeat → PoolSeat → Pool → ℕ → List Seen → SeatState → Type 0
+abbrev pub DoesIn : TableSeat → TableSeat → Pool → ℕ → List Seen → SeatState → Type 0
 DoesIn s t p m new x = KnowsMoreOf m (λ w k. Made new x (part s.place.me.0 m) w × Sits s.number s.place.id p.limits w.state w) s.place.me t.place.me
 
-module _ (s t : PoolSeat) (p : Pool) (m : ℕ) (may : MayStepIn s p m) (new : List Seen) (x : SeatState) (first : DoesIn s t p m new x) where
+module _ (s t : TableSeat) (p : Pool) (m : ℕ) (may : MayStepIn s p m) (new : List Seen) (x : SeatState) (first : DoesIn s t p m new x) where
   pub does_part : part t.place.me.0 m ≡ first.0
   does_part = part_now s.number s.place.id m p.limits s.place.me t.place.me t.place.me (inside s t p m may) first.0 first.1 first.2
 
   pub does_state : state_of t m ≡ x
   does_state = ap (λ (y : View ⊤). y.state) does_part ∙ first.3.0.state
 
-  pub does_join : (u : PoolSeat) (more : List Seen) (y : SeatState) → SameSeat s t → DoesIn t u p m more y → DoesIn s u p m (new ++ more) y
+  pub does_join : (u : TableSeat) (more : List Seen) (y : SeatState) → SameSeat s t → DoesIn t u p m more y → DoesIn s u p m (new ++ more) y
   does_join u more y same second = (
     second.0,
     second.1,
@@ -75,7 +75,7 @@ module _ (s t : PoolSeat) (p : Pool) (m : ℕ) (may : MayStepIn s p m) (new : Li
   )
 
 -- one step
-does_step : (s t : PoolSeat) (p : Pool) (m n : ℕ) (x y : SeatState) → ((o : Option Record) → (stepped_by x s.number n o).seat ≡ y) → MayStepIn s p m → state_of s m ≡ x → MovesIn s t p m n → DoesIn s t p m (seen x.point n ∷ []) y
+does_step : (s t : TableSeat) (p : Pool) (m n : ℕ) (x y : SeatState) → ((o : Option Record) → (stepped_by x s.number n o).seat ≡ y) → MayStepIn s p m → state_of s m ≡ x → MovesIn s t p m n → DoesIn s t p m (seen x.point n ∷ []) y
 does_step s t p m n x y leads may at did =
     let d = subst (λ (z : SeatState). StepsIn s.number s.place.id m p.limits z s.place.me n t.place.me) at did in (
       d.0,
@@ -104,14 +104,14 @@ module _ (d t ps s n : ℕ) (o : Option Record) where
   taken_back small same =
       let h : same_handoff (handoff_of n) (record { seat = s; post = ps }) ≡ true = ap (same_handoff (handoff_of n)) (sym (is_tried small)) ∙ same_post (post_word s ps) n same in rw h refl
 
-module _ (s : PoolSeat) (p : Pool) (m : ℕ) (may : MayStepIn s p m) (at : (state_of s m).point ≡ ReleaseHandoffStore Unlocker) where
+module _ (s : TableSeat) (p : Pool) (m : ℕ) (may : MayStepIn s p m) (at : (state_of s m).point ≡ ReleaseHandoffStore Unlocker) where
   abbrev x : SeatState
   x = state_of s m
 
   abbrev next : ℕ
   next = (state_of s m).posts + 1
 
-  abbrev counted : PoolSeat
+  abbrev counted : TableSeat
   counted = recounted s (s.posts + 1)
 
   pub makes : makes_post (state_of s m).point ≡ true
@@ -123,7 +123,7 @@ module _ (s : PoolSeat) (p : Pool) (m : ℕ) (may : MayStepIn s p m) (at : (stat
   may0 : MayStepIn counted p m
   may0 = may_recounted s p m (s.posts + 1) may
 
-  module _ (a : PoolSeat) (stored : MakesPostIn s a p m) (same1 : SameSeat s a) (may1 : MayStepIn a p m) where
+  module _ (a : TableSeat) (stored : MakesPostIn s a p m) (same1 : SameSeat s a) (may1 : MayStepIn a p m) where
     same0 : SameSeat counted a
     same0 = record { table = same1.table; id = same1.id; number = same1.number; parts = same1.parts }
 
@@ -137,7 +137,7 @@ module _ (s : PoolSeat) (p : Pool) (m : ℕ) (may : MayStepIn s p m) (at : (stat
     pub looks : IsPlainAccessOf p.limits.seats a.number (state_of a m) (Access.Load 3)
     looks = subst (λ (z : SeatState). IsPlainAccessOf p.limits.seats a.number z (Access.Load 3)) (sym state1) (((Kind.PushLoad, refl, refl, (λ n. refl), refl), omega arith, λ e. omega (arith, e)), refl)
 
-    module _ (b : PoolSeat) (look : ℕ) (looked : MovesIn a b p m look) (same2 : SameSeat a b) (may2 : MayStepIn b p m) where
+    module _ (b : TableSeat) (look : ℕ) (looked : MovesIn a b p m look) (same2 : SameSeat a b) (may2 : MayStepIn b p m) where
       same_b : SameSeat counted b
       same_b = record { table = same2.table ∙ same1.table; id = same2.id ∙ same1.id; number = same2.number ∙ same1.number; parts = same2.parts ∙ same1.parts }
 
@@ -173,7 +173,7 @@ module _ (s : PoolSeat) (p : Pool) (m : ℕ) (may : MayStepIn s p m) (at : (stat
         small_b : b.number < 65536
         small_b = let e = same_b.number in let f = small in omega (arith, e, f)
 
-        module _ (c : PoolSeat) (own n : ℕ) (tried : TriesPostIn b c p m own n) (same3 : SameSeat b c) (may3 : MayStepIn c p m) where
+        module _ (c : TableSeat) (own n : ℕ) (tried : TriesPostIn b c p m own n) (same3 : SameSeat b c) (may3 : MayStepIn c p m) where
           abbrev l : ℕ
           l = tried.0
 
@@ -252,7 +252,7 @@ module _ (s : PoolSeat) (p : Pool) (m : ℕ) (may : MayStepIn s p m) (at : (stat
                 ∙ since_carrying moved.0 (note_of b m) (made_of x.depth x.takes next (take (Carrier.Reclaimer Unlocker) b.number (oldest moved.0.popped))) state_w on
                 ∙ ap (λ (y : View ⊤). rested y.popped) (sym part_c)
 
-            module _ (d : PoolSeat) where
+            module _ (d : TableSeat) where
               -- a seat is queued
               pub finds_one : FindsNoneIn (Carrier.Reclaimer Unlocker) c d p m → ⊥
               finds_one none = let e : Carrier.Reclaimer Unlocker ≡ Carrier.Releaser Unlocker = none.0 in cc

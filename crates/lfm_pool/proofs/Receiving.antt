@@ -20,7 +20,7 @@ use Rattle.lfm_table.specs.declared.seat_view.Seen.{Seen}
 use Rattle.lfm_table.specs.Actions.{seen}
 use Rattle.lfm_table.proofs.tables.StepFacts.{carrying, made_of}
 use Rattle.lfm_pool.specs.declared.pool.Pool.{Pool}
-use Rattle.lfm_pool.specs.declared.pool.PoolSeat.{PoolSeat}
+use Rattle.lfm_pool.specs.declared.pool.TableSeat.{TableSeat}
 use Rattle.lfm_pool.specs.Belongs.{SameSeat}
 use Rattle.lfm_pool.specs.Moves.{MakesAtMostIn, MakesIn, MayStepIn, StartsIn}
 use Rattle.lfm_pool.specs.Receive.{ReceivedIn, ReceiveSteps, received}
@@ -53,7 +53,7 @@ not_granted d t ps s n o w b = asleep_by d t ps ((n - 3) / 4) w (nat_eq n 0) (na
 
 -- The call
 
-module _ (s t : PoolSeat) (p : Pool) (m word : ℕ) (may : MayStepIn s p m) (sleeps : Sleeps (state_of s m)) (did : StartsIn s t p m Call.Receive word) where
+module _ (s t : TableSeat) (p : Pool) (m word : ℕ) (may : MayStepIn s p m) (sleeps : Sleeps (state_of s m)) (did : StartsIn s t p m Call.Receive word) where
   abbrev x : SeatState
   x = state_of s m
 
@@ -85,7 +85,7 @@ module _ (s t : PoolSeat) (p : Pool) (m word : ℕ) (may : MayStepIn s p m) (sle
     pub at_grant : TakesGrant (state_of t m)
     at_grant = (grant_stamp word, ap (λ (z : SeatState). z.point) (state_after s t p m _ _ may loaded))
 
-    module _ (u : PoolSeat) (stored : MovesIn t u p m (wake_word Quiet)) where
+    module _ (u : TableSeat) (stored : MovesIn t u p m (wake_word Quiet)) where
       quieted : MakesIn s u m (seen (ReceiveWakeLoad sleeps.0) word ∷ seen (ReceiveWakeStore (grant_stamp word)) (wake_word Quiet) ∷ []) (made_of x.depth x.takes x.posts (EnterOwnerStore Entrant.Receiver (how_granted (grant_stamp word))))
       quieted =
           then_carry s t u p m may _ _ loaded (wake_word Quiet) (made_of x.depth x.takes x.posts (EnterOwnerStore Entrant.Receiver (how_granted (grant_stamp word)))) (λ o. refl) refl refl
@@ -97,7 +97,7 @@ module _ (s t : PoolSeat) (p : Pool) (m word : ℕ) (may : MayStepIn s p m) (sle
       pub enters : IsPlainAccessOf p.limits.seats u.number (state_of u m) (Access.Store 1 u.number)
       enters = next_access s u p m _ _ p.limits.seats (Access.Store 1 u.number) may quieted (enters_by p.limits.seats u.number x.depth x.takes x.posts Entrant.Receiver (how_granted (grant_stamp word)))
 
-      pub receives : (v : PoolSeat) (n : ℕ) (how : How) → MayStepIn u p m → MovesIn u v p m n → n ≡ s.number → how ≡ how_granted (grant_stamp word) → ReceivedIn s v m (Some how)
+      pub receives : (v : TableSeat) (n : ℕ) (how : How) → MayStepIn u p m → MovesIn u v p m n → n ≡ s.number → how ≡ how_granted (grant_stamp word) → ReceivedIn s v m (Some how)
       receives v n how may2 entered told is = (
         sleeps.0,
         seen (ReceiveWakeLoad sleeps.0) word ∷ seen (ReceiveWakeStore (grant_stamp word)) (wake_word Quiet) ∷ seen (EnterOwnerStore Entrant.Receiver how) s.number ∷ [],
@@ -108,7 +108,7 @@ module _ (s t : PoolSeat) (p : Pool) (m word : ℕ) (may : MayStepIn s p m) (sle
       )
 
 -- a seat that has acquired the mutex may release it
-pub receive_holds : (s t : PoolSeat) (p : Pool) (m : ℕ) (result : Option How) → MayStepIn s p m → MayStepIn t p m → ReceivedIn s t m result → IfSome result (λ _. HoldsOnceIn t p m)
+pub receive_holds : (s t : TableSeat) (p : Pool) (m : ℕ) (result : Option How) → MayStepIn s p m → MayStepIn t p m → ReceivedIn s t m result → IfSome result (λ _. HoldsOnceIn t p m)
 receive_holds s t p m None may later did = tt
 receive_holds s t p m (Some how) may later did = holds_after s t p m did.1 (received (Some how) (state_of s m)) may did.4 later refl refl
 
@@ -118,5 +118,5 @@ receive_length : (number : ℕ) (sleeper : Sleeper) (result : Option How) (new :
 receive_length number sleeper None new h = let e = ap length h.2 in omega (arith, e)
 receive_length number sleeper (Some how) new h = let e = ap length h.3 in omega (arith, e)
 
-pub receive_bounded : (s t : PoolSeat) (p : Pool) (m : ℕ) (result : Option How) → MayStepIn s p m → ReceivedIn s t m result → MakesAtMostIn 3 s t m
+pub receive_bounded : (s t : TableSeat) (p : Pool) (m : ℕ) (result : Option How) → MayStepIn s p m → ReceivedIn s t m result → MakesAtMostIn 3 s t m
 receive_bounded s t p m result may did = at_most s t p m 3 did.1 (received result (state_of s m)) may did.4 (receive_length s.number did.0 result did.1 did.3)

@@ -17,7 +17,7 @@ use Rattle.lfm_protocol.specs.Points.{kind, target}
 use Rattle.lfm_protocol.specs.Stores.{stored_link_at, stored_wake_at}
 use Rattle.lfm_laws.specs.table.Ready.{IsReady, PacksLink}
 use Rattle.lfm_table.specs.declared.operations.Access.{Access}
-use Rattle.lfm_pool.specs.declared.pool.PoolSeat.{PoolSeat}
+use Rattle.lfm_pool.specs.declared.pool.TableSeat.{TableSeat}
 use Rattle.lfm_pool.specs.Belongs.{SameSeat}
 use Rattle.lfm_pool.specs.Chain.{note_after}
 use Rattle.lfm_pool.specs.Tables.{note}
@@ -122,7 +122,7 @@ receives x l at = ap (λ (q : Point). (Begin.begin_at x l Receive q).seat.point)
 
 -- The seat after a step
 
-pub same_after : (s t : PoolSeat) (l : Limits) (m n : ℕ) (p : SeatState) → (t.place.table_id ≡ s.place.table_id) × (t.place.id ≡ s.place.id) × (t.number ≡ s.number) → StepsIn s.number s.place.id m l p s.place.me n t.place.me → SameSeat s t
+pub same_after : (s t : TableSeat) (l : Limits) (m n : ℕ) (p : SeatState) → (t.place.table_id ≡ s.place.table_id) × (t.place.id ≡ s.place.id) × (t.number ≡ s.number) → StepsIn s.number s.place.id m l p s.place.me n t.place.me → SameSeat s t
 same_after s t l m n p same did = record {
   table = same.0;
   id = same.1;

@@ -15,7 +15,7 @@ use Rattle.lfm_protocol.specs.Points.{target}
 use Rattle.lfm_table.specs.declared.seat_view.View.{View}
 use Rattle.lfm_table.proofs.tables.StepFacts.{carrying}
 use Rattle.lfm_pool.specs.declared.pool.Pool.{Pool}
-use Rattle.lfm_pool.specs.declared.pool.PoolSeat.{PoolSeat}
+use Rattle.lfm_pool.specs.declared.pool.TableSeat.{TableSeat}
 use Rattle.lfm_pool.specs.declared.view.Note.{Note}
 use Rattle.lfm_pool.specs.declared.view.PoolView.{PoolView}
 use Rattle.lfm_pool.specs.Belongs.{IsMutex, OfPool, SameSeat}
@@ -34,7 +34,7 @@ first_within most [] within = omega arith
 first_within most (r ∷ rest) within = within r.seat (inl refl)
 
 -- a call that grants the oldest record next
-module _ (p : Pool) (s : PoolSeat) (m : ℕ) (sits : SitsIn s p m) (serves : ServesOldest s m) where
+module _ (p : Pool) (s : TableSeat) (m : ℕ) (sits : SitsIn s p m) (serves : ServesOldest s m) where
   abbrev r : Record
   r = serves.1
 
@@ -61,7 +61,7 @@ module _ (p : Pool) (s : PoolSeat) (m : ℕ) (sits : SitsIn s p m) (serves : Ser
       λ i. record { stamp = (let q : link.stamp ≡ serves.1.stamp = omega (arith, same, small, low) in q) i; next = (let q : link.next ≡ first_seat serves.3.0 = omega (arith, same, small, low) in q) i }
 
   -- after the load of the link and the store of the carried word
-  module _ (mutex : IsMutex m p) (belongs : OfPool s p) (s1 s2 : PoolSeat) (knows : s1.place.me ≡ s.place.me) (same1 : SameSeat s s1) (same2 : SameSeat s1 s2) (next : ℕ)
+  module _ (mutex : IsMutex m p) (belongs : OfPool s p) (s1 s2 : TableSeat) (knows : s1.place.me ≡ s.place.me) (same1 : SameSeat s s1) (same2 : SameSeat s1 s2) (next : ℕ)
       (notes : NotesIn s1 s2 m (record (note_of s1 m) { carried = next })) where
     here : m < length s1.place.me.0.parts
     here = let a = same1.parts in let b = belongs.parts in omega (arith, a, b, mutex)
@@ -99,7 +99,7 @@ module _ (p : Pool) (s : PoolSeat) (m : ℕ) (sits : SitsIn s p m) (serves : Ser
     pub served_grants : (o : Record) → o ≡ serves.1 → Grants o (state_of s2 m)
     served_grants o e = (serves.0, ap (λ (y : View ⊤). y.state.point) served_part ∙ serves.2 ∙ ap (λ (x : Record). GrantWakeStore serves.0 x) (sym e))
 
-    pub granted : (s3 : PoolSeat) (o : Record) → MovesIn s2 s3 p m (wake_word (Grant o.stamp)) → GrantsIn s s3 p m o
+    pub granted : (s3 : TableSeat) (o : Record) → MovesIn s2 s3 p m (wake_word (Grant o.stamp)) → GrantsIn s s3 p m o
     granted s3 o did = (
       did.0,
       note_after (state_of s2 m) did.0 (note_of s2 m),

@@ -23,7 +23,7 @@ use Rattle.lfm_table.specs.Actions.{RunGoesOn, seen}
 use Rattle.lfm_table.proofs.tables.Actions.{run_next}
 use Rattle.lfm_table.proofs.tables.StepFacts.{carrying, made_of}
 use Rattle.lfm_pool.specs.declared.pool.Pool.{Pool}
-use Rattle.lfm_pool.specs.declared.pool.PoolSeat.{PoolSeat}
+use Rattle.lfm_pool.specs.declared.pool.TableSeat.{TableSeat}
 use Rattle.lfm_pool.specs.Belongs.{SameSeat}
 use Rattle.lfm_pool.specs.Chain.{needs_chain, note_after, note_since, rested}
 use Rattle.lfm_pool.specs.FastPaths.{KnowsMoreOf}
@@ -37,10 +37,10 @@ use Rattle.lfm_pool.proofs.Keeping.{carried_step, idle_at, since_carrying, since
 -- The seat after some steps
 
 -- the steps that made s to t have changed nothing but what the seat knows of mutex m, and left it between two steps
-abbrev pub Leaves : PoolSeat → PoolSeat → Pool → ℕ → Type 0
+abbrev pub Leaves : TableSeat → TableSeat → Pool → ℕ → Type 0
 Leaves s t p m = KnowsMoreOf m (λ w k. Sits s.number s.place.id p.limits w.state w) s.place.me t.place.me
 
-module _ (s t : PoolSeat) (p : Pool) (m : ℕ) where
+module _ (s t : TableSeat) (p : Pool) (m : ℕ) where
   pub inside : MayStepIn s p m → m < length s.place.me.0.parts
   inside may = let less = may.mutex in let many = may.belongs.parts in omega (arith, less, many)
 
@@ -116,7 +116,7 @@ module _ (s t : PoolSeat) (p : Pool) (m : ℕ) where
 
 -- Steps after steps
 
-module _ (s t u : PoolSeat) (p : Pool) (m : ℕ) (may : MayStepIn s p m) (new : List Seen) (x : SeatState) (first : MakesIn s t m new x) where
+module _ (s t u : TableSeat) (p : Pool) (m : ℕ) (may : MayStepIn s p m) (new : List Seen) (x : SeatState) (first : MakesIn s t m new x) where
   pub both_made : (more : List Seen) (y : SeatState) (w : View ⊤) → Made more y (part t.place.me.0 m) w → Made (new ++ more) y (part s.place.me.0 m) w
   both_made more y w second =
       let now = part_after s t p m new x may first in record {
@@ -172,13 +172,13 @@ module _ (s t u : PoolSeat) (p : Pool) (m : ℕ) (may : MayStepIn s p m) (new : 
       )
 
 -- the number of steps
-pub at_most : (s t : PoolSeat) (p : Pool) (m k : ℕ) (new : List Seen) (x : SeatState) → MayStepIn s p m → MakesIn s t m new x → length new ≤ k → MakesAtMostIn k s t m
+pub at_most : (s t : TableSeat) (p : Pool) (m k : ℕ) (new : List Seen) (x : SeatState) → MayStepIn s p m → MakesIn s t m new x → length new ≤ k → MakesAtMostIn k s t m
 at_most s t p m k new x may made less =
     let long = ap length (ap (λ (v : View ⊤). v.trail) (part_after s t p m new x may made) ∙ made.3.0.trail) ∙ length-append (part s.place.me.0 m).trail new in omega (arith, long, less)
 
 -- The same seat after two calls
 
-pub same_then : (s t u : PoolSeat) → SameSeat s t → SameSeat t u → SameSeat s u
+pub same_then : (s t u : TableSeat) → SameSeat s t → SameSeat t u → SameSeat s u
 same_then s t u first second = record {
   table = second.table ∙ first.table;
   id = second.id ∙ first.id;

@@ -53,7 +53,7 @@ use Rattle.lfm_table.proofs.tables.SettledKept.{settles_of}
 use Rattle.lfm_table.proofs.tables.StepFacts.{carrying, keeps_value, list_stays, made_of, told_list}
 use Rattle.lfm_pool.specs.declared.accesses.PoolAccess.{PoolAccess}
 use Rattle.lfm_pool.specs.declared.pool.Pool.{Pool}
-use Rattle.lfm_pool.specs.declared.pool.PoolSeat.{PoolSeat}
+use Rattle.lfm_pool.specs.declared.pool.TableSeat.{TableSeat}
 use Rattle.lfm_pool.specs.declared.view.Note.{Note}
 use Rattle.lfm_pool.specs.declared.view.PoolView.{PoolView}
 use Rattle.lfm_pool.specs.Chain.{HasRecord, IsChain, due_after, first_seat, note_after, note_by, rested}
@@ -656,7 +656,7 @@ tells_keep m p hand slots me n me' here became other told =
     })
 
 -- What the table requires of an access, which is one of the six
-pub required : (f : Pool) (s : PoolSeat) (m picked_m : ℕ) (p : SeatState) (hand : Option ⊤) (slots : List (ℕ × Slot)) (at : PoolAccess) (a : Access) → at.access ≡ a → picked_m ≡ m → s.place.table_id ≡ f.table.shared.table_id
+pub required : (f : Pool) (s : TableSeat) (m picked_m : ℕ) (p : SeatState) (hand : Option ⊤) (slots : List (ℕ × Slot)) (at : PoolAccess) (a : Access) → at.access ≡ a → picked_m ≡ m → s.place.table_id ≡ f.table.shared.table_id
     → (m < f.mutexes) × (length s.place.me.0.parts ≡ f.mutexes) → CanMake any_follows any_fits p hand s.number f.limits.seats (4 + 2 * f.limits.seats) (part s.place.me.0 m, slots) → RestsElsewhere s.place.me.0 m → IsStepAt f.mutexes f.limits.seats m s.number p at → KeepsChainIn s.number m p s.place.me.0
     → (s.place.table_id ≡ f.table.shared.table_id) × (at.index < f.table.shared.table_id.words)
     × Allows HeldPosts f.table.shared.table_id.slots s.place.id s.place.me at.index (becomes a) (λ n me'. TellsOf picked_m p (λ x. Advanced any_follows any_fits p hand (part s.place.me.0 picked_m, slots) x) s.place.me (told_of (is_store a) (becomes a n) n) me')

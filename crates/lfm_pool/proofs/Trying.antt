@@ -23,7 +23,7 @@ use Rattle.lfm_table.specs.declared.seat_view.Seen.{Seen}
 use Rattle.lfm_table.specs.Actions.{seen}
 use Rattle.lfm_table.proofs.tables.StepFacts.{carrying, made_of}
 use Rattle.lfm_pool.specs.declared.pool.Pool.{Pool}
-use Rattle.lfm_pool.specs.declared.pool.PoolSeat.{PoolSeat}
+use Rattle.lfm_pool.specs.declared.pool.TableSeat.{TableSeat}
 use Rattle.lfm_pool.specs.declared.view.PoolView.{PoolView}
 use Rattle.lfm_pool.specs.Belongs.{IsMutex, OfPool, SameSeat}
 use Rattle.lfm_pool.specs.Finds.{Finds}
@@ -75,11 +75,11 @@ module _ (d t ps s post n : ℕ) (o : Option Record) where
 
 -- The exchange from a post, and what follows if it succeeds
 
-module _ (s : PoolSeat) (p : Pool) (m post : ℕ) (may : MayStepIn s p m) (at : (state_of s m).point ≡ TryHandoffExchange (handoff_of post)) where
+module _ (s : TableSeat) (p : Pool) (m post : ℕ) (may : MayStepIn s p m) (at : (state_of s m).point ≡ TryHandoffExchange (handoff_of post)) where
   abbrev x : SeatState
   x = state_of s m
 
-  module _ (t : PoolSeat) (found : ℕ) (did : MovesIn s t p m found) where
+  module _ (t : TableSeat) (found : ℕ) (did : MovesIn s t p m found) where
     pub loses : found ≢ post → AcceptsIn s t m post (Err Refusal.Busy)
     loses other = (
       seen (TryHandoffExchange (handoff_of post)) found ∷ [],
@@ -98,7 +98,7 @@ module _ (s : PoolSeat) (p : Pool) (m post : ℕ) (may : MayStepIn s p m) (at : 
       pub adds : IsPlainAccessOf p.limits.seats t.number (state_of t m) (Access.FetchAdd 0 1)
       adds = next_access s t p m _ _ p.limits.seats (Access.FetchAdd 0 1) may exchanged (((Kind.CountAdd, refl, refl, (λ n. refl), refl), omega arith, λ e. omega (arith, e)), refl)
 
-      module _ (u : PoolSeat) (count : ℕ) (added : MovesIn t u p m count) (may2 : MayStepIn u p m) where
+      module _ (u : TableSeat) (count : ℕ) (added : MovesIn t u p m count) (may2 : MayStepIn u p m) where
         counted : MakesIn s u m (seen (TryHandoffExchange (handoff_of post)) post ∷ seen TryCountAdd count ∷ []) (made_of x.depth x.takes x.posts (EnterOwnerStore Entrant.Trier How.Free))
         counted =
             then_carry s t u p m may _ _ exchanged count (made_of x.depth x.takes x.posts (EnterOwnerStore Entrant.Trier How.Free)) (λ o. refl) refl refl
@@ -107,7 +107,7 @@ module _ (s : PoolSeat) (p : Pool) (m post : ℕ) (may : MayStepIn s p m) (at : 
         pub enters : IsPlainAccessOf p.limits.seats u.number (state_of u m) (Access.Store 1 u.number)
         enters = next_access s u p m _ _ p.limits.seats (Access.Store 1 u.number) may counted (enters_by p.limits.seats u.number x.depth x.takes x.posts Entrant.Trier How.Free)
 
-        pub accepts : (v : PoolSeat) (stored : ℕ) → MovesIn u v p m stored → stored ≡ s.number → AcceptsIn s v m post (Ok (Locked.Held How.Free))
+        pub accepts : (v : TableSeat) (stored : ℕ) → MovesIn u v p m stored → stored ≡ s.number → AcceptsIn s v m post (Ok (Locked.Held How.Free))
         accepts v stored entered told = (
           seen (TryHandoffExchange (handoff_of post)) post ∷ seen TryCountAdd count ∷ seen (EnterOwnerStore Entrant.Trier How.Free) s.number ∷ [],
           (count, refl),
@@ -118,10 +118,10 @@ module _ (s : PoolSeat) (p : Pool) (m post : ℕ) (may : MayStepIn s p m) (at : 
 -- The same by the handoff word of the mutex
 
 -- a seat that tries to accept a post makes an exchange that expects it
-pub tries_word : (s : PoolSeat) (m word l : ℕ) → IsPostWord word s m l → (tries_post (state_of s m).point ≡ true) × (word ≡ handoff_word (tried_post s.number s.place.me.0 (state_of s m).point))
+pub tries_word : (s : TableSeat) (m word l : ℕ) → IsPostWord word s m l → (tries_post (state_of s m).point ≡ true) × (word ≡ handoff_word (tried_post s.number s.place.me.0 (state_of s m).point))
 tries_word s m word l is = (ap tries_post is.0, is.1 ∙ ap (λ (q : Point). handoff_word (tried_post s.number s.place.me.0 q)) (sym is.0))
 
-module _ (s : PoolSeat) (p : Pool) (m word : ℕ) (may : MayStepIn s p m) (at : (l : ℕ) × IsPostWord word s m l) (t : PoolSeat) (n : ℕ) (did : TriesPostIn s t p m word n) where
+module _ (s : TableSeat) (p : Pool) (m word : ℕ) (may : MayStepIn s p m) (at : (l : ℕ) × IsPostWord word s m l) (t : TableSeat) (n : ℕ) (did : TriesPostIn s t p m word n) where
   expects_it : handoff_word (expected_handoff_at (state_of s m) s.number (state_of s m).point) ≡ at.0
   expects_it = ap (λ (q : Point). handoff_word (expected_handoff_at (state_of s m) s.number q)) at.1.0 ∙ packs_handoff at.0
 
@@ -135,11 +135,11 @@ module _ (s : PoolSeat) (p : Pool) (m word : ℕ) (may : MayStepIn s p m) (at : 
     pub adds_word : IsPlainAccessOf p.limits.seats t.number (state_of t m) (Access.FetchAdd 0 1)
     adds_word = adds (forgotten s) p m at.0 (may_forgotten s p m may) at.1.0 t did.0 did.1 hit may1
 
-    module _ (u : PoolSeat) (count : ℕ) (added : MovesIn t u p m count) (may2 : MayStepIn u p m) where
+    module _ (u : TableSeat) (count : ℕ) (added : MovesIn t u p m count) (may2 : MayStepIn u p m) where
       pub enters_word : IsPlainAccessOf p.limits.seats u.number (state_of u m) (Access.Store 1 u.number)
       enters_word = enters (forgotten s) p m at.0 (may_forgotten s p m may) at.1.0 t did.0 did.1 hit may1 u count added may2
 
-      pub accepts_word : (v : PoolSeat) (stored : ℕ) → MovesIn u v p m stored → stored ≡ s.number → AcceptsWordIn s v m word (Ok (Locked.Held How.Free))
+      pub accepts_word : (v : TableSeat) (stored : ℕ) → MovesIn u v p m stored → stored ≡ s.number → AcceptsWordIn s v m word (Ok (Locked.Held How.Free))
       accepts_word v stored entered told = (at.0, at.1, accepts (forgotten s) p m at.0 (may_forgotten s p m may) at.1.0 t did.0 did.1 hit may1 u count added may2 v stored entered told)
 
 -- The loads of the owner and of the handoff word
@@ -149,14 +149,14 @@ ended_anywhere : (result : Result Locked Refusal) (d t ps : ℕ) (q r : Point) �
 ended_anywhere (Ok locked) d t ps q r = refl
 ended_anywhere (Err refusal) d t ps q r = refl
 
-module _ (s : PoolSeat) (p : Pool) (m : ℕ) (may : MayStepIn s p m) (at : (state_of s m).point ≡ TryOwnerLoad) (flat : (state_of s m).depth ≡ 0) where
+module _ (s : TableSeat) (p : Pool) (m : ℕ) (may : MayStepIn s p m) (at : (state_of s m).point ≡ TryOwnerLoad) (flat : (state_of s m).depth ≡ 0) where
   abbrev y : SeatState
   y = state_of s m
 
   pub loads_owner : IsPlainAccessOf p.limits.seats s.number (state_of s m) (Access.Load 1)
   loads_owner = (((Kind.OwnerLoad, ap kind at, refl, (λ n. refl), refl), omega arith, λ e. omega (arith, e)), ap needs_chain at)
 
-  module _ (t : PoolSeat) (owner : ℕ) (did : MovesIn s t p m owner) (finds : Finds s.number (state_of s m) owner) (may1 : MayStepIn t p m) where
+  module _ (t : TableSeat) (owner : ℕ) (did : MovesIn s t p m owner) (finds : Finds s.number (state_of s m) owner) (may1 : MayStepIn t p m) where
     other_owner : owner ≢ s.number
     other_owner same = let held = finds.owner (ap kind at) same in omega (arith, held, flat)
 
@@ -167,7 +167,7 @@ module _ (s : PoolSeat) (p : Pool) (m : ℕ) (may : MayStepIn s p m) (at : (stat
     pub at_load : loads_handoff (state_of t m).point ≡ true
     at_load = ap (λ (z : SeatState). loads_handoff z.point) (state_after s t p m _ _ may loaded)
 
-    module _ (u : PoolSeat) (word : ℕ) (read : MovesIn t u p m word) where
+    module _ (u : TableSeat) (word : ℕ) (read : MovesIn t u p m word) where
       pub ends_without : is_posted_word word ≡ false → EndsTryIn s u m (Err Refusal.Busy)
       ends_without none = (
         seen TryOwnerLoad owner ∷ seen TryHandoffLoad word ∷ [],
@@ -182,7 +182,7 @@ module _ (s : PoolSeat) (p : Pool) (m : ℕ) (may : MayStepIn s p m) (at : (stat
         pub at_post : (state_of u m).point ≡ TryHandoffExchange (handoff_of word)
         at_post = ap (λ (z : SeatState). z.point) (state_after s u p m _ _ may found)
 
-        pub ends_by : (v : PoolSeat) (result : Result Locked Refusal) → u.number ≡ s.number → AcceptsIn u v m word result → EndsTryIn s v m result
+        pub ends_by : (v : TableSeat) (result : Result Locked Refusal) → u.number ≡ s.number → AcceptsIn u v m word result → EndsTryIn s v m result
         ends_by v result named accepts = (
           seen TryOwnerLoad owner ∷ seen TryHandoffLoad word ∷ accepts.0,
           (
@@ -197,7 +197,7 @@ module _ (s : PoolSeat) (p : Pool) (m : ℕ) (may : MayStepIn s p m) (at : (stat
         )
 
 -- a seat that remembers no number knows all that it knows without it
-ends_remember : (s u : PoolSeat) (m : ℕ) (result : Result Locked Refusal) → u.place.me.0.found ≡ 0 → EndsTryIn s (forgotten u) m result → EndsTryIn s u m result
+ends_remember : (s u : TableSeat) (m : ℕ) (result : Result Locked Refusal) → u.place.me.0.found ≡ 0 → EndsTryIn s (forgotten u) m result → EndsTryIn s u m result
 ends_remember s u m result none ends =
     subst
     (λ (z : Me ℕ PoolView).
@@ -205,8 +205,8 @@ ends_remember s u m result none ends =
     × KnowsMoreOf m (λ w k. Made new (ended result (state_of s m)) (part s.place.me.0 m) w × (k ≡ note_since w (note_of s m))) s.place.me z)
     (forgets_none u.place.me none) ends
 
-module _ (s : PoolSeat) (p : Pool) (m : ℕ) (may : MayStepIn s p m) (at : (state_of s m).point ≡ TryOwnerLoad) (flat : (state_of s m).depth ≡ 0) (t : PoolSeat) (owner : ℕ) (did : MovesIn s t p m owner) (finds : Finds s.number (state_of s m) owner)
-    (may1 : MayStepIn t p m) (u : PoolSeat) (n : ℕ) (read : LoadsWordIn t u p m n) where
+module _ (s : TableSeat) (p : Pool) (m : ℕ) (may : MayStepIn s p m) (at : (state_of s m).point ≡ TryOwnerLoad) (flat : (state_of s m).depth ≡ 0) (t : TableSeat) (owner : ℕ) (did : MovesIn s t p m owner) (finds : Finds s.number (state_of s m) owner)
+    (may1 : MayStepIn t p m) (u : TableSeat) (n : ℕ) (read : LoadsWordIn t u p m n) where
   posted_there : is_posted_word read.0 ≡ is_posted_word n
   posted_there = ap (λ (k : ℕ). not (nat_eq k 0)) read.2.seat
 
@@ -222,7 +222,7 @@ module _ (s : PoolSeat) (p : Pool) (m : ℕ) (may : MayStepIn s p m) (at : (stat
     pub at_word : (l : ℕ) × IsPostWord n u m l
     at_word = (read.0, (there, sym (packs_handoff n) ∙ (λ i. handoff_word (record { seat = sym read.2.seat i; post = sym read.3 i }))))
 
-    pub ends_by_word : (v : PoolSeat) (result : Result Locked Refusal) → u.number ≡ s.number → AcceptsWordIn u v m n result → EndsTryIn s v m result
+    pub ends_by_word : (v : TableSeat) (result : Result Locked Refusal) → u.number ≡ s.number → AcceptsWordIn u v m n result → EndsTryIn s v m result
     ends_by_word v result named accepted =
         let e : TryHandoffExchange (handoff_of accepted.0) ≡ TryHandoffExchange (handoff_of read.0) = sym accepted.1.0 ∙ there in
         let one : handoff_of accepted.0 ≡ handoff_of read.0 = cc in
@@ -232,7 +232,7 @@ module _ (s : PoolSeat) (p : Pool) (m : ℕ) (may : MayStepIn s p m) (at : (stat
 -- The whole call
 
 -- a seat that is at rest and rests in all other mutexes
-pub may_try : (s : PoolSeat) (p : Pool) (m : ℕ) → OfPool s p → IsMutex m p → MayTryIn s p m → RestsInOthers s m → MayStepIn s p m
+pub may_try : (s : TableSeat) (p : Pool) (m : ℕ) → OfPool s p → IsMutex m p → MayTryIn s p m → RestsInOthers s m → MayStepIn s p m
 may_try s p m belongs less may rests = record { belongs = belongs; mutex = less; sits = may.sits; elsewhere = rests }
 
 -- a charge that is given back leaves the seat as it was
@@ -240,7 +240,7 @@ ended_tried : (result : Result Locked Refusal) (x : SeatState) → x.point ≡ R
 ended_tried (Ok locked) x rests = λ i. record { depth = 1; takes = x.takes + 1; posts = x.posts; point = sym rests i }
 ended_tried (Err refusal) x rests = let back : x.takes + 1 - 1 ≡ x.takes = omega arith in λ i. record { depth = x.depth; takes = back i; posts = x.posts; point = sym rests i }
 
-module _ (s t : PoolSeat) (p : Pool) (m : ℕ) where
+module _ (s t : TableSeat) (p : Pool) (m : ℕ) where
   -- the mutex was free
   pub entered_free : EntersIn s t p m → TriesIn s t m (Ok (Locked.Held How.Free))
   entered_free did = (
@@ -285,7 +285,7 @@ module _ (s t : PoolSeat) (p : Pool) (m : ℕ) where
     pub still_flat : (state_of t m).depth ≡ 0
     still_flat = ap (λ (z : SeatState). z.depth) (state_after s t p m _ _ may taken) ∙ flat
 
-    pub tries_by : (u : PoolSeat) (result : Result Locked Refusal) → count ≢ 0 → (state_of s m).point ≡ Rest → t.number ≡ s.number → EndsTryIn t u m result → TriesIn s u m result
+    pub tries_by : (u : TableSeat) (result : Result Locked Refusal) → count ≢ 0 → (state_of s m).point ≡ Rest → t.number ≡ s.number → EndsTryIn t u m result → TriesIn s u m result
     tries_by u result some rests named ends = (
       seen TryCountExchange count ∷ ends.0,
       inr (count, ends.0, some, subst (λ (n : ℕ). TakenSteps n result ends.0) named ends.1, refl),
@@ -293,7 +293,7 @@ module _ (s t : PoolSeat) (p : Pool) (m : ℕ) where
     )
 
 -- a seat that has acquired the mutex may release it
-pub try_holds : (s t : PoolSeat) (p : Pool) (m : ℕ) (result : Result Locked Refusal) → MayStepIn s p m → (state_of s m).point ≡ Rest → MayStepIn t p m → TriesIn s t m result → IfOk result (λ _. HoldsOnceIn t p m)
+pub try_holds : (s t : TableSeat) (p : Pool) (m : ℕ) (result : Result Locked Refusal) → MayStepIn s p m → (state_of s m).point ≡ Rest → MayStepIn t p m → TriesIn s t m result → IfOk result (λ _. HoldsOnceIn t p m)
 try_holds s t p m (Ok locked) may rests later tries = holds_after s t p m tries.0 (tried (Ok locked) (state_of s m)) may tries.2 later rests refl
 try_holds s t p m (Err refusal) may rests later tries = tt
 
@@ -318,5 +318,5 @@ try_length number result new steps =
       | inr h ↦ let e = ap length h.4 in let less = taken_length number result h.1 h.3 in omega (arith, e, less)
     ]
 
-pub try_bounded : (s t : PoolSeat) (p : Pool) (m : ℕ) (result : Result Locked Refusal) → MayStepIn s p m → TriesIn s t m result → MakesAtMostIn 6 s t m
+pub try_bounded : (s t : TableSeat) (p : Pool) (m : ℕ) (result : Result Locked Refusal) → MayStepIn s p m → TriesIn s t m result → MakesAtMostIn 6 s t m
 try_bounded s t p m result may tries = at_most s t p m 6 tries.0 (tried result (state_of s m)) may tries.2 (try_length s.number result tries.0 tries.1)

@@ -15,7 +15,7 @@ use Rattle.lfm_table.specs.declared.seat_view.View.{View}
 use Rattle.lfm_table.specs.Actions.{RunGoesOn, seen}
 use Rattle.lfm_table.proofs.tables.Actions.{run_next}
 use Rattle.lfm_pool.specs.declared.pool.Pool.{Pool}
-use Rattle.lfm_pool.specs.declared.pool.PoolSeat.{PoolSeat}
+use Rattle.lfm_pool.specs.declared.pool.TableSeat.{TableSeat}
 use Rattle.lfm_pool.specs.declared.unlock.Unlocking.{Unlocking}
 use Rattle.lfm_pool.specs.declared.view.Note.{Note}
 use Rattle.lfm_pool.specs.Belongs.{IsMutex, OfPool, SameSeat}
@@ -30,15 +30,15 @@ use Rattle.lfm_pool.specs.Unlock.{UnlocksIn, release}
 use Rattle.lfm_pool.proofs.FastPaths.{both, note_now, part_now}
 use Rattle.lfm_pool.proofs.SeveralSteps.{inside, may_then}
 
-pub may_release : (s : PoolSeat) (p : Pool) (m : ℕ) → OfPool s p → IsMutex m p → HoldsOnceIn s p m → RestsInOthers s m → MayStepIn s p m
+pub may_release : (s : TableSeat) (p : Pool) (m : ℕ) → OfPool s p → IsMutex m p → HoldsOnceIn s p m → RestsInOthers s m → MayStepIn s p m
 may_release s p m belongs less holds rests = record { belongs = belongs; mutex = less; sits = holds.sits; elsewhere = rests }
 
-pub may_free : (s t : PoolSeat) (p : Pool) (m : ℕ) → MayStepIn s p m → SameSeat s t → LeavesIn s t p m → MayStepIn t p m
+pub may_free : (s t : TableSeat) (p : Pool) (m : ℕ) → MayStepIn s p m → SameSeat s t → LeavesIn s t p m → MayStepIn t p m
 may_free s t p m may same did = may_then s t p m may same (did.0, did.1, did.2, did.3.1)
 
 -- The call serves after its release
 
-module _ (s t : PoolSeat) (p : Pool) (m count : ℕ) (may : MayStepIn s p m) (same : SameSeat s t) (did : ServesIn s t p m count) where
+module _ (s t : TableSeat) (p : Pool) (m count : ℕ) (may : MayStepIn s p m) (same : SameSeat s t) (did : ServesIn s t p m count) where
   pub may_serve : MayStepIn t p m
   may_serve = may_then s t p m may same (did.0, did.1, did.2, did.3.1)
 
@@ -59,7 +59,7 @@ module _ (s t : PoolSeat) (p : Pool) (m count : ℕ) (may : MayStepIn s p m) (sa
   whole_to_serve =
       note_now s.number s.place.id m p.limits s.place.me t.place.me t.place.me (inside s t p m may) did.0 did.1 did.2 ∙ did.3.2 ∙ ap (λ (y : View ⊤). rested y.popped) (sym now)
 
-  module _ (others : count ≢ 1) (u : PoolSeat) where
+  module _ (others : count ≢ 1) (u : TableSeat) where
     -- what the trail of the seat has after its release and these steps
     longer : (w : View ⊤) (more : List Record → List Seen) → w.trail ≡ (part t.place.me.0 m).trail ++ more (popped_of t m) → w.trail ≡ (part s.place.me.0 m).trail ++ (release count ++ more (popped_of s m))
     longer w more e =
@@ -117,7 +117,7 @@ none_of (Some r) other = absurd (other r refl)
 
 -- The seat after it, and the number of steps
 
-module _ (s t : PoolSeat) (p : Pool) (m : ℕ) (may : MayStepIn s p m) (same : SameSeat s t) where
+module _ (s t : TableSeat) (p : Pool) (m : ℕ) (may : MayStepIn s p m) (same : SameSeat s t) where
   pub may_unlocked : (unlocking : Unlocking) → UnlocksIn unlocking s t p m → MayStepIn t p m
   may_unlocked Unlocking.Free did = may_then s t p m may same (did.0, did.1, did.2, did.3.1)
   may_unlocked (Unlocking.Granted r) did = may_then s t p m may same (did.0, did.1, did.2, did.3.1)
@@ -134,7 +134,7 @@ pub collecting_length : (carrier : Carrier) (popped : List Record) (found : ℕ)
 collecting_length carrier [] found records = let long = loads_length carrier records 0 in omega (arith, long)
 collecting_length carrier (x ∷ rest) found records = omega arith
 
-module _ (s t : PoolSeat) (p : Pool) (m : ℕ) (may : MayStepIn s p m) where
+module _ (s t : TableSeat) (p : Pool) (m : ℕ) (may : MayStepIn s p m) where
   -- by what the trail has got
   pub bounded_by : (most : ℕ) (w : View ⊤) (k : Note) (new : List Seen) → t.place.me ≡ (with_part s.place.me.0 m w k, s.place.me.1) → w.trail ≡ (part s.place.me.0 m).trail ++ new → length new ≤ most + length w.popped
       → MakesAtMostIn (most + length (popped_of t m)) s t m

@@ -22,7 +22,7 @@ use Rattle.lfm_table.specs.Actions.{RunGoesOn, seen}
 use Rattle.lfm_table.proofs.tables.Actions.{run_next}
 use Rattle.lfm_table.proofs.tables.StepFacts.{carrying, made_of, taking}
 use Rattle.lfm_pool.specs.declared.pool.Pool.{Pool}
-use Rattle.lfm_pool.specs.declared.pool.PoolSeat.{PoolSeat}
+use Rattle.lfm_pool.specs.declared.pool.TableSeat.{TableSeat}
 use Rattle.lfm_pool.specs.declared.view.Note.{Note}
 use Rattle.lfm_pool.specs.declared.view.PoolView.{PoolView}
 use Rattle.lfm_pool.specs.Belongs.{IsMutex, OfPool, SameSeat}
@@ -41,7 +41,7 @@ use Rattle.lfm_pool.proofs.FastPaths.{elsewhere_with, goes_on, note_now, part_no
 
 -- A seat that knows the same
 
-module _ (p : Pool) (s t : PoolSeat) (m : ℕ) (same : SameSeat s t) (knows : t.place.me ≡ s.place.me) where
+module _ (p : Pool) (s t : TableSeat) (m : ℕ) (same : SameSeat s t) (knows : t.place.me ≡ s.place.me) where
   pub sits_too : SitsIn s p m → SitsIn t p m
   sits_too sits = subst (λ (y : ℕ × ℕ × Me ℕ PoolView). Sits y.0 y.1 p.limits (part y.2.0 m).state (part y.2.0 m)) (λ i. (sym same.number i, sym same.id i, sym knows i)) sits
 
@@ -54,10 +54,10 @@ module _ (p : Pool) (s t : PoolSeat) (m : ℕ) (same : SameSeat s t) (knows : t.
   pub whole_too : note_of s m ≡ rested (popped_of s m) → note_of t m ≡ rested (popped_of t m)
   whole_too whole = subst (λ (z : Me ℕ PoolView). note z.0 m ≡ rested (part z.0 m).popped) (sym knows) whole
 
-  pub grants_from : (carrier : Carrier) (u : PoolSeat) (r : Record) → GrantsNextIn carrier t u p m r → GrantsNextIn carrier s u p m r
+  pub grants_from : (carrier : Carrier) (u : TableSeat) (r : Record) → GrantsNextIn carrier t u p m r → GrantsNextIn carrier s u p m r
   grants_from carrier u r did = subst (λ (y : ℕ × ℕ × Me ℕ PoolView). KnowsMoreOf m (λ w k. GrantsNext carrier r (part y.2.0 m) w × Sits y.0 y.1 p.limits w.state w) y.2 u.place.me) (λ i. (same.number i, same.id i, knows i)) did
 
-  pub none_from : (carrier : Carrier) (u : PoolSeat) → FindsNoneIn carrier t u p m → FindsNoneIn carrier s u p m
+  pub none_from : (carrier : Carrier) (u : TableSeat) → FindsNoneIn carrier t u p m → FindsNoneIn carrier s u p m
   none_from carrier u did = (did.0, subst (λ (y : ℕ × ℕ × Me ℕ PoolView). KnowsMoreOf m (λ w k. FindsNone (part y.2.0 m) w × Sits y.0 y.1 p.limits w.state w × (k ≡ rested w.popped)) y.2 u.place.me) (λ i. (same.number i, same.id i, knows i)) did.1)
 
 -- An unlock as a carrier
@@ -86,7 +86,7 @@ unlock_finds _ is head number none above = absurd (false≢true is)
 
 -- The seat serves
 
-module _ (p : Pool) (s : PoolSeat) (m : ℕ) (carrier : Carrier) (unlocks : is_unlock carrier ≡ true) (sits : SitsIn s p m) (at : IsServing carrier s m) (whole : note_of s m ≡ rested (popped_of s m)) where
+module _ (p : Pool) (s : TableSeat) (m : ℕ) (carrier : Carrier) (unlocks : is_unlock carrier ≡ true) (sits : SitsIn s p m) (at : IsServing carrier s m) (whole : note_of s m ≡ rested (popped_of s m)) where
   pub serving_carries : CarriesIn s m
   serving_carries = carrying (state_of s m) (ap carries at ∙ taking carrier s.number (oldest (popped_of s m)))
 
@@ -113,7 +113,7 @@ module _ (p : Pool) (s : PoolSeat) (m : ℕ) (carrier : Carrier) (unlocks : is_u
   clears none = (carrier, at ∙ ap (λ (l : List Record). take carrier s.number (oldest l)) none)
 
   -- it has granted a record that was popped
-  pub granted_popped : (t : PoolSeat) (r : Record) → IsOldest r (popped_of s m) → GrantsIn s t p m r → GrantsNextIn carrier s t p m r
+  pub granted_popped : (t : TableSeat) (r : Record) → IsOldest r (popped_of s m) → GrantsIn s t p m r → GrantsNextIn carrier s t p m r
   granted_popped t r first did =
       let x = state_of s m in
       let v = part s.place.me.0 m in
@@ -143,7 +143,7 @@ module _ (p : Pool) (s : PoolSeat) (m : ℕ) (carrier : Carrier) (unlocks : is_u
 
   -- It has cleared the head of the push word
 
-  module _ (mutex : IsMutex m p) (belongs : OfPool s p) (none : popped_of s m ≡ []) (t : PoolSeat) (n : ℕ) (same : SameSeat s t) (step : MovesIn s t p m n) where
+  module _ (mutex : IsMutex m p) (belongs : OfPool s p) (none : popped_of s m ≡ []) (t : TableSeat) (n : ℕ) (same : SameSeat s t) (step : MovesIn s t p m n) where
     here : m < length s.place.me.0.parts
     here = let a = belongs.parts in omega (arith, a, mutex)
 
@@ -219,7 +219,7 @@ module _ (p : Pool) (s : PoolSeat) (m : ℕ) (carrier : Carrier) (unlocks : is_u
     pub cleared_loads : (head : ℕ) → head ≡ (link_of n).next → head ≢ 0 → LoadsLink head (state_of t m)
     cleared_loads head e more = (carrier, loads_at head e more)
 
-    module _ (head : ℕ) (head_is : head ≡ (link_of n).next) (more : head ≢ 0) (u : PoolSeat) (r : Record) (same' : SameSeat t u) (collected : CollectsIn t u p m head r) where
+    module _ (head : ℕ) (head_is : head ≡ (link_of n).next) (more : head ≢ 0) (u : TableSeat) (r : Record) (same' : SameSeat t u) (collected : CollectsIn t u p m head r) where
       carrier_is : collected.0 ≡ carrier
       carrier_is =
           let e : TakeLinkLoad collected.0 head ≡ TakeLinkLoad carrier head = sym collected.1 ∙ loads_at head head_is more in cc
@@ -254,7 +254,7 @@ module _ (p : Pool) (s : PoolSeat) (m : ℕ) (carrier : Carrier) (unlocks : is_u
           note_now t.number t.place.id m p.limits t.place.me u.place.me u.place.me there collected.2.0 _ collected.2.2 ∙ collected.2.3.2
           ∙ ap (λ (y : View ⊤). rested (drop 1 y.popped)) (sym now2)
 
-      pub granted_collected : (z : PoolSeat) → MovesIn u z p m (wake_word (Grant r.stamp)) → GrantsNextIn carrier s z p m r
+      pub granted_collected : (z : TableSeat) → MovesIn u z p m (wake_word (Grant r.stamp)) → GrantsNextIn carrier s z p m r
       granted_collected z did =
           let x = state_of u m in
           let n3 : ℕ = wake_word (Grant r.stamp) in

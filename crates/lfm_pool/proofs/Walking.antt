@@ -26,7 +26,7 @@ use Rattle.lfm_table.specs.Steps.{gives_at}
 use Rattle.lfm_table.proofs.tables.Actions.{run_next, run_same}
 use Rattle.lfm_table.proofs.tables.StepFacts.{carrying, keeps_value, made_of}
 use Rattle.lfm_pool.specs.declared.pool.Pool.{Pool}
-use Rattle.lfm_pool.specs.declared.pool.PoolSeat.{PoolSeat}
+use Rattle.lfm_pool.specs.declared.pool.TableSeat.{TableSeat}
 use Rattle.lfm_pool.specs.declared.view.Note.{Note}
 use Rattle.lfm_pool.specs.declared.view.PoolView.{PoolView}
 use Rattle.lfm_pool.specs.Belongs.{IsMutex, OfPool, SameSeat}
@@ -43,7 +43,7 @@ use Rattle.lfm_pool.proofs.SeatWords.{target_of_load}
 
 -- From s0 to s the seat has collected records in mutex m, the first of them that of the seat `head`, and the last that of
 -- the seat `newer`, or none if that is 0. It collects that of the seat `target` next.
-pub record Walking (p : Pool) (s0 s : PoolSeat) (m : ℕ) (carrier : Carrier) (head target newer : ℕ) : Type 0 where
+pub record Walking (p : Pool) (s0 s : TableSeat) (m : ℕ) (carrier : Carrier) (head target newer : ℕ) : Type 0 where
   pub same : SameSeat s0 s
   pub only : s.place.me ≡ (with_part s0.place.me.0 m (part s.place.me.0 m) (note_of s m), s0.place.me.1)
   pub sits : SitsIn s p m
@@ -57,10 +57,10 @@ pub record Walking (p : Pool) (s0 s : PoolSeat) (m : ℕ) (carrier : Carrier) (h
   pub narrow : target < 2 ^ 16
   pub few : length (popped_of s m) ≤ p.limits.seats
 
-same_seat : (s : PoolSeat) → SameSeat s s
+same_seat : (s : TableSeat) → SameSeat s s
 same_seat s = record { table = refl; id = refl; number = refl; parts = refl }
 
-pub walk_starts : (p : Pool) (s : PoolSeat) (m head : ℕ) → SitsIn s p m → (at : LoadsLink head (state_of s m)) → popped_of s m ≡ [] → (note_of s m).due ≡ 0 → head < 2 ^ 16 → Walking p s s m at.0 head head 0
+pub walk_starts : (p : Pool) (s : TableSeat) (m head : ℕ) → SitsIn s p m → (at : LoadsLink head (state_of s m)) → popped_of s m ≡ [] → (note_of s m).due ≡ 0 → head < 2 ^ 16 → Walking p s s m at.0 head head 0
 walk_starts p s m head sits at none whole narrow = record {
   same = same_seat s;
   only = λ i. (record s.place.me.0 { parts = sym (set-get_or s.place.me.0.parts m (unnoted no_view)) i }, s.place.me.1);
@@ -76,7 +76,7 @@ walk_starts p s m head sits at none whole narrow = record {
   few = let n = ap (λ (l : List Record). length l) none in omega (arith, n);
 }
 
-module _ (p : Pool) (s0 s t : PoolSeat) (m : ℕ) (carrier : Carrier) (head target newer : ℕ) (belongs : OfPool s0 p) (mutex : IsMutex m p) (walk : Walking p s0 s m carrier head target newer)
+module _ (p : Pool) (s0 s t : TableSeat) (m : ℕ) (carrier : Carrier) (head target newer : ℕ) (belongs : OfPool s0 p) (mutex : IsMutex m p) (walk : Walking p s0 s m carrier head target newer)
     (link : Link) (narrow : link.next < 2 ^ 16) (same : SameSeat s t) (step : CollectsOneIn s t p m (link_word link)) where
   here : m < length s.place.me.0.parts
   here = let a = walk.same.parts in let b = belongs.parts in omega (arith, a, b, mutex)
@@ -168,7 +168,7 @@ module _ (p : Pool) (s0 s t : PoolSeat) (m : ℕ) (carrier : Carrier) (head targ
       ap (λ (y : View ⊤). carries_value y.state) now_part ∙ ap carries_value step.3.0.state
       ∙ keeps_value (state_of s m) s.number (link_word link) (oldest step.3.0.popped) (ap gives_at at) (carrying (state_of s m) (ap carries at))
 
-  pub walk_ends : (u : PoolSeat) → link.next ≡ 0 → SameSeat t u → NotesIn t u m (record (note_of t m) { carried = newer }) → (begins : (state_of s0 m).point ≡ TakeLinkLoad carrier head) → CollectsIn s0 u p m head (record { seat = target; stamp = link.stamp })
+  pub walk_ends : (u : TableSeat) → link.next ≡ 0 → SameSeat t u → NotesIn t u m (record (note_of t m) { carried = newer }) → (begins : (state_of s0 m).point ≡ TakeLinkLoad carrier head) → CollectsIn s0 u p m head (record { seat = target; stamp = link.stamp })
   walk_ends u last same_now notes begins = (
     carrier,
     begins,
@@ -191,9 +191,9 @@ module _ (p : Pool) (s0 s t : PoolSeat) (m : ℕ) (carrier : Carrier) (head targ
     ),
   )
 
-pub walk_elsewhere : (p : Pool) (s0 s : PoolSeat) (m : ℕ) (carrier : Carrier) (head target newer : ℕ) → Walking p s0 s m carrier head target newer → RestsInOthers s0 m → RestsInOthers s m
+pub walk_elsewhere : (p : Pool) (s0 s : TableSeat) (m : ℕ) (carrier : Carrier) (head target newer : ℕ) → Walking p s0 s m carrier head target newer → RestsInOthers s0 m → RestsInOthers s m
 walk_elsewhere p s0 s m carrier head target newer walk elsewhere =
     subst (λ (z : Me ℕ PoolView). RestsElsewhere z.0 m) (sym walk.only) (elsewhere_with s0.place.me.0 m (part s.place.me.0 m) (note_of s m) elsewhere)
 
-pub walk_target : (p : Pool) (s : PoolSeat) (m target : ℕ) → SitsIn s p m → LoadsLink target (state_of s m) → (0 < target) × (target ≤ p.limits.seats)
+pub walk_target : (p : Pool) (s : TableSeat) (m target : ℕ) → SitsIn s p m → LoadsLink target (state_of s m) → (0 < target) × (target ≤ p.limits.seats)
 walk_target p s m target sits at = target_of_load p.mutexes p.limits.seats m s.number 0 0 (state_of s m) sits.ready target at

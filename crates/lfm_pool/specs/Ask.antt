@@ -16,7 +16,7 @@ use Rattle.lfm_table.specs.declared.seat_view.Seen.{Seen}
 use Rattle.lfm_table.specs.Actions.{seen}
 use Rattle.lfm_pool.specs.declared.ask.Asking.{Asking}
 use Rattle.lfm_pool.specs.declared.pool.Pool.{Pool}
-use Rattle.lfm_pool.specs.declared.pool.PoolSeat.{PoolSeat}
+use Rattle.lfm_pool.specs.declared.pool.TableSeat.{TableSeat}
 use Rattle.lfm_pool.specs.Chain.{rested}
 use Rattle.lfm_pool.specs.Moves.{MakesIn}
 use Rattle.lfm_pool.specs.Seats.{HoldsOnceIn, note_of, popped_of, state_of}
@@ -57,7 +57,7 @@ PushSteps new =
     × (new ≡ seen (PushLoad Pusher.Locker) word ∷ (attempts word finds ++ attempt last last))
 
 -- from s to t the seat has pushed its record in mutex m
-abbrev pub QueuesIn : PoolSeat → PoolSeat → ℕ → Type 0
+abbrev pub QueuesIn : TableSeat → TableSeat → ℕ → Type 0
 QueuesIn s t m = (new : List Seen) × PushSteps new × MakesIn s t m new (record (state_of s m) { point = PushedHandoffLoad Pusher.Locker })
 
 -- After the push
@@ -86,7 +86,7 @@ asked_point Asking.Asleep number popped = Asleep Sleeper.Locker
 asked_point Asking.Carries number popped = take Carrier.Locker number (oldest popped)
 
 -- from s to t the seat has queued in mutex m, and has come this far
-abbrev pub WaitsIn : PoolSeat → PoolSeat → ℕ → Asking → Type 0
+abbrev pub WaitsIn : TableSeat → TableSeat → ℕ → Asking → Type 0
 WaitsIn s t m asking =
     (new : List Seen) × QueueSteps asking new × MakesIn s t m new (record (state_of s m) { point = asked_point asking s.number (part t.place.me.0 m).popped })
 
@@ -106,12 +106,12 @@ asked Asking.Held number popped x = record x { depth = 1; takes = x.takes + 1 }
 asked asking number popped x = record x { takes = x.takes + 1; point = asked_point asking number popped }
 
 -- from s to t the seat, which did not hold mutex m, has begun a lock of it and has come this far
-abbrev pub AsksIn : PoolSeat → PoolSeat → ℕ → Asking → Type 0
+abbrev pub AsksIn : TableSeat → TableSeat → ℕ → Asking → Type 0
 AsksIn s t m asking = (new : List Seen) × AskSteps asking s.number new × MakesIn s t m new (asked asking s.number (part t.place.me.0 m).popped (state_of s m))
 
 -- What the seat is ready for after this answer: to release the mutex, to receive a grant, or to serve the oldest record, and
 -- to collect the push list first if no record is popped.
-abbrev pub IsReadyAfter : Asking → PoolSeat → Pool → ℕ → Type 0
+abbrev pub IsReadyAfter : Asking → TableSeat → Pool → ℕ → Type 0
 IsReadyAfter Asking.Held t p m = HoldsOnceIn t p m
 IsReadyAfter Asking.Asleep t p m = Sleeps (state_of t m)
 IsReadyAfter Asking.Carries t p m =
@@ -130,6 +130,6 @@ failed_pushes [] = 0
 failed_pushes (step ∷ steps) = failed_push step.found step.point + failed_pushes steps
 
 -- from s to t the seat has made at most this number of steps in mutex m, and two more for each of them that failed to push
-abbrev pub MakesBesideFailuresIn : ℕ → PoolSeat → PoolSeat → ℕ → Type 0
+abbrev pub MakesBesideFailuresIn : ℕ → TableSeat → TableSeat → ℕ → Type 0
 MakesBesideFailuresIn k s t m =
     (new : List Seen) × ((part t.place.me.0 m).trail ≡ (part s.place.me.0 m).trail ++ new) × (length new ≤ k + 2 * failed_pushes new)

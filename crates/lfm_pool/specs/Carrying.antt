@@ -4,7 +4,7 @@ use Rattle.lfm_words.specs.declared.pop_lists.Record.{Record}
 use Rattle.lfm_protocol.specs.Limits.{max_seats}
 use Rattle.atomic_table.specs.Table.{Me, Allows}
 use Rattle.lfm_laws.specs.table.Carried.{carries_value}
-use Rattle.lfm_pool.specs.declared.pool.PoolSeat.{PoolSeat}
+use Rattle.lfm_pool.specs.declared.pool.TableSeat.{TableSeat}
 use Rattle.lfm_pool.specs.declared.view.Note.{Note}
 use Rattle.lfm_pool.specs.declared.view.PoolView.{PoolView}
 use Rattle.lfm_pool.specs.Chain.{AreWithin}
@@ -13,11 +13,11 @@ use Rattle.lfm_pool.specs.Seats.{state_of}
 use Rattle.lfm_pool.specs.Tables.{part, with_part}
 
 -- the seat carries mutex m, or holds it
-abbrev pub CarriesIn : PoolSeat → ℕ → Type 0
+abbrev pub CarriesIn : TableSeat → ℕ → Type 0
 CarriesIn s m = carries_value (state_of s m) ≡ true
 
 -- from s to t the seat knows the same, except its note of mutex m, which is k now
-abbrev pub NotesIn : PoolSeat → PoolSeat → ℕ → Note → Type 0
+abbrev pub NotesIn : TableSeat → TableSeat → ℕ → Note → Type 0
 NotesIn s t m k = t.place.me ≡ (with_part s.place.me.0 m (part s.place.me.0 m) k, s.place.me.1)
 
 -- The access by which the word at this index becomes f of what it was keeps the rule. It finds or stores this number, the

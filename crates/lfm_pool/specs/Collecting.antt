@@ -10,7 +10,7 @@ use Rattle.lfm_table.specs.declared.seat_view.Seen.{Seen}
 use Rattle.lfm_table.specs.declared.seat_view.View.{View}
 use Rattle.lfm_table.specs.Actions.{RunGoesOn, seen}
 use Rattle.lfm_pool.specs.declared.pool.Pool.{Pool}
-use Rattle.lfm_pool.specs.declared.pool.PoolSeat.{PoolSeat}
+use Rattle.lfm_pool.specs.declared.pool.TableSeat.{TableSeat}
 use Rattle.lfm_pool.specs.Chain.{rested}
 use Rattle.lfm_pool.specs.FastPaths.{KnowsMoreOf}
 use Rattle.lfm_pool.specs.Seats.{note_of, state_of}
@@ -24,7 +24,7 @@ ClearsHead p = (carrier : Carrier) × (p.point ≡ TakeClearHead carrier)
 
 -- from s to t the seat has loaded a link in mutex m, whose word is n, and the chain is whole as before: it has the record of
 -- the link too
-abbrev pub CollectsOneIn : PoolSeat → PoolSeat → Pool → ℕ → ℕ → Type 0
+abbrev pub CollectsOneIn : TableSeat → TableSeat → Pool → ℕ → ℕ → Type 0
 CollectsOneIn s t p m n =
     KnowsMoreOf m
     (λ w k.
@@ -57,7 +57,7 @@ pub record Collects (carrier : Carrier) (head number : ℕ) (r : Record) (v w : 
 
 -- From s to t the seat has done so in mutex m. All these records are in the chain, and the carried word names the one after
 -- the oldest, as the seat that is served has to find it.
-abbrev pub CollectsIn : PoolSeat → PoolSeat → Pool → ℕ → ℕ → Record → Type 0
+abbrev pub CollectsIn : TableSeat → TableSeat → Pool → ℕ → ℕ → Record → Type 0
 CollectsIn s t p m head r =
     (carrier : Carrier) × ((state_of s m).point ≡ TakeLinkLoad carrier head)
     × KnowsMoreOf m

@@ -7,7 +7,7 @@ use Rattle.lfm_table.specs.declared.seat_view.Seen.{Seen}
 use Rattle.lfm_table.specs.declared.seat_view.View.{View}
 use Rattle.lfm_table.specs.Actions.{seen}
 use Rattle.lfm_pool.specs.declared.pool.Pool.{Pool}
-use Rattle.lfm_pool.specs.declared.pool.PoolSeat.{PoolSeat}
+use Rattle.lfm_pool.specs.declared.pool.TableSeat.{TableSeat}
 use Rattle.lfm_pool.specs.declared.view.Note.{Note}
 use Rattle.lfm_pool.specs.Chain.{deep}
 use Rattle.lfm_pool.specs.FastPaths.{KnowsMoreOf}
@@ -26,7 +26,7 @@ pub record HasDepth (number id : ℕ) (l : Limits) (v : View ⊤) (note : Note) 
   pub most : depth ≤ max_depth
   pub noted : 0 < depth → note ≡ deep (depth - 1) v.popped
 
-abbrev pub HasDepthIn : PoolSeat → Pool → ℕ → ℕ → Type 0
+abbrev pub HasDepthIn : TableSeat → Pool → ℕ → ℕ → Type 0
 HasDepthIn s p m depth = HasDepth s.number s.place.id p.limits (part s.place.me.0 m) (note s.place.me.0 m) depth
 
 -- a seat with this view has loaded n from the owner word: that is its own number exactly if it holds the mutex
@@ -46,7 +46,7 @@ AskAgainSteps number new =
     (count last : ℕ) × (count ≢ 0) × (new ≡ seen LockCountAdd count ∷ seen LockOwnerLoad number ∷ seen LockCountSubtract last ∷ [])
 
 -- from s to t the seat has made such steps in mutex m, and holds it this many times then
-abbrev pub DeepensBy : (ℕ → List Seen → Type 0) → PoolSeat → PoolSeat → Pool → ℕ → ℕ → Type 0
+abbrev pub DeepensBy : (ℕ → List Seen → Type 0) → TableSeat → TableSeat → Pool → ℕ → ℕ → Type 0
 DeepensBy steps s t p m depth =
     KnowsMoreOf m
     (λ w k.
@@ -55,6 +55,6 @@ DeepensBy steps s t p m depth =
     s.place.me t.place.me
 
 -- from s to t the seat has given up a hold of mutex m without a step, and holds it this many times then
-abbrev pub GivesUpIn : PoolSeat → PoolSeat → Pool → ℕ → ℕ → Type 0
+abbrev pub GivesUpIn : TableSeat → TableSeat → Pool → ℕ → ℕ → Type 0
 GivesUpIn s t p m depth =
     KnowsMoreOf m (λ w k. (w ≡ part s.place.me.0 m) × HasDepth s.number s.place.id p.limits w k depth) s.place.me t.place.me

@@ -46,6 +46,7 @@ pub record Leaves (v w : View ⊤) : Type 0 where
       ≡ v.trail ++ (seen (ReleaseOwnerStore Unlocker) 0 ∷ seen (ReleaseCountSubtract Unlocker) 1 ∷ [])
   pub rests : w.state.point ≡ Rest
   pub flat : w.state.depth ≡ 0
+  pub takes : w.state.takes ≡ v.state.takes
   pub run : RunGoesOn v w
 
 -- the exchange of a try_lock found the count n, which is not 0: the owner is loaded next

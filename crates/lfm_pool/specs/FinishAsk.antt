@@ -16,7 +16,7 @@ use Rattle.lfm_table.specs.declared.seat_view.Seen.{Seen}
 use Rattle.lfm_table.specs.Actions.{seen}
 use Rattle.lfm_pool.specs.declared.finish_ask.Finished.{Finished}
 use Rattle.lfm_pool.specs.declared.pool.Pool.{Pool}
-use Rattle.lfm_pool.specs.declared.pool.PoolSeat.{PoolSeat}
+use Rattle.lfm_pool.specs.declared.pool.TableSeat.{TableSeat}
 use Rattle.lfm_pool.specs.declared.view.Note.{Note}
 use Rattle.lfm_pool.specs.Chain.{rested}
 use Rattle.lfm_pool.specs.FastPaths.{KnowsMoreOf}
@@ -29,11 +29,11 @@ use Rattle.lfm_pool.specs.Steps.{Sits}
 use Rattle.lfm_pool.specs.Tables.{part}
 
 -- a lock of the seat in mutex m takes the oldest record next, or collects the push list first if no record is popped
-abbrev pub TakesOldest : PoolSeat → ℕ → Type 0
+abbrev pub TakesOldest : TableSeat → ℕ → Type 0
 TakesOldest s m = (state_of s m).point ≡ take Carrier.Locker s.number (oldest (popped_of s m))
 
 -- the oldest popped record is its own, and it acquires the mutex next
-abbrev pub EntersByOwn : PoolSeat → ℕ → Type 0
+abbrev pub EntersByOwn : TableSeat → ℕ → Type 0
 EntersByOwn s m =
     (r : Record) × (r.seat ≡ s.number) × ((state_of s m).point ≡ EnterOwnerStore Entrant.Locker (How.Queued r.stamp))
     × IsOldest r (popped_of s m)
@@ -66,7 +66,7 @@ NotesFinished (Finished.Held stamp) k popped = k ≡ rested popped
 NotesFinished (Finished.Granted r) k popped = ⊤
 
 -- from s to t the seat has done so in mutex m
-abbrev pub FinishesIn : Finished → PoolSeat → PoolSeat → Pool → ℕ → Type 0
+abbrev pub FinishesIn : Finished → TableSeat → TableSeat → Pool → ℕ → Type 0
 FinishesIn result s t p m =
     KnowsMoreOf m
     (λ w k.
@@ -76,6 +76,6 @@ FinishesIn result s t p m =
     s.place.me t.place.me
 
 -- the seat may release the mutex then, or receive a grant
-abbrev pub IsReadyFinished : Finished → PoolSeat → Pool → ℕ → Type 0
+abbrev pub IsReadyFinished : Finished → TableSeat → Pool → ℕ → Type 0
 IsReadyFinished (Finished.Held stamp) t p m = HoldsOnceIn t p m
 IsReadyFinished (Finished.Granted r) t p m = Sleeps (state_of t m)

@@ -15,7 +15,7 @@ use Rattle.lfm_protocol.specs.Stores.{expected_handoff, stored_handoff}
 use Rattle.lfm_laws.specs.steady.Steady.{DepthAt}
 use Rattle.lfm_table.specs.declared.seat_view.View.{View}
 use Rattle.lfm_pool.specs.declared.pool.Pool.{Pool}
-use Rattle.lfm_pool.specs.declared.pool.PoolSeat.{PoolSeat}
+use Rattle.lfm_pool.specs.declared.pool.TableSeat.{TableSeat}
 use Rattle.lfm_pool.specs.declared.view.PoolView.{PoolView}
 use Rattle.lfm_pool.specs.Chain.{note_after}
 use Rattle.lfm_pool.specs.Posts.{loaded_post}
@@ -95,27 +95,27 @@ abbrev pub forgetting : Me ℕ PoolView → Me ℕ PoolView
 forgetting me = (record me.0 { found = 0 }, me.1)
 
 -- the seat without that number
-abbrev pub forgotten : PoolSeat → PoolSeat
+abbrev pub forgotten : TableSeat → TableSeat
 forgotten s = record s { place = record s.place { me = forgetting s.place.me } }
 
 -- the seat with this count of posts in place of its own
-abbrev pub recounted : PoolSeat → ℕ → PoolSeat
+abbrev pub recounted : TableSeat → ℕ → TableSeat
 recounted s k = record s { place = record s.place { me = (record s.place.me.0 { posts = k }, s.place.me.1) }; posts = k; counted = λ i. k }
 
 -- from s to t the seat has loaded the handoff word of mutex m, and found n
-abbrev pub LoadsWordIn : PoolSeat → PoolSeat → Pool → ℕ → ℕ → Type 0
+abbrev pub LoadsWordIn : TableSeat → TableSeat → Pool → ℕ → ℕ → Type 0
 LoadsWordIn s t p m n =
     (l : ℕ) × MovesIn s (forgotten t) p m l × SameLoaded s.place.me.0 n l × (t.place.me.0.found ≡ (handoff_of n).post)
 
 -- from s to t the seat has tried for this post in mutex m, and found n
-abbrev pub TriesPostIn : PoolSeat → PoolSeat → Pool → ℕ → ℕ → ℕ → Type 0
+abbrev pub TriesPostIn : TableSeat → TableSeat → Pool → ℕ → ℕ → ℕ → Type 0
 TriesPostIn s t p m post n =
     (l : ℕ) × MovesIn (forgotten s) t p m l
     × SameTried (state_of s m).point s.place.me.0 post (handoff_word (expected_handoff (state_of s m) s.number)) n l
     × (t.place.me.0.found ≡ 0)
 
 -- from s to t the seat has posted mutex m
-abbrev pub MakesPostIn : PoolSeat → PoolSeat → Pool → ℕ → Type 0
+abbrev pub MakesPostIn : TableSeat → TableSeat → Pool → ℕ → Type 0
 MakesPostIn s t p m =
     MovesIn (recounted s (s.posts + 1)) t p m (handoff_word (record { seat = s.number; post = (state_of s m).posts + 1 }))
     × (s.place.me.0.found ≡ 0)

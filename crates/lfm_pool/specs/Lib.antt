@@ -3,9 +3,11 @@ pub mod AnyDepth
 pub mod Ask
 pub mod AskAll
 pub mod Belongs
+pub mod Calls
 pub mod Carrying
 pub mod Chain
 pub mod Collecting
+pub mod Counts
 pub mod Depths
 pub mod FastPaths
 pub mod Finds
@@ -13,7 +15,9 @@ pub mod FinishAsk
 pub mod Handoff
 pub mod Laws
 pub mod Layout
+pub mod Locks
 pub mod Moves
+pub mod NewSeats
 pub mod Posts
 pub mod Push
 pub mod Receive
@@ -22,10 +26,8 @@ pub mod Rule
 pub mod SeatWords
 pub mod Seats
 pub mod Serving
-pub mod Sleep
 pub mod Steps
 pub mod Tables
 pub mod TryLock
 pub mod Unlock
 pub mod WakeUps
-pub mod Waking

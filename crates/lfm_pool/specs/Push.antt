@@ -14,7 +14,7 @@ use Rattle.lfm_protocol.specs.declared.seats.SeatState.{SeatState}
 use Rattle.lfm_table.specs.declared.seat_view.View.{View}
 use Rattle.lfm_table.specs.Actions.{RunGoesOn, seen}
 use Rattle.lfm_pool.specs.declared.pool.Pool.{Pool}
-use Rattle.lfm_pool.specs.declared.pool.PoolSeat.{PoolSeat}
+use Rattle.lfm_pool.specs.declared.pool.TableSeat.{TableSeat}
 use Rattle.lfm_pool.specs.Chain.{note_since, rested}
 use Rattle.lfm_pool.specs.FastPaths.{KnowsMoreOf}
 use Rattle.lfm_pool.specs.Handoff.{SameLoaded, SameTried, forgotten}
@@ -32,7 +32,7 @@ pub record Pushes (loaded : Link) (n : ℕ) (v w : View ⊤) : Type 0 where
   pub run : RunGoesOn v w
 
 -- from s to t the seat has made such an attempt in mutex m, which found n
-abbrev pub PushesIn : PoolSeat → PoolSeat → Pool → ℕ → Link → ℕ → Type 0
+abbrev pub PushesIn : TableSeat → TableSeat → Pool → ℕ → Link → ℕ → Type 0
 PushesIn s t p m loaded n =
     KnowsMoreOf m
     (λ w k.
@@ -57,7 +57,7 @@ pub record Steps (p : Point) (n : ℕ) (q : Point) (v w : View ⊤) : Type 0 whe
   pub run : RunGoesOn v w
 
 -- from s to t the seat has made such a step in mutex m
-abbrev pub StepsFrom : PoolSeat → PoolSeat → Pool → ℕ → Point → ℕ → Point → Type 0
+abbrev pub StepsFrom : TableSeat → TableSeat → Pool → ℕ → Point → ℕ → Point → Type 0
 StepsFrom s t p m q n r =
     KnowsMoreOf m
     (λ w k.
@@ -66,18 +66,18 @@ StepsFrom s t p m q n r =
     s.place.me t.place.me
 
 -- from s to t the seat has loaded the push word n of mutex m, and stores its link next
-abbrev pub LoadsPushIn : PoolSeat → PoolSeat → Pool → ℕ → ℕ → Type 0
+abbrev pub LoadsPushIn : TableSeat → TableSeat → Pool → ℕ → ℕ → Type 0
 LoadsPushIn s t p m n = StepsFrom s t p m (PushLoad Pusher.Locker) n (LinkStore Pusher.Locker (link_of n))
 
 -- from s to t the seat has loaded the handoff word n of mutex m: it sleeps now, if nothing was posted
-abbrev pub LoadsHandoffIn : PoolSeat → PoolSeat → Pool → ℕ → ℕ → Type 0
+abbrev pub LoadsHandoffIn : TableSeat → TableSeat → Pool → ℕ → ℕ → Type 0
 LoadsHandoffIn s t p m n =
     StepsFrom s t p m (PushedHandoffLoad Pusher.Locker) n
     (if nat_eq (handoff_of n).seat 0 then Asleep Sleeper.Locker else PushedHandoffExchange Pusher.Locker (handoff_of n))
 
 -- The same by the word n of the mutex: the word of its table names the same seat, or none either. The seat remembers the
 -- number of the post.
-abbrev pub FindsHandoffIn : PoolSeat → PoolSeat → Pool → ℕ → ℕ → Type 0
+abbrev pub FindsHandoffIn : TableSeat → TableSeat → Pool → ℕ → ℕ → Type 0
 FindsHandoffIn s t p m n =
     (l : ℕ) × LoadsHandoffIn s (forgotten t) p m l × SameLoaded s.place.me.0 n l × (t.place.me.0.found ≡ (handoff_of n).post)
 
@@ -86,7 +86,7 @@ abbrev pub TakesPost : Handoff → SeatState → Type 0
 TakesPost posted p = p.point ≡ PushedHandoffExchange Pusher.Locker posted
 
 -- the same, and the handoff word of the mutex has this number for it
-abbrev pub TakesWord : ℕ → PoolSeat → ℕ → Type 0
+abbrev pub TakesWord : ℕ → TableSeat → ℕ → Type 0
 TakesWord word s m =
     (posted : Handoff) × TakesPost posted (state_of s m) × (word ≡ handoff_word (record { seat = posted.seat; post = s.place.me.0.found }))
 
@@ -101,7 +101,7 @@ pub record TakesOver (number : ℕ) (posted : Handoff) (n : ℕ) (v w : View ⊤
   pub run : RunGoesOn v w
 
 -- from s to t the seat has made that exchange in mutex m
-abbrev pub TakesOverIn : PoolSeat → PoolSeat → Pool → ℕ → Handoff → ℕ → Type 0
+abbrev pub TakesOverIn : TableSeat → TableSeat → Pool → ℕ → Handoff → ℕ → Type 0
 TakesOverIn s t p m posted n =
     KnowsMoreOf m
     (λ w k.
@@ -110,7 +110,7 @@ TakesOverIn s t p m posted n =
     s.place.me t.place.me
 
 -- the same, by the number in the handoff word of the mutex, where the exchange found n
-abbrev pub TakesWordIn : PoolSeat → PoolSeat → Pool → ℕ → ℕ → ℕ → Type 0
+abbrev pub TakesWordIn : TableSeat → TableSeat → Pool → ℕ → ℕ → ℕ → Type 0
 TakesWordIn s t p m word n =
     (posted : Handoff) × (l : ℕ) × TakesPost posted (state_of s m) × TakesOverIn (forgotten s) t p m posted l
     × SameTried (PushedHandoffExchange Pusher.Locker posted) s.place.me.0 word (handoff_word posted) n l × (t.place.me.0.found ≡ 0)

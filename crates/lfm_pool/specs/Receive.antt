@@ -10,7 +10,7 @@ use Rattle.lfm_protocol.specs.declared.points.Sleeper.{Sleeper}
 use Rattle.lfm_protocol.specs.declared.seats.SeatState.{SeatState}
 use Rattle.lfm_table.specs.declared.seat_view.Seen.{Seen}
 use Rattle.lfm_table.specs.Actions.{seen}
-use Rattle.lfm_pool.specs.declared.pool.PoolSeat.{PoolSeat}
+use Rattle.lfm_pool.specs.declared.pool.TableSeat.{TableSeat}
 use Rattle.lfm_pool.specs.Moves.{MakesIn}
 use Rattle.lfm_pool.specs.Seats.{state_of}
 
@@ -28,6 +28,6 @@ received None x = x
 received (Some how) x = record x { depth = 1; point = Rest }
 
 -- from s to t the seat, which sleeps in mutex m, has made a receive there
-abbrev pub ReceivedIn : PoolSeat → PoolSeat → ℕ → Option How → Type 0
+abbrev pub ReceivedIn : TableSeat → TableSeat → ℕ → Option How → Type 0
 ReceivedIn s t m result =
     (sleeper : Sleeper) × (new : List Seen) × ((state_of s m).point ≡ Asleep sleeper) × ReceiveSteps s.number sleeper result new × MakesIn s t m new (received result (state_of s m))

@@ -12,7 +12,7 @@ use Rattle.lfm_table.specs.declared.seat_view.Seen.{Seen}
 use Rattle.lfm_table.specs.declared.seat_view.View.{View}
 use Rattle.lfm_table.specs.Actions.{RunGoesOn, seen}
 use Rattle.lfm_pool.specs.declared.pool.Pool.{Pool}
-use Rattle.lfm_pool.specs.declared.pool.PoolSeat.{PoolSeat}
+use Rattle.lfm_pool.specs.declared.pool.TableSeat.{TableSeat}
 use Rattle.lfm_pool.specs.Chain.{rested}
 use Rattle.lfm_pool.specs.Collecting.{loads_of, walk_head}
 use Rattle.lfm_pool.specs.FastPaths.{KnowsMoreOf}
@@ -27,7 +27,7 @@ is_unlock (Carrier.Reclaimer Unlocker) = true
 is_unlock _ = false
 
 -- this carrier serves the oldest of the seats that are counted next
-abbrev pub IsServing : Carrier → PoolSeat → ℕ → Type 0
+abbrev pub IsServing : Carrier → TableSeat → ℕ → Type 0
 IsServing carrier s m = (state_of s m).point ≡ take carrier s.number (oldest (popped_of s m))
 
 -- the steps by which a call collects the push list, if no record is popped: it finds this push word, and these records
@@ -50,7 +50,7 @@ pub record GrantsNext (carrier : Carrier) (r : Record) (v w : View ⊤) : Type 0
   pub state : w.state ≡ record v.state { point = Rest }
   pub run : RunGoesOn v w
 
-abbrev pub GrantsNextIn : Carrier → PoolSeat → PoolSeat → Pool → ℕ → Record → Type 0
+abbrev pub GrantsNextIn : Carrier → TableSeat → TableSeat → Pool → ℕ → Record → Type 0
 GrantsNextIn carrier s t p m r =
     KnowsMoreOf m (λ w k. GrantsNext carrier r (part s.place.me.0 m) w × Sits s.number s.place.id p.limits w.state w) s.place.me t.place.me
 
@@ -63,7 +63,7 @@ pub record FindsNone (v w : View ⊤) : Type 0 where
   pub state : w.state ≡ record v.state { point = ReleaseHandoffStore Unlocker }
   pub run : RunGoesOn v w
 
-abbrev pub FindsNoneIn : Carrier → PoolSeat → PoolSeat → Pool → ℕ → Type 0
+abbrev pub FindsNoneIn : Carrier → TableSeat → TableSeat → Pool → ℕ → Type 0
 FindsNoneIn carrier s t p m =
     (carrier ≡ Carrier.Releaser Unlocker) × KnowsMoreOf m
     (λ w k. FindsNone (part s.place.me.0 m) w × Sits s.number s.place.id p.limits w.state w × (k ≡ rested w.popped))

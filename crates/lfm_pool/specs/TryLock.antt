@@ -9,7 +9,7 @@ use Rattle.lfm_protocol.specs.declared.points.Point.TheVariants.{Rest, TryCountE
 use Rattle.lfm_protocol.specs.declared.seats.SeatState.{SeatState}
 use Rattle.lfm_table.specs.declared.seat_view.Seen.{Seen}
 use Rattle.lfm_table.specs.Actions.{seen}
-use Rattle.lfm_pool.specs.declared.pool.PoolSeat.{PoolSeat}
+use Rattle.lfm_pool.specs.declared.pool.TableSeat.{TableSeat}
 use Rattle.lfm_pool.specs.Handoff.{forgotten}
 use Rattle.lfm_pool.specs.Moves.{MakesIn}
 use Rattle.lfm_pool.specs.Seats.{state_of}
@@ -50,22 +50,22 @@ TrySteps number result new =
     FreeSteps number result new ⊎ ((count : ℕ) × (later : List Seen) × (count ≢ 0) × TakenSteps number result later × (new ≡ seen TryCountExchange count ∷ later))
 
 -- from s to t the seat has tried to accept this post in mutex m
-abbrev pub AcceptsIn : PoolSeat → PoolSeat → ℕ → ℕ → Result Locked Refusal → Type 0
+abbrev pub AcceptsIn : TableSeat → TableSeat → ℕ → ℕ → Result Locked Refusal → Type 0
 AcceptsIn s t m post result = (new : List Seen) × AcceptSteps s.number post result new × MakesIn s t m new (ended result (state_of s m))
 
 -- a try_lock has found the post l at the table of the mutex, and tries to accept it next: the handoff word of the mutex has
 -- this number for it
-abbrev pub IsPostWord : ℕ → PoolSeat → ℕ → ℕ → Type 0
+abbrev pub IsPostWord : ℕ → TableSeat → ℕ → ℕ → Type 0
 IsPostWord word s m l =
     ((state_of s m).point ≡ TryHandoffExchange (handoff_of l))
     × (word ≡ handoff_word (record { seat = (handoff_of l).seat; post = s.place.me.0.found }))
 
 -- from s to t the seat has tried to accept this post in mutex m
-abbrev pub AcceptsWordIn : PoolSeat → PoolSeat → ℕ → ℕ → Result Locked Refusal → Type 0
+abbrev pub AcceptsWordIn : TableSeat → TableSeat → ℕ → ℕ → Result Locked Refusal → Type 0
 AcceptsWordIn s t m word result = (l : ℕ) × IsPostWord word s m l × AcceptsIn (forgotten s) t m l result
 
 -- from s to t the seat has made the rest of a try_lock that has found mutex m taken
-abbrev pub EndsTryIn : PoolSeat → PoolSeat → ℕ → Result Locked Refusal → Type 0
+abbrev pub EndsTryIn : TableSeat → TableSeat → ℕ → Result Locked Refusal → Type 0
 EndsTryIn s t m result = (new : List Seen) × TakenSteps s.number result new × MakesIn s t m new (ended result (state_of s m))
 
 -- what a try_lock makes of the data of a seat that rests: it holds the mutex once, for one take, or nothing changes
@@ -74,5 +74,5 @@ tried (Ok locked) x = record x { depth = 1; takes = x.takes + 1 }
 tried (Err refusal) x = x
 
 -- from s to t the seat, which did not hold mutex m, has made a try_lock of it
-abbrev pub TriesIn : PoolSeat → PoolSeat → ℕ → Result Locked Refusal → Type 0
+abbrev pub TriesIn : TableSeat → TableSeat → ℕ → Result Locked Refusal → Type 0
 TriesIn s t m result = (new : List Seen) × TrySteps s.number result new × MakesIn s t m new (tried result (state_of s m))

@@ -10,7 +10,7 @@ use Rattle.lfm_table.specs.declared.seat_view.Seen.{Seen}
 use Rattle.lfm_table.specs.declared.seat_view.View.{View}
 use Rattle.lfm_table.specs.Actions.{RunGoesOn, seen}
 use Rattle.lfm_pool.specs.declared.pool.Pool.{Pool}
-use Rattle.lfm_pool.specs.declared.pool.PoolSeat.{PoolSeat}
+use Rattle.lfm_pool.specs.declared.pool.TableSeat.{TableSeat}
 use Rattle.lfm_pool.specs.declared.unlock.Released.{Released}
 use Rattle.lfm_pool.specs.declared.unlock.Unlocking.{Unlocking}
 use Rattle.lfm_pool.specs.Chain.{rested}
@@ -52,7 +52,7 @@ pub record FindsNobody (v w : View ⊤) : Type 0 where
 
 -- From s to t the seat, which held mutex m once, has begun an unlock of it and has come this far. If it posts next, all
 -- popped records are in the chain, and the carried word names the oldest: a step that gives the mutex away needs that.
-abbrev pub UnlocksIn : Unlocking → PoolSeat → PoolSeat → Pool → ℕ → Type 0
+abbrev pub UnlocksIn : Unlocking → TableSeat → TableSeat → Pool → ℕ → Type 0
 UnlocksIn Unlocking.Free s t p m = LeavesIn s t p m
 UnlocksIn (Unlocking.Granted r) s t p m =
     KnowsMoreOf m (λ w k. Hands r (part s.place.me.0 m) w × Sits s.number s.place.id p.limits w.state w) s.place.me t.place.me
@@ -87,7 +87,7 @@ PostSteps (Released.Granted r) number post popped new =
 PostSteps Released.Free number post popped new = ⊥
 
 -- from s to t the seat has posted mutex m and has ended its unlock with this answer: it has counted one post more
-abbrev pub PostsIn : Released → PoolSeat → PoolSeat → Pool → ℕ → Type 0
+abbrev pub PostsIn : Released → TableSeat → TableSeat → Pool → ℕ → Type 0
 PostsIn result s t p m =
     KnowsMoreOf m
     (λ w k.
@@ -109,13 +109,13 @@ pub record PassesOn (result : Released) (number : ℕ) (v w : View ⊤) : Type 0
   pub state : w.state ≡ record v.state { depth = 0; posts = v.state.posts + 1; point = Rest }
   pub run : RunGoesOn v w
 
-abbrev pub PassesOnIn : Released → PoolSeat → PoolSeat → Pool → ℕ → Type 0
+abbrev pub PassesOnIn : Released → TableSeat → TableSeat → Pool → ℕ → Type 0
 PassesOnIn result s t p m =
     KnowsMoreOf m (λ w k. PassesOn result s.number (part s.place.me.0 m) w × Sits s.number s.place.id p.limits w.state w)
     (recounted s (s.posts + 1)).place.me t.place.me
 
 -- From s to t the seat, which held mutex m once, has made an unlock of it that has ended with this answer.
-abbrev pub ReleasesIn : Released → PoolSeat → PoolSeat → Pool → ℕ → Type 0
+abbrev pub ReleasesIn : Released → TableSeat → TableSeat → Pool → ℕ → Type 0
 ReleasesIn Released.Free s t p m = LeavesIn s t p m
 ReleasesIn (Released.Granted r) s t p m = UnlocksIn (Unlocking.Granted r) s t p m ⊎ PassesOnIn (Released.Granted r) s t p m
 ReleasesIn Released.Posted s t p m = PassesOnIn Released.Posted s t p m

@@ -1,5 +1,5 @@
 -- For which seats of a pool wake-ups are. A contract sees a wake-up as the record that was granted.
-use Rattle.std.specs.Prelude.{ℕ, ⊤, ◌<◌, ◌≤◌, Option, Some, None}
+use Rattle.std.specs.Prelude.{⊤, ◌≤◌, Option, Some, None}
 use Rattle.lfm_words.specs.declared.pop_lists.Record.{Record}
 use Rattle.lfm_pool.specs.declared.finish_ask.Finished.{Finished}
 use Rattle.lfm_pool.specs.declared.pool.Pool.{Pool}

@@ -12,7 +12,7 @@ ghost use Rattle.lfm_pool.specs.Seats.{state_of, MayTryIn, RestsInOthers};
 
 use crate::layout::{COUNT, OWNER};
 use crate::moves::{go_on, start};
-use crate::pool::{Pool, PoolSeat};
+use crate::pool::{Pool, TableSeat};
 use crate::push::{load_handoff, load_push, push, take_over};
 use lfm_table::operations::Access;
 use lfm_words::{Handoff, unpack_link};
@@ -43,7 +43,7 @@ pub enum Asking {
 /// found that another seat changed the word, by a push of its record or by a clearing of the push list. It allocates
 /// nothing, never waits and wakes no thread.
 #[inline(always)]
-pub fn begin_ask(pool: &Pool, seat: &mut PoolSeat, mutex: usize) -> Asking
+pub fn begin_ask(pool: &Pool, seat: &mut TableSeat, mutex: usize) -> Asking
     requires belongs { OfPool seat.old pool.now }
     requires mutex { IsMutex mutex pool.now }
     requires may { MayTryIn seat.old pool.now mutex }
@@ -65,7 +65,7 @@ pub fn begin_ask(pool: &Pool, seat: &mut PoolSeat, mutex: usize) -> Asking
 }
 
 /// Queues the seat, and takes over a post that it finds after its push. Returns Asleep or Carries.
-fn queue(pool: &Pool, seat: &mut PoolSeat, mutex: usize) -> Asking
+fn queue(pool: &Pool, seat: &mut TableSeat, mutex: usize) -> Asking
     requires may { MayStepIn seat.old pool.now mutex }
     requires at { LoadsPush (state_of seat.old mutex) }
     ensures belongs { SameSeat seat.old seat.new }
@@ -86,7 +86,7 @@ fn queue(pool: &Pool, seat: &mut PoolSeat, mutex: usize) -> Asking
 
 /// Pushes the record of the seat: it loads the push word, and tries until an exchange has found the word that was loaded.
 /// Each exchange that fails has found a word that another seat has changed since then.
-fn push_record(pool: &Pool, seat: &mut PoolSeat, mutex: usize)
+fn push_record(pool: &Pool, seat: &mut TableSeat, mutex: usize)
     requires may { MayStepIn seat.old pool.now mutex }
     requires at { LoadsPush (state_of seat.old mutex) }
     ensures belongs { SameSeat seat.old seat.new }

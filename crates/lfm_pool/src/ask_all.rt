@@ -10,7 +10,7 @@ ghost use Rattle.lfm_pool.specs.WakeUps.{WakesSeatOf};
 
 use crate::ask::{Asking, begin_ask};
 use crate::finish_ask::{Finished, finish_ask};
-use crate::pool::{Pool, PoolSeat};
+use crate::pool::{Pool, TableSeat};
 use crate::wake_up::WakeUp;
 use lfm_model::{Asked, How};
 
@@ -28,7 +28,11 @@ use lfm_model::{Asked, How};
 /// steps, one more for each record that is popped when it has ended, and two more for each exchange of the push word that
 /// fails: each of those has found that another seat changed the word. It allocates nothing, never waits and wakes no thread.
 #[inline(always)]
-pub fn ask_without_waking(pool: &Pool, seat: &mut PoolSeat, mutex: usize) -> (Asked, Option<WakeUp>)
+pub fn ask_without_waking(
+    pool: &Pool,
+    seat: &mut TableSeat,
+    mutex: usize,
+) -> (Asked, Option<WakeUp>)
     requires belongs { OfPool seat.old pool.now }
     requires mutex { IsMutex mutex pool.now }
     requires may { MayTryIn seat.old pool.now mutex }

@@ -16,7 +16,7 @@ ghost use Rattle.lfm_pool.specs.Seats.{note_of, popped_of};
 ghost use Rattle.lfm_pool.specs.Tables.{no_pool_view};
 
 use crate::layout::{CARRIED, link_at, own_at};
-use crate::pool::{Pool, PoolSeat};
+use crate::pool::{Pool, TableSeat};
 use crate::view::PoolView;
 use atomic_table::Play;
 use lfm_words::{Link, pack_link};
@@ -58,7 +58,7 @@ struct WordOf {
 
 /// Loads a word whose number the seat knows.
 #[inline(always)]
-fn load_word<B: OneAccess>(pool: &Pool, seat: &mut PoolSeat, word: WordOf) -> u64
+fn load_word<B: OneAccess>(pool: &Pool, seat: &mut TableSeat, word: WordOf) -> u64
     requires table { seat.old.place.table_id ≡ pool.now.table.shared.table_id }
     requires inside { word.index < pool.now.table.shared.table_id.words }
     requires may { MayAccess pool.now.table.shared.table_id.slots seat.old.place.id seat.old.place.me word.index (λ n. n) B.number B.after B.within }
@@ -75,7 +75,7 @@ fn load_word<B: OneAccess>(pool: &Pool, seat: &mut PoolSeat, word: WordOf) -> u6
 
 /// Stores a number in a word.
 #[inline(always)]
-fn store_word<B: OneAccess>(pool: &Pool, seat: &mut PoolSeat, word: WordOf, number: u64)
+fn store_word<B: OneAccess>(pool: &Pool, seat: &mut TableSeat, word: WordOf, number: u64)
     requires table { seat.old.place.table_id ≡ pool.now.table.shared.table_id }
     requires inside { word.index < pool.now.table.shared.table_id.words }
     requires may { MayAccess pool.now.table.shared.table_id.slots seat.old.place.id seat.old.place.me word.index (λ _. number) B.number B.after B.within }
@@ -98,7 +98,7 @@ pub struct ChainLink {
 /// Puts the oldest popped record into the chain: stores its link there. A call does so right after it has loaded the
 /// record's link, by which the record became the oldest popped one.
 #[inline(always)]
-pub fn chain_store(pool: &Pool, seat: &mut PoolSeat, mutex: usize, chained: ChainLink)
+pub fn chain_store(pool: &Pool, seat: &mut TableSeat, mutex: usize, chained: ChainLink)
     requires belongs { OfPool seat.old pool.now }
     requires mutex { IsMutex mutex pool.now }
     requires carries { CarriesIn seat.old mutex }
@@ -117,7 +117,7 @@ pub fn chain_store(pool: &Pool, seat: &mut PoolSeat, mutex: usize, chained: Chai
 /// Loads the link of the oldest popped record in the chain. Returns the word: the stamp of the record, and the seat of the
 /// record after it, or 0. It tells that all popped records are of seats.
 #[inline(always)]
-pub fn chain_load(pool: &Pool, seat: &mut PoolSeat, mutex: usize, oldest: u64) -> u64
+pub fn chain_load(pool: &Pool, seat: &mut TableSeat, mutex: usize, oldest: u64) -> u64
     requires belongs { OfPool seat.old pool.now }
     requires mutex { IsMutex mutex pool.now }
     requires carries { CarriesIn seat.old mutex }
@@ -135,7 +135,7 @@ pub fn chain_load(pool: &Pool, seat: &mut PoolSeat, mutex: usize, oldest: u64) -
 
 /// Stores this number in the carried word.
 #[inline(always)]
-pub fn carried_store(pool: &Pool, seat: &mut PoolSeat, mutex: usize, number: u64)
+pub fn carried_store(pool: &Pool, seat: &mut TableSeat, mutex: usize, number: u64)
     requires belongs { OfPool seat.old pool.now }
     requires mutex { IsMutex mutex pool.now }
     requires carries { CarriesIn seat.old mutex }
@@ -148,7 +148,7 @@ pub fn carried_store(pool: &Pool, seat: &mut PoolSeat, mutex: usize, number: u64
 
 /// Loads the carried word. Returns the number. It tells that all popped records are of seats.
 #[inline(always)]
-pub fn carried_load(pool: &Pool, seat: &mut PoolSeat, mutex: usize) -> u64
+pub fn carried_load(pool: &Pool, seat: &mut TableSeat, mutex: usize) -> u64
     requires belongs { OfPool seat.old pool.now }
     requires mutex { IsMutex mutex pool.now }
     requires carries { CarriesIn seat.old mutex }

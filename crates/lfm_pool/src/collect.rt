@@ -11,7 +11,7 @@ ghost use Rattle.lfm_pool.specs.Seats.{note_of, popped_of, state_of, MovesIn, Re
 
 use crate::chain::{ChainLink, carried_store, chain_store};
 use crate::layout::PUSH;
-use crate::pool::{Pool, PoolSeat};
+use crate::pool::{Pool, TableSeat};
 use crate::seat_words::link_load;
 use crate::step::next_step;
 use lfm_model::SeatNo;
@@ -23,7 +23,7 @@ const STAMP: u64 = 0xffff_ffff_ffff_0000;
 
 /// Clears the head of the push word. Returns the word that it found.
 #[inline(always)]
-pub fn clear_head(pool: &Pool, seat: &mut PoolSeat, mutex: usize) -> u64
+pub fn clear_head(pool: &Pool, seat: &mut TableSeat, mutex: usize) -> u64
     requires belongs { OfPool seat.old pool.now }
     requires mutex { IsMutex mutex pool.now }
     requires sits { SitsIn seat.old pool.now mutex }
@@ -45,7 +45,7 @@ pub struct Walk {
 /// Collects one record: loads its link, which makes it the oldest popped record, and puts it into the chain. Returns the
 /// link that it loaded: the stamp of the record, and the seat of the record pushed before it, or 0 if it is the oldest.
 #[inline(always)]
-pub fn collect_one(pool: &Pool, seat: &mut PoolSeat, mutex: usize, walk: Walk) -> Link
+pub fn collect_one(pool: &Pool, seat: &mut TableSeat, mutex: usize, walk: Walk) -> Link
     requires belongs { OfPool seat.old pool.now }
     requires mutex { IsMutex mutex pool.now }
     requires sits { SitsIn seat.old pool.now mutex }
@@ -77,7 +77,7 @@ pub fn collect_one(pool: &Pool, seat: &mut PoolSeat, mutex: usize, walk: Walk) -
 ///
 /// The seat has to rest in all other mutexes. Nothing changes in them, nor in what the seat knows of them. It allocates
 /// nothing and does not wait.
-pub fn collect(pool: &Pool, seat: &mut PoolSeat, mutex: usize, head: u64) -> Record
+pub fn collect(pool: &Pool, seat: &mut TableSeat, mutex: usize, head: u64) -> Record
     requires belongs { OfPool seat.old pool.now }
     requires mutex { IsMutex mutex pool.now }
     requires sits { SitsIn seat.old pool.now mutex }

@@ -15,7 +15,7 @@ ghost use Rattle.lfm_pool.specs.Seats.{note_of, popped_of};
 use crate::chain::{carried_load, carried_store};
 use crate::layout::{COUNT, OWNER};
 use crate::moves::{go_on, start_at};
-use crate::pool::{Pool, PoolSeat};
+use crate::pool::{Pool, TableSeat};
 use crate::step::OneCall;
 use lfm_table::operations::Access;
 use lfm_words::{pack_link, unpack_link};
@@ -23,7 +23,7 @@ use lfm_words::{pack_link, unpack_link};
 /// Stores in the carried word that the seat, which holds the mutex, holds it this many times. The word keeps the seat of the
 /// oldest popped record.
 #[inline(always)]
-fn note_depth(pool: &Pool, seat: &mut PoolSeat, mutex: usize, depth: u32)
+fn note_depth(pool: &Pool, seat: &mut TableSeat, mutex: usize, depth: u32)
     requires belongs { OfPool seat.old pool.now }
     requires mutex { IsMutex mutex pool.now }
     requires carries { CarriesIn seat.old mutex }
@@ -41,7 +41,7 @@ fn note_depth(pool: &Pool, seat: &mut PoolSeat, mutex: usize, depth: u32)
 /// The steps of a `try_lock` of a seat that holds the mutex this many times, fewer than 65,535: it holds it once more then.
 /// The exchange of the count finds the seat's own unit there, so it does not succeed, and the owner is the seat. Returns the
 /// new depth. It makes 2 atomic steps, and a load and a store of the carried word.
-pub fn try_again<C: OneCall>(pool: &Pool, seat: &mut PoolSeat, mutex: usize, depth: u32) -> u32
+pub fn try_again<C: OneCall>(pool: &Pool, seat: &mut TableSeat, mutex: usize, depth: u32) -> u32
     requires one { C.depth ≡ depth }
     requires may { MayStepIn seat.old pool.now mutex }
     requires has { HasDepthIn seat.old pool.now mutex depth }
@@ -60,7 +60,7 @@ pub fn try_again<C: OneCall>(pool: &Pool, seat: &mut PoolSeat, mutex: usize, dep
 /// The steps of a `lock` of a seat that holds the mutex this many times, fewer than 65,535: it holds it once more then. The
 /// call adds itself to the count, finds that the seat is the owner, and subtracts itself again. Returns the new depth. It
 /// makes 3 atomic steps, and a load and a store of the carried word.
-pub fn ask_again<C: OneCall>(pool: &Pool, seat: &mut PoolSeat, mutex: usize, depth: u32) -> u32
+pub fn ask_again<C: OneCall>(pool: &Pool, seat: &mut TableSeat, mutex: usize, depth: u32) -> u32
     requires one { C.depth ≡ depth }
     requires may { MayStepIn seat.old pool.now mutex }
     requires has { HasDepthIn seat.old pool.now mutex depth }
@@ -79,7 +79,7 @@ pub fn ask_again<C: OneCall>(pool: &Pool, seat: &mut PoolSeat, mutex: usize, dep
 
 /// An `unlock` of a seat that holds the mutex this many times, more than once: it gives one hold up, which is no step.
 /// Returns the new depth. It makes a load and a store of the carried word.
-pub fn give_up_one(pool: &Pool, seat: &mut PoolSeat, mutex: usize, depth: u32) -> u32
+pub fn give_up_one(pool: &Pool, seat: &mut TableSeat, mutex: usize, depth: u32) -> u32
     requires belongs { OfPool seat.old pool.now }
     requires mutex { IsMutex mutex pool.now }
     requires has { HasDepthIn seat.old pool.now mutex depth }

@@ -12,7 +12,7 @@ ghost use Rattle.lfm_pool.specs.Tables.{part};
 
 use crate::chain::carried_load;
 use crate::layout::{OWNER, own_at};
-use crate::pool::{Pool, PoolSeat};
+use crate::pool::{Pool, TableSeat};
 use crate::view::PoolView;
 use atomic_table::Play;
 use lfm_words::unpack_link;
@@ -38,7 +38,7 @@ impl<B: OneOwner> Play<u64, PoolView> for OwnerLoad<B> {
 
 /// Loads the word at this index, which is the owner word of this mutex.
 #[inline(always)]
-fn load_owner<B: OneOwner>(pool: &Pool, seat: &mut PoolSeat, _mutex: usize, index: usize) -> u64
+fn load_owner<B: OneOwner>(pool: &Pool, seat: &mut TableSeat, _mutex: usize, index: usize) -> u64
     requires table { seat.old.place.table_id ≡ pool.now.table.shared.table_id }
     requires inside { index < pool.now.table.shared.table_id.words }
     requires may { Allows HeldPosts pool.now.table.shared.table_id.slots seat.old.place.id seat.old.place.me index (λ n. n) (λ n me'. (me' ≡ seat.old.place.me) × TellsOwner (part seat.old.place.me.0 B.mutex) n) }
@@ -55,7 +55,7 @@ fn load_owner<B: OneOwner>(pool: &Pool, seat: &mut PoolSeat, _mutex: usize, inde
 /// own number exactly if the caller holds the mutex. Another seat's number may be out of date when the caller reads it. The
 /// call refuses nothing, not even for a seat that sleeps or has an open call.
 #[inline(always)]
-pub fn read_owner(pool: &Pool, seat: &mut PoolSeat, mutex: usize) -> u64
+pub fn read_owner(pool: &Pool, seat: &mut TableSeat, mutex: usize) -> u64
     requires belongs { OfPool seat.old pool.now }
     requires mutex { IsMutex mutex pool.now }
     ensures belongs { SameSeat seat.old seat.new }
@@ -69,7 +69,7 @@ pub fn read_owner(pool: &Pool, seat: &mut PoolSeat, mutex: usize) -> u64
 /// How many times the seat holds this mutex: 0 to 65,535. It loads the owner word, and the carried word if the seat holds
 /// the mutex. The seat has to rest in this mutex.
 #[inline(always)]
-pub fn depth(pool: &Pool, seat: &mut PoolSeat, mutex: usize) -> u32
+pub fn depth(pool: &Pool, seat: &mut TableSeat, mutex: usize) -> u32
     requires belongs { OfPool seat.old pool.now }
     requires mutex { IsMutex mutex pool.now }
     requires rests { (d : ℕ) × HasDepthIn seat.old pool.now mutex d }

@@ -4,7 +4,7 @@ ghost use Rattle.lfm_pool.specs.Belongs.{IsMutex, OfPool, SameSeat};
 ghost use Rattle.lfm_pool.specs.Seats.{EntersIn, FindsTakenIn, HoldsOnceIn, RestsInOthers, LeavesIn, MayTryIn, ServesIn};
 
 use crate::layout::{COUNT, OWNER};
-use crate::pool::{Pool, PoolSeat};
+use crate::pool::{Pool, TableSeat};
 use crate::step::{first_step, next_step};
 use lfm_table::operations::Access;
 use std::marker::Brand;
@@ -16,7 +16,7 @@ use std::marker::Brand;
 /// The seat has to rest in all mutexes, not to hold this one, and to have a take left here. It may hold other mutexes.
 /// Nothing changes in them, nor in what the seat knows of them. It allocates nothing and does not wait.
 #[inline(always)]
-pub fn enter_if_free(pool: &Pool, seat: &mut PoolSeat, mutex: usize) -> u64
+pub fn enter_if_free(pool: &Pool, seat: &mut TableSeat, mutex: usize) -> u64
     requires belongs { OfPool seat.old pool.now }
     requires mutex { IsMutex mutex pool.now }
     requires may { MayTryIn seat.old pool.now mutex }
@@ -42,7 +42,7 @@ pub fn enter_if_free(pool: &Pool, seat: &mut PoolSeat, mutex: usize) -> u64
 /// The seat has to rest in all mutexes, and to hold this one once. It may hold other mutexes. Nothing changes in them, nor
 /// in what the seat knows of them. It allocates nothing and does not wait.
 #[inline(always)]
-pub fn leave(pool: &Pool, seat: &mut PoolSeat, mutex: usize) -> u64
+pub fn leave(pool: &Pool, seat: &mut TableSeat, mutex: usize) -> u64
     requires belongs { OfPool seat.old pool.now }
     requires mutex { IsMutex mutex pool.now }
     requires holds { HoldsOnceIn seat.old pool.now mutex }

@@ -12,7 +12,7 @@ ghost use Rattle.lfm_pool.specs.WakeUps.{WakesSeatOf, granted_by_finish};
 use crate::chain::{carried_load, carried_store, chain_load};
 use crate::collect::{clear_head, collect};
 use crate::layout::OWNER;
-use crate::pool::{Pool, PoolSeat};
+use crate::pool::{Pool, TableSeat};
 use crate::serve::serve_oldest;
 use crate::step::next_step;
 use crate::wake_up::{WakeUp, grant};
@@ -35,7 +35,7 @@ pub enum Finished {
 /// The call has to be open there, so that there is no refusal. The seat may hold other mutexes. Nothing changes in them, nor
 /// in what the seat knows of them. The call makes at most 3 atomic steps, and one more for each record that is popped when
 /// it has ended. It allocates nothing and never waits.
-pub fn finish_ask(pool: &Pool, seat: &mut PoolSeat, mutex: usize) -> Finished
+pub fn finish_ask(pool: &Pool, seat: &mut TableSeat, mutex: usize) -> Finished
     requires may { MayStepIn seat.old pool.now mutex }
     requires takes { TakesOldest seat.old mutex }
     requires whole { note_of seat.old mutex ≡ rested (popped_of seat.old mutex) }
@@ -60,7 +60,7 @@ pub fn finish_ask(pool: &Pool, seat: &mut PoolSeat, mutex: usize) -> Finished
 
 /// Acquires the mutex for the seat, whose record is the oldest popped one: takes the record out of the chain, and stores the
 /// number of the seat as the owner. Returns the stamp of the record.
-fn enter_popped(pool: &Pool, seat: &mut PoolSeat, mutex: usize) -> u64
+fn enter_popped(pool: &Pool, seat: &mut TableSeat, mutex: usize) -> u64
     requires may { MayStepIn seat.old pool.now mutex }
     requires own { EntersByOwn seat.old mutex }
     requires whole { note_of seat.old mutex ≡ rested (popped_of seat.old mutex) }
@@ -76,7 +76,7 @@ fn enter_popped(pool: &Pool, seat: &mut PoolSeat, mutex: usize) -> u64
 }
 
 /// Collects the push list, and serves its oldest record as `finish_ask`.
-fn serve_pushed(pool: &Pool, seat: &mut PoolSeat, mutex: usize) -> Finished
+fn serve_pushed(pool: &Pool, seat: &mut TableSeat, mutex: usize) -> Finished
     requires may { MayStepIn seat.old pool.now mutex }
     requires clears { ClearsForLock (state_of seat.old mutex) }
     requires none { popped_of seat.old mutex ≡ [] }

@@ -17,7 +17,7 @@ ghost use Rattle.lfm_pool.specs.Steps.{RestsElsewhere, state_in};
 ghost use Rattle.lfm_pool.specs.Tables.{any_follows, any_fits, note, part};
 
 use crate::layout::{HANDOFF, own_at};
-use crate::pool::{Pool, PoolSeat};
+use crate::pool::{Pool, TableSeat};
 use crate::step::OneMutex;
 use crate::view::PoolView;
 use atomic_table::Play;
@@ -53,7 +53,7 @@ impl<B: OneMutex> Play<u64, PoolView> for HandoffStore<B> {
 
 /// The load, as a step of the seat at the table of the mutex.
 #[inline(always)]
-fn load_at<B: OneMutex>(pool: &Pool, seat: &mut PoolSeat, mutex: usize) -> u64
+fn load_at<B: OneMutex>(pool: &Pool, seat: &mut TableSeat, mutex: usize) -> u64
     requires one { B.mutex ≡ mutex }
     requires now { B.state ≡ state_in seat.old.place.me.0 mutex }
     requires table { seat.old.place.table_id ≡ pool.now.table.shared.table_id }
@@ -72,7 +72,7 @@ fn load_at<B: OneMutex>(pool: &Pool, seat: &mut PoolSeat, mutex: usize) -> u64
 
 /// Loads the handoff word, by the next step of the open call of the seat in this mutex. Returns the word.
 #[inline(always)]
-pub fn handoff_load(pool: &Pool, seat: &mut PoolSeat, mutex: usize) -> u64
+pub fn handoff_load(pool: &Pool, seat: &mut TableSeat, mutex: usize) -> u64
     requires may { MayStepIn seat.old pool.now mutex }
     requires at { loads_handoff (state_of seat.old mutex).point ≡ true }
     ensures belongs { SameSeat seat.old seat.new }
@@ -84,7 +84,7 @@ pub fn handoff_load(pool: &Pool, seat: &mut PoolSeat, mutex: usize) -> u64
 
 /// The exchange, as a step of the seat at the table of the mutex.
 #[inline(always)]
-fn exchange_at<B: OneMutex>(pool: &Pool, seat: &mut PoolSeat, mutex: usize, post: u64) -> u64
+fn exchange_at<B: OneMutex>(pool: &Pool, seat: &mut TableSeat, mutex: usize, post: u64) -> u64
     requires one { (B.mutex ≡ mutex) × (B.number ≡ seat.old.number) × (B.expected ≡ post) }
     requires now { B.state ≡ state_in seat.old.place.me.0 mutex }
     requires table { seat.old.place.table_id ≡ pool.now.table.shared.table_id }
@@ -106,7 +106,7 @@ fn exchange_at<B: OneMutex>(pool: &Pool, seat: &mut PoolSeat, mutex: usize, post
 /// it to 0. It is the post that the call has loaded, or its own last one. Returns the word that it found: the post, or
 /// another one if another seat was faster.
 #[inline(always)]
-pub fn handoff_exchange(pool: &Pool, seat: &mut PoolSeat, mutex: usize, post: u64) -> u64
+pub fn handoff_exchange(pool: &Pool, seat: &mut TableSeat, mutex: usize, post: u64) -> u64
     requires may { MayStepIn seat.old pool.now mutex }
     requires at { tries_post (state_of seat.old mutex).point ≡ true }
     requires expected { post ≡ handoff_word (tried_post seat.old.number seat.old.place.me.0 (state_of seat.old mutex).point) }
@@ -119,7 +119,7 @@ pub fn handoff_exchange(pool: &Pool, seat: &mut PoolSeat, mutex: usize, post: u6
 
 /// The store, as a step of the seat at the table of the mutex.
 #[inline(always)]
-fn store_at<B: OneMutex>(pool: &Pool, seat: &mut PoolSeat, mutex: usize)
+fn store_at<B: OneMutex>(pool: &Pool, seat: &mut TableSeat, mutex: usize)
     requires one { (B.mutex ≡ mutex) × (B.number ≡ seat.old.number) }
     requires now { B.state ≡ state_in seat.old.place.me.0 mutex }
     requires table { seat.old.place.table_id ≡ pool.now.table.shared.table_id }
@@ -143,7 +143,7 @@ fn store_at<B: OneMutex>(pool: &Pool, seat: &mut PoolSeat, mutex: usize)
 /// Posts the mutex, by the next step of the open call of the seat there: stores the seat and the next number of its posts in
 /// the handoff word. The chain has to be whole, since the step gives the mutex away. The seat needs a number that is left.
 #[inline(always)]
-pub fn handoff_store(pool: &Pool, seat: &mut PoolSeat, mutex: usize)
+pub fn handoff_store(pool: &Pool, seat: &mut TableSeat, mutex: usize)
     requires may { MayStepIn seat.old pool.now mutex }
     requires at { makes_post (state_of seat.old mutex).point ≡ true }
     requires left { seat.old.posts + 1 < 2 ^ 48 }

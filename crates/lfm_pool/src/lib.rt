@@ -2,12 +2,14 @@
 //! all mutexes of a pool, and a seat has one link word and one wake word, whatever their number. A mutex of a pool guards no
 //! value.
 //!
-//! The crate has the rule that the words of a pool keep, the opening of a pool with its seats, and each step on the words of
-//! a mutex and on the link and wake words of seats. Of the calls it has a `try_lock`; a `lock` without its sleep
-//! (`ask_without_waking`, and its two parts: `begin_ask`, and `finish_ask` if that has taken a post over); the receive of a
-//! seat that sleeps; and an `unlock`. These need a seat that does not hold the mutex, or, to unlock, holds it once. The module
-//! `calls` has `try_lock`, `ask` and `unlock` for a seat that holds the mutex any number of times, up to 65,535. Its `ask` and
-//! `unlock` also wake the thread of the seat that they grant the mutex.
+//! A program opens a pool by `Pool::new`, and gives each thread one of its seats. The calls are in three modules: those in
+//! `calls` never wait, those in `lock` may sleep, and those in `reading` tell who holds a mutex. Each is passed the number of
+//! the mutex. `any_depth` has what they are made of: the calls of a seat that is at rest, on the part of the seat that the table
+//! knows. Below it stand the calls of a seat that does not hold the mutex or holds it once (`try_lock`, `ask`, `finish_ask`,
+//! `ask_all`, `receive`, `unlock`), those of a seat that holds it already (`deepen`), and then single steps.
+//!
+//! The other modules have the rule that the words of a pool keep, and each step on the words of a mutex and on the link and wake
+//! words of seats.
 //!
 //! A step that stores a grant leaves a wake-up: `wake_up` has its type. It has no `Drop`, so a path of the code that loses a
 //! wake-up does not compile.
@@ -17,33 +19,36 @@
 //! seats want the mutex, and a `lock` that has taken a post over. The carried word also has how many holds the owner of the
 //! mutex has beyond its first.
 //!
-//! A seat counts the posts of its unlocks in all mutexes by one counter, from which each post takes its number. So a seat
-//! needs no counter for each mutex.
+//! A seat counts the posts of its unlocks in all mutexes by one counter, from which each post takes its number, and its takes
+//! by another. So a seat needs no counter for each mutex.
 #![tactic(auto)]
 
 mod accesses;
-pub mod ask;
-pub mod ask_all;
+mod any_depth;
+mod ask;
+mod ask_all;
 pub mod calls;
 mod chain;
 mod collect;
 mod deepen;
-pub mod depth;
-pub mod fast_paths;
-pub mod finish_ask;
+mod depth;
+mod fast_paths;
+mod finish_ask;
 mod handoff;
 pub mod laws;
 pub mod layout;
+pub mod lock;
 mod moves;
 pub mod pool;
 mod push;
-pub mod receive;
+pub mod reading;
+mod receive;
 pub mod rule;
+pub mod seat;
 mod seat_words;
 mod serve;
-pub mod sleep;
 mod step;
-pub mod try_lock;
-pub mod unlock;
+mod try_lock;
+mod unlock;
 pub mod view;
 pub mod wake_up;

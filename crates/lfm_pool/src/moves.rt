@@ -9,14 +9,14 @@ ghost use Rattle.lfm_pool.specs.Seats.{state_of, MovesIn};
 ghost use Rattle.lfm_pool.specs.Steps.{begun_at, begun_in, call_of, state_at, IsPlainAccessOf, IsTold, Sits};
 ghost use Rattle.lfm_pool.specs.Tables.{part};
 
-use crate::pool::{Pool, PoolSeat};
+use crate::pool::{Pool, TableSeat};
 use crate::step::{OneCall, first_step, next_step};
 use lfm_table::operations::Access;
 use std::marker::Brand;
 
 /// Starts the call whose first step is this access, and makes that step. Returns the number that it found or stored.
 #[inline(always)]
-pub fn start(pool: &Pool, seat: &mut PoolSeat, mutex: usize, access: Access) -> u64
+pub fn start(pool: &Pool, seat: &mut TableSeat, mutex: usize, access: Access) -> u64
     requires may { MayStepIn seat.old pool.now mutex }
     requires is_next { IsPlainAccessOf pool.now.limits.seats seat.old.number (begun_in seat.old.place.me.0 mutex pool.now.limits (call_of access)) access }
     ensures belongs { SameSeat seat.old seat.new }
@@ -30,7 +30,7 @@ pub fn start(pool: &Pool, seat: &mut PoolSeat, mutex: usize, access: Access) -> 
 /// Starts the call whose first step is this access, and makes that step, for a seat that holds the mutex `C.depth` times.
 /// Returns the number that it found or stored.
 #[inline(always)]
-pub fn start_at<C: OneCall>(pool: &Pool, seat: &mut PoolSeat, mutex: usize, access: Access) -> u64
+pub fn start_at<C: OneCall>(pool: &Pool, seat: &mut TableSeat, mutex: usize, access: Access) -> u64
     requires may { MayStepIn seat.old pool.now mutex }
     requires now { Sits seat.old.number seat.old.place.id pool.now.limits (state_at seat.old.place.me.0 mutex C.depth) (part seat.old.place.me.0 mutex) }
     requires is_next { IsPlainAccessOf pool.now.limits.seats seat.old.number (begun_at seat.old.place.me.0 mutex C.depth pool.now.limits (call_of access)) access }
@@ -43,7 +43,7 @@ pub fn start_at<C: OneCall>(pool: &Pool, seat: &mut PoolSeat, mutex: usize, acce
 
 /// Makes the next step of the open call of the seat in this mutex. Returns the number that it found or stored.
 #[inline(always)]
-pub fn go_on(pool: &Pool, seat: &mut PoolSeat, mutex: usize, access: Access) -> u64
+pub fn go_on(pool: &Pool, seat: &mut TableSeat, mutex: usize, access: Access) -> u64
     requires may { MayStepIn seat.old pool.now mutex }
     requires is_next { IsPlainAccessOf pool.now.limits.seats seat.old.number (state_of seat.old mutex) access }
     ensures belongs { SameSeat seat.old seat.new }

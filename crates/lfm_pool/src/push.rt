@@ -12,7 +12,7 @@ ghost use Rattle.lfm_pool.specs.Seats.{state_of, RestsInOthers, SitsIn};
 
 use crate::handoff::{handoff_exchange, handoff_load};
 use crate::layout::PUSH;
-use crate::pool::{Pool, PoolSeat};
+use crate::pool::{Pool, TableSeat};
 use crate::seat_words::link_store;
 use crate::step::next_step;
 use lfm_table::operations::Access;
@@ -20,7 +20,7 @@ use lfm_words::{Link, pack_link};
 
 /// Loads the push word. Returns the word; the next step stores the seat's link after it.
 #[inline(always)]
-pub fn load_push(pool: &Pool, seat: &mut PoolSeat, mutex: usize) -> u64
+pub fn load_push(pool: &Pool, seat: &mut TableSeat, mutex: usize) -> u64
     requires belongs { OfPool seat.old pool.now }
     requires mutex { IsMutex mutex pool.now }
     requires sits { SitsIn seat.old pool.now mutex }
@@ -35,7 +35,7 @@ pub fn load_push(pool: &Pool, seat: &mut PoolSeat, mutex: usize) -> u64
 /// Loads the handoff word after the record was pushed. Returns the word. If nothing is posted in it, the call has ended,
 /// and the seat sleeps until a receive finds a grant. Else the next step tries to take the post over.
 #[inline(always)]
-pub fn load_handoff(pool: &Pool, seat: &mut PoolSeat, mutex: usize) -> u64
+pub fn load_handoff(pool: &Pool, seat: &mut TableSeat, mutex: usize) -> u64
     requires belongs { OfPool seat.old pool.now }
     requires mutex { IsMutex mutex pool.now }
     requires sits { SitsIn seat.old pool.now mutex }
@@ -53,7 +53,7 @@ pub fn load_handoff(pool: &Pool, seat: &mut PoolSeat, mutex: usize) -> u64
 /// queue, and the next step loads the handoff word. Else another seat was faster, and the next step stores the link again,
 /// after the word that was found: it has a later stamp, or the push list was cleared.
 #[inline(always)]
-pub fn push(pool: &Pool, seat: &mut PoolSeat, mutex: usize, loaded: Link) -> u64
+pub fn push(pool: &Pool, seat: &mut TableSeat, mutex: usize, loaded: Link) -> u64
     requires belongs { OfPool seat.old pool.now }
     requires mutex { IsMutex mutex pool.now }
     requires sits { SitsIn seat.old pool.now mutex }
@@ -77,7 +77,7 @@ pub fn push(pool: &Pool, seat: &mut PoolSeat, mutex: usize, loaded: Link) -> u64
 /// head of the push word if there is none. Else another seat was faster: the call has ended, and the seat sleeps until a
 /// receive finds a grant.
 #[inline(always)]
-pub fn take_over(pool: &Pool, seat: &mut PoolSeat, mutex: usize, post: u64) -> u64
+pub fn take_over(pool: &Pool, seat: &mut TableSeat, mutex: usize, post: u64) -> u64
     requires belongs { OfPool seat.old pool.now }
     requires mutex { IsMutex mutex pool.now }
     requires sits { SitsIn seat.old pool.now mutex }

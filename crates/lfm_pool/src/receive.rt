@@ -8,7 +8,7 @@ ghost use Rattle.lfm_pool.specs.Seats.{state_of, HoldsOnceIn};
 
 use crate::layout::OWNER;
 use crate::moves::go_on;
-use crate::pool::{Pool, PoolSeat};
+use crate::pool::{Pool, TableSeat};
 use crate::seat_words::{wake_load, wake_store};
 use lfm_model::How;
 use lfm_protocol::how_granted;
@@ -22,7 +22,7 @@ use lfm_words::Wake;
 /// in what the seat knows of them. The call makes at most 3 atomic steps. It allocates nothing, never waits and wakes no
 /// thread.
 #[inline(always)]
-pub fn try_receive(pool: &Pool, seat: &mut PoolSeat, mutex: usize) -> Option<How>
+pub fn try_receive(pool: &Pool, seat: &mut TableSeat, mutex: usize) -> Option<How>
     requires may { MayStepIn seat.old pool.now mutex }
     requires sleeps { Sleeps (state_of seat.old mutex) }
     ensures belongs { SameSeat seat.old seat.new }

@@ -15,7 +15,7 @@ ghost use Rattle.lfm_pool.specs.Seats.{note_of, state_of, MovesIn, ReceivesIn, R
 
 use crate::accesses::PoolAccess;
 use crate::layout::{link_at, wake_at};
-use crate::pool::{Pool, PoolSeat};
+use crate::pool::{Pool, TableSeat};
 use crate::step::{first_at, next_at};
 use lfm_table::layout as lone;
 use lfm_table::operations::Access;
@@ -24,7 +24,7 @@ use std::marker::Brand;
 
 /// Stores the seat's link: the stamp of this push word, which the seat has loaded, plus 1, and its head.
 #[inline(always)]
-pub fn link_store(pool: &Pool, seat: &mut PoolSeat, mutex: usize, seen: Link)
+pub fn link_store(pool: &Pool, seat: &mut TableSeat, mutex: usize, seen: Link)
     requires belongs { OfPool seat.old pool.now }
     requires mutex { IsMutex mutex pool.now }
     requires sits { SitsIn seat.old pool.now mutex }
@@ -44,7 +44,7 @@ pub fn link_store(pool: &Pool, seat: &mut PoolSeat, mutex: usize, seen: Link)
 /// Loads the link word of this seat, whose record is collected. Returns the word. All records that were collected before
 /// have to be in the chain; this one is not yet.
 #[inline(always)]
-pub fn link_load(pool: &Pool, seat: &mut PoolSeat, mutex: usize, target: u64) -> u64
+pub fn link_load(pool: &Pool, seat: &mut TableSeat, mutex: usize, target: u64) -> u64
     requires belongs { OfPool seat.old pool.now }
     requires mutex { IsMutex mutex pool.now }
     requires sits { SitsIn seat.old pool.now mutex }
@@ -63,7 +63,7 @@ pub fn link_load(pool: &Pool, seat: &mut PoolSeat, mutex: usize, target: u64) ->
 /// Begins a `receive` of a seat that sleeps in this mutex, and loads its wake word. Returns the word. If it is a grant, the
 /// call is open, and its next step is `wake_store`. Else the call has ended, and the seat sleeps on.
 #[inline(always)]
-pub fn wake_load(pool: &Pool, seat: &mut PoolSeat, mutex: usize) -> u64
+pub fn wake_load(pool: &Pool, seat: &mut TableSeat, mutex: usize) -> u64
     requires belongs { OfPool seat.old pool.now }
     requires mutex { IsMutex mutex pool.now }
     requires sits { SitsIn seat.old pool.now mutex }
@@ -81,7 +81,7 @@ pub fn wake_load(pool: &Pool, seat: &mut PoolSeat, mutex: usize) -> u64
 
 /// Stores QUIET in the wake word of the seat, which has found a grant there.
 #[inline(always)]
-pub fn wake_store(pool: &Pool, seat: &mut PoolSeat, mutex: usize)
+pub fn wake_store(pool: &Pool, seat: &mut TableSeat, mutex: usize)
     requires belongs { OfPool seat.old pool.now }
     requires mutex { IsMutex mutex pool.now }
     requires sits { SitsIn seat.old pool.now mutex }

@@ -10,7 +10,7 @@ ghost use Rattle.lfm_pool.specs.WakeUps.{IsForSeatOf, WakesSeatOf};
 
 use crate::chain::{carried_load, carried_store, chain_load};
 use crate::collect::{clear_head, collect};
-use crate::pool::{Pool, PoolSeat};
+use crate::pool::{Pool, TableSeat};
 use crate::wake_up::{WakeUp, grant};
 use lfm_model::SeatNo;
 use lfm_protocol::points::Carrier;
@@ -23,7 +23,7 @@ use lfm_words::{Record, unpack_link};
 /// The seat has to rest in all other mutexes. Nothing changes in them, nor in what the seat knows of them. It allocates
 /// nothing and does not wait.
 #[inline(always)]
-pub fn serve_oldest(pool: &Pool, seat: &mut PoolSeat, mutex: usize, oldest: u64) -> WakeUp
+pub fn serve_oldest(pool: &Pool, seat: &mut TableSeat, mutex: usize, oldest: u64) -> WakeUp
     requires belongs { OfPool seat.old pool.now }
     requires mutex { IsMutex mutex pool.now }
     requires sits { SitsIn seat.old pool.now mutex }
@@ -61,7 +61,7 @@ pub fn serve_oldest(pool: &Pool, seat: &mut PoolSeat, mutex: usize, oldest: u64)
 ///
 /// The seat has to rest in all other mutexes. Nothing changes in them, nor in what the seat knows of them. It allocates
 /// nothing and does not wait.
-pub fn serve(pool: &Pool, seat: &mut PoolSeat, mutex: usize, carrier: Carrier) -> Option<WakeUp>
+pub fn serve(pool: &Pool, seat: &mut TableSeat, mutex: usize, carrier: Carrier) -> Option<WakeUp>
     requires belongs { OfPool seat.old pool.now }
     requires mutex { IsMutex mutex pool.now }
     requires sits { SitsIn seat.old pool.now mutex }

@@ -10,7 +10,7 @@ ghost use Rattle.lfm_pool.specs.Steps.{state_in, begun_at, call_of, IsOwnAccessO
 
 use crate::accesses::{PoolAccess, word_of};
 use crate::layout::own_at;
-use crate::pool::{Pool, PoolSeat};
+use crate::pool::{Pool, TableSeat};
 use crate::view::PoolView;
 use atomic_table::Play;
 use lfm_table::operations::Access;
@@ -69,7 +69,7 @@ impl<B: OneMutex> Play<u64, PoolView> for MutexStep<B> {
 /// seat has to rest in all other mutexes. If the step gives the mutex away, all popped records have to be in the chain, and
 /// the carried word has to name the oldest that is left; if it loads a link, all have to be in the chain.
 #[inline(always)]
-fn step_at<B: OneMutex>(pool: &Pool, seat: &mut PoolSeat, mutex: usize, access: PoolAccess) -> u64
+fn step_at<B: OneMutex>(pool: &Pool, seat: &mut TableSeat, mutex: usize, access: PoolAccess) -> u64
     requires one { B.mutex ≡ mutex }
     requires table { seat.old.place.table_id ≡ pool.now.table.shared.table_id }
     requires inside { (mutex < pool.now.mutexes) × (length seat.old.place.me.0.parts ≡ pool.now.mutexes) }
@@ -104,7 +104,7 @@ fn step_at<B: OneMutex>(pool: &Pool, seat: &mut PoolSeat, mutex: usize, access: 
 #[inline(always)]
 pub fn first_at<C: OneCall>(
     pool: &Pool,
-    seat: &mut PoolSeat,
+    seat: &mut TableSeat,
     mutex: usize,
     access: PoolAccess,
 ) -> u64
@@ -123,7 +123,7 @@ pub fn first_at<C: OneCall>(
 
 /// Makes the next step of the open call of the seat in this mutex, likewise.
 #[inline(always)]
-pub fn next_at(pool: &Pool, seat: &mut PoolSeat, mutex: usize, access: PoolAccess) -> u64
+pub fn next_at(pool: &Pool, seat: &mut TableSeat, mutex: usize, access: PoolAccess) -> u64
     requires table { seat.old.place.table_id ≡ pool.now.table.shared.table_id }
     requires inside { (mutex < pool.now.mutexes) × (length seat.old.place.me.0.parts ≡ pool.now.mutexes) }
     requires sits { Sits seat.old.number seat.old.place.id pool.now.limits (state_in seat.old.place.me.0 mutex) (part seat.old.place.me.0 mutex) }
@@ -140,7 +140,12 @@ pub fn next_at(pool: &Pool, seat: &mut PoolSeat, mutex: usize, access: PoolAcces
 
 /// `first_at`, for an access to the count, the owner or the push word of the mutex.
 #[inline(always)]
-pub fn first_step<C: OneCall>(pool: &Pool, seat: &mut PoolSeat, mutex: usize, access: Access) -> u64
+pub fn first_step<C: OneCall>(
+    pool: &Pool,
+    seat: &mut TableSeat,
+    mutex: usize,
+    access: Access,
+) -> u64
     requires table { seat.old.place.table_id ≡ pool.now.table.shared.table_id }
     requires inside { (mutex < pool.now.mutexes) × (length seat.old.place.me.0.parts ≡ pool.now.mutexes) }
     requires sits { Sits seat.old.number seat.old.place.id pool.now.limits (begun_at seat.old.place.me.0 mutex C.depth pool.now.limits (call_of access)) (part seat.old.place.me.0 mutex) }
@@ -157,7 +162,7 @@ pub fn first_step<C: OneCall>(pool: &Pool, seat: &mut PoolSeat, mutex: usize, ac
 
 /// `next_at`, for an access to the count, the owner or the push word of the mutex.
 #[inline(always)]
-pub fn next_step(pool: &Pool, seat: &mut PoolSeat, mutex: usize, access: Access) -> u64
+pub fn next_step(pool: &Pool, seat: &mut TableSeat, mutex: usize, access: Access) -> u64
     requires table { seat.old.place.table_id ≡ pool.now.table.shared.table_id }
     requires inside { (mutex < pool.now.mutexes) × (length seat.old.place.me.0.parts ≡ pool.now.mutexes) }
     requires sits { Sits seat.old.number seat.old.place.id pool.now.limits (state_in seat.old.place.me.0 mutex) (part seat.old.place.me.0 mutex) }

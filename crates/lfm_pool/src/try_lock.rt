@@ -11,7 +11,7 @@ use crate::fast_paths::enter_if_free;
 use crate::handoff::{handoff_exchange, handoff_load};
 use crate::layout::{COUNT, OWNER};
 use crate::moves::go_on;
-use crate::pool::{Pool, PoolSeat};
+use crate::pool::{Pool, TableSeat};
 use lfm_model::{How, Locked, Refusal};
 use lfm_table::operations::Access;
 use lfm_words::Handoff;
@@ -28,7 +28,7 @@ use lfm_words::Handoff;
 /// the seat's `unlock` does. Whatever other seats do, the call makes at most 6 atomic steps. It allocates nothing, never
 /// waits and wakes no thread.
 #[inline(always)]
-pub fn try_lock(pool: &Pool, seat: &mut PoolSeat, mutex: usize) -> Result<Locked, Refusal>
+pub fn try_lock(pool: &Pool, seat: &mut TableSeat, mutex: usize) -> Result<Locked, Refusal>
     requires belongs { OfPool seat.old pool.now }
     requires mutex { IsMutex mutex pool.now }
     requires may { MayTryIn seat.old pool.now mutex }
@@ -47,7 +47,7 @@ pub fn try_lock(pool: &Pool, seat: &mut PoolSeat, mutex: usize) -> Result<Locked
 
 /// Makes the rest of a `try_lock` that has found the mutex taken. The owner that it loads is another seat or none, since
 /// this one does not hold the mutex. Refuses as `try_lock`.
-fn try_taken(pool: &Pool, seat: &mut PoolSeat, mutex: usize) -> Result<Locked, Refusal>
+fn try_taken(pool: &Pool, seat: &mut TableSeat, mutex: usize) -> Result<Locked, Refusal>
     requires may { MayStepIn seat.old pool.now mutex }
     requires at { (state_of seat.old mutex).point ≡ TryOwnerLoad }
     requires flat { (state_of seat.old mutex).depth ≡ 0 }
@@ -65,7 +65,7 @@ fn try_taken(pool: &Pool, seat: &mut PoolSeat, mutex: usize) -> Result<Locked, R
 
 /// Tries to accept the post in this handoff word, which the call has loaded: the exchange of the handoff word from it to 0.
 /// If it succeeds, the call adds itself to the count and stores the owner. Refuses as Busy if the post had gone.
-fn accept(pool: &Pool, seat: &mut PoolSeat, mutex: usize, post: u64) -> Result<Locked, Refusal>
+fn accept(pool: &Pool, seat: &mut TableSeat, mutex: usize, post: u64) -> Result<Locked, Refusal>
     requires may { MayStepIn seat.old pool.now mutex }
     requires at { (l : ℕ) × IsPostWord post seat.old mutex l }
     ensures belongs { SameSeat seat.old seat.new }

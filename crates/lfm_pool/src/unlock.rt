@@ -13,7 +13,7 @@ use crate::fast_paths::leave;
 use crate::handoff::{handoff_exchange, handoff_store};
 use crate::layout::PUSH;
 use crate::moves::go_on;
-use crate::pool::{Pool, PoolSeat};
+use crate::pool::{Pool, TableSeat};
 use crate::serve::serve;
 use crate::wake_up::WakeUp;
 use lfm_protocol::points::{Carrier, Releaser};
@@ -49,12 +49,12 @@ pub enum Unlocking {
 /// push word. If it finds a record there, it tries to take the post back, and then serves the oldest queued seat. It wakes
 /// no thread.
 ///
-/// The seat has to rest in all mutexes, to hold this one once, and to have a number for a post left (`has_post_left`), so
+/// The seat has to rest in all mutexes, to hold this one once, and to have a number for a post left, so
 /// that there is no refusal. It may hold other mutexes. Nothing changes in them, nor in what the seat knows of them.
 /// Whatever other seats do, the call makes at most 9 atomic steps, and one more for each record that is popped when it has
 /// ended. It allocates nothing and never waits.
 #[inline(always)]
-pub fn unlock(pool: &Pool, seat: &mut PoolSeat, mutex: usize) -> Released
+pub fn unlock(pool: &Pool, seat: &mut TableSeat, mutex: usize) -> Released
     requires belongs { OfPool seat.old pool.now }
     requires mutex { IsMutex mutex pool.now }
     requires holds { HoldsOnceIn seat.old pool.now mutex }
@@ -80,7 +80,7 @@ pub fn unlock(pool: &Pool, seat: &mut PoolSeat, mutex: usize) -> Released
 /// Nothing changes in them, nor in what the seat knows of them. The call makes at most 5 atomic steps, and one more for each
 /// record that is popped when it has ended. It allocates nothing and never waits.
 #[inline(always)]
-pub(crate) fn begin_unlock(pool: &Pool, seat: &mut PoolSeat, mutex: usize) -> Unlocking
+pub(crate) fn begin_unlock(pool: &Pool, seat: &mut TableSeat, mutex: usize) -> Unlocking
     requires belongs { OfPool seat.old pool.now }
     requires mutex { IsMutex mutex pool.now }
     requires holds { HoldsOnceIn seat.old pool.now mutex }
@@ -105,7 +105,7 @@ pub(crate) fn begin_unlock(pool: &Pool, seat: &mut PoolSeat, mutex: usize) -> Un
 /// Ends an `unlock` that has found no seat in the queue: posts the mutex, and looks at the push word. If that has no record,
 /// the locker that pushes next finds the post. Else the call tries to take its post back, and serves the oldest queued seat
 /// if it succeeds.
-fn post(pool: &Pool, seat: &mut PoolSeat, mutex: usize) -> Released
+fn post(pool: &Pool, seat: &mut TableSeat, mutex: usize) -> Released
     requires may { MayStepIn seat.old pool.now mutex }
     requires at { (state_of seat.old mutex).point ≡ ReleaseHandoffStore Unlocker }
     requires whole { note_of seat.old mutex ≡ rested (popped_of seat.old mutex) }

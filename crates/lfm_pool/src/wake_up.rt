@@ -14,7 +14,7 @@ ghost use Rattle.lfm_pool.specs.WakeUps.{IsForSeatOf, WakesSeatOf};
 
 use crate::accesses::PoolAccess;
 use crate::layout::wake_at;
-use crate::pool::{Pool, PoolSeat};
+use crate::pool::{Pool, TableSeat};
 use crate::step::next_at;
 use lfm_model::SeatNo;
 use lfm_table::layout as lone;
@@ -61,7 +61,7 @@ impl WakeUp {
 /// The seat has to rest in all other mutexes. Nothing changes in them, nor in what the seat knows of them. It allocates
 /// nothing and does not wait.
 #[inline(always)]
-pub(crate) fn grant(pool: &Pool, seat: &mut PoolSeat, mutex: usize, oldest: Record) -> WakeUp
+pub(crate) fn grant(pool: &Pool, seat: &mut TableSeat, mutex: usize, oldest: Record) -> WakeUp
     requires belongs { OfPool seat.old pool.now }
     requires mutex { IsMutex mutex pool.now }
     requires sits { SitsIn seat.old pool.now mutex }
@@ -83,7 +83,7 @@ pub(crate) fn grant(pool: &Pool, seat: &mut PoolSeat, mutex: usize, oldest: Reco
 }
 
 /// Wakes the thread of the seat to which a call of this pool has granted a mutex, if it is parked. It makes one system call
-/// and no atomic step, and never waits. That the thread then wakes up is not proved, as the head of `sleep` says.
+/// and no atomic step, and never waits. That the thread then wakes up is not proved, as the head of `lock` says.
 pub fn wake(pool: &Pool, wake_up: WakeUp)
     requires inside { IsForSeatOf wake_up pool.now }
 {

@@ -1,144 +1,33 @@
-use Rattle.std.proofs.Common.{ℕ, refl, sym, ◌<◌, ◌+◌, length, subst, arith}
-use Rattle.atomic_table.specs.Table.{Me}
-use Rattle.lfm_pool.specs.declared.view.PoolView.{PoolView}
-use Rattle.std.specs.Prelude.{false}
-use Rattle.lfm_pool.specs.Depths.{AskAgainSteps, HasDepthIn}
-use Rattle.lfm_pool.specs.Seats.{popped_of}
-use Rattle.lfm_pool.specs.Steps.{state_in}
-use Rattle.lfm_pool.proofs.AnyDepth.{after_ask, asked_again, asked_again_made, asked_first, asks_all_then, awake_rests, beside_then, deep_rest, deepens_then, depth_then_at, full, may_at_rest, may_try_flat, others_rest, refused_beside, rest_said, rest_then, same_said, same_self}
-use Rattle.lfm_pool.proofs.SeveralSteps.{same_then}
+use Rattle.std.proofs.Common.{rules, ◌≡◌, ◌∙◌, None, sym, subst}
+use Rattle.std.specs.Prelude.{Ok}
+use Rattle.lfm_model.specs.declared.answers.Asked.{Asked}
+use Rattle.lfm_pool.specs.declared.seat.PoolSeat.{PoolSeat}
+use Rattle.lfm_pool.specs.Calls.{IsBetweenCalls}
+use Rattle.lfm_pool.proofs.BetweenCalls.{asked_again, asked_asleep, asked_held, ask_refused}
 use Rattle.lfm_pool.proofs.calls.ask_without_waking.Goals as goal
-
-pub returns-then-asleep-clause-asks : goal.returns-then-asleep-clause-asks
-returns-then-asleep-clause-asks c =
-    (c.if-asleep.true, refl)
-
-pub returns-then-asleep-clause-belongs : goal.returns-then-asleep-clause-belongs
-returns-then-asleep-clause-belongs c =
-    same_self c.args.seat.now
-
-pub depth-held-requires-clause-belongs : goal.depth-held-requires-clause-belongs
-depth-held-requires-clause-belongs c =
-    let s = c.args.seat.now in let p = c.args.pool.now in let m = c.args.mutex in let r = c.requires in let rest = r.between.awake c.if-asleep.false in
-    rest.belongs
-
-pub depth-held-requires-clause-rests : goal.depth-held-requires-clause-rests
-depth-held-requires-clause-rests c =
-    let s = c.args.seat.now in let p = c.args.pool.now in let m = c.args.mutex in let r = c.requires in let rest = r.between.awake c.if-asleep.false in
-    rest.depths m r.mutex
-
-pub returns-then-asleep-clause-between : goal.returns-then-asleep-clause-between
-returns-then-asleep-clause-between c =
-    c.requires.between
-
-pub ask_without_waking-asked-requires-clause-belongs : goal.ask_without_waking-asked-requires-clause-belongs
-ask_without_waking-asked-requires-clause-belongs c =
-    let s = c.args.seat.now in let p = c.args.pool.now in let m = c.args.mutex in let r = c.requires in let rest = r.between.awake c.if-asleep.false in
-    let f = c.depth-held in let t = f.new.seat in let rest' = rest_then s t p rest f.ensures.belongs f.ensures.knows in
-    rest'.belongs
-
-pub ask_without_waking-asked-requires-clause-may : goal.ask_without_waking-asked-requires-clause-may
-ask_without_waking-asked-requires-clause-may c =
-    let s = c.args.seat.now in let p = c.args.pool.now in let m = c.args.mutex in let r = c.requires in let rest = r.between.awake c.if-asleep.false in
-    let f = c.depth-held in let t = f.new.seat in let rest' = rest_then s t p rest f.ensures.belongs f.ensures.knows in
-    may_try_flat t p m (depth_then_at s t p m 0 f.ensures.belongs f.ensures.knows (subst (λ (d : ℕ). HasDepthIn s p m d) c.if-held-eq0.true f.ensures.depth)) (subst (λ (z : Me ℕ PoolView). (state_in z.0 m).takes < p.limits.budget) (sym f.ensures.knows) (r.charged (subst (λ (d : ℕ). HasDepthIn s p m d) c.if-held-eq0.true f.ensures.depth)))
-
-pub ask_without_waking-asked-requires-clause-elsewhere : goal.ask_without_waking-asked-requires-clause-elsewhere
-ask_without_waking-asked-requires-clause-elsewhere c =
-    let s = c.args.seat.now in let p = c.args.pool.now in let m = c.args.mutex in let r = c.requires in let rest = r.between.awake c.if-asleep.false in
-    let f = c.depth-held in let t = f.new.seat in let rest' = rest_then s t p rest f.ensures.belongs f.ensures.knows in
-    others_rest t p rest' m
-
-pub returns-then-held-eq0-clause-belongs : goal.returns-then-held-eq0-clause-belongs
-returns-then-held-eq0-clause-belongs c =
-    let s = c.args.seat.now in let p = c.args.pool.now in let m = c.args.mutex in let r = c.requires in let rest = r.between.awake c.if-asleep.false in
-    let f = c.depth-held in let t = f.new.seat in let rest' = rest_then s t p rest f.ensures.belongs f.ensures.knows in
-    let k = c.ask_without_waking-asked in let u = k.new.seat in let did = asks_all_then s t u p m f.ensures.belongs f.ensures.knows k.result.0 k.result.1 k.ensures.asks in let z = c.sleeps-seat in same_said s u z.result _ (same_then s t u f.ensures.belongs k.ensures.belongs)
-
-pub returns-then-held-eq0-clause-between : goal.returns-then-held-eq0-clause-between
-returns-then-held-eq0-clause-between c =
-    let s = c.args.seat.now in let p = c.args.pool.now in let m = c.args.mutex in let r = c.requires in let rest = r.between.awake c.if-asleep.false in
-    let f = c.depth-held in let t = f.new.seat in let rest' = rest_then s t p rest f.ensures.belongs f.ensures.knows in
-    let k = c.ask_without_waking-asked in let u = k.new.seat in let did = asks_all_then s t u p m f.ensures.belongs f.ensures.knows k.result.0 k.result.1 k.ensures.asks in let z = c.sleeps-seat in after_ask s u p m rest r.mutex (same_then s t u f.ensures.belongs k.ensures.belongs) _ refl refl k.result.0 k.result.1 did k.ensures.may k.ensures.ready z.ensures
-
-pub returns-then-held-eq0-clause-asks : goal.returns-then-held-eq0-clause-asks
-returns-then-held-eq0-clause-asks c =
-    let s = c.args.seat.now in let p = c.args.pool.now in let m = c.args.mutex in let r = c.requires in let rest = r.between.awake c.if-asleep.false in
-    let f = c.depth-held in let t = f.new.seat in let rest' = rest_then s t p rest f.ensures.belongs f.ensures.knows in
-    let k = c.ask_without_waking-asked in let u = k.new.seat in let did = asks_all_then s t u p m f.ensures.belongs f.ensures.knows k.result.0 k.result.1 k.ensures.asks in let z = c.sleeps-seat in asked_first s u p m c.if-asleep.false z.result _ k.result.0 k.result.1 (subst (λ (d : ℕ). HasDepthIn s p m d) c.if-held-eq0.true f.ensures.depth) did k.ensures.ready
-
-pub ask_again-deeper-requires-clause-may : goal.ask_again-deeper-requires-clause-may
-ask_again-deeper-requires-clause-may c =
-    let s = c.args.seat.now in let p = c.args.pool.now in let m = c.args.mutex in let r = c.requires in let rest = r.between.awake c.if-asleep.false in
-    let f = c.depth-held in let t = f.new.seat in let rest' = rest_then s t p rest f.ensures.belongs f.ensures.knows in
-    may_at_rest t p rest' m r.mutex
-
-pub ask_again-deeper-requires-clause-has : goal.ask_again-deeper-requires-clause-has
-ask_again-deeper-requires-clause-has c =
-    let s = c.args.seat.now in let p = c.args.pool.now in let m = c.args.mutex in let r = c.requires in let rest = r.between.awake c.if-asleep.false in
-    let f = c.depth-held in let t = f.new.seat in let rest' = rest_then s t p rest f.ensures.belongs f.ensures.knows in
-    (depth_then_at s t p m f.result f.ensures.belongs f.ensures.knows f.ensures.depth)
-
-pub ask_again-deeper-requires-clause-holds : goal.ask_again-deeper-requires-clause-holds
-ask_again-deeper-requires-clause-holds c =
-    let s = c.args.seat.now in let p = c.args.pool.now in let m = c.args.mutex in let r = c.requires in let rest = r.between.awake c.if-asleep.false in
-    let f = c.depth-held in let t = f.new.seat in let rest' = rest_then s t p rest f.ensures.belongs f.ensures.knows in
-    ((let some = c.if-held-eq0.false in let e : 0 < f.result = omega (arith, some) in e), c.if-held-lt-MAX_DEPTH.true)
-
-pub returns-then-held-lt-MAX_DEPTH-clause-belongs : goal.returns-then-held-lt-MAX_DEPTH-clause-belongs
-returns-then-held-lt-MAX_DEPTH-clause-belongs c =
-    let s = c.args.seat.now in let p = c.args.pool.now in let m = c.args.mutex in let r = c.requires in let rest = r.between.awake c.if-asleep.false in
-    let f = c.depth-held in let t = f.new.seat in let rest' = rest_then s t p rest f.ensures.belongs f.ensures.knows in
-    let k = c.ask_again-deeper in let u = k.new.seat in same_said s u false _ (same_then s t u f.ensures.belongs k.ensures.belongs)
-
-pub returns-then-held-lt-MAX_DEPTH-clause-between : goal.returns-then-held-lt-MAX_DEPTH-clause-between
-returns-then-held-lt-MAX_DEPTH-clause-between c =
-    let s = c.args.seat.now in let p = c.args.pool.now in let m = c.args.mutex in let r = c.requires in let rest = r.between.awake c.if-asleep.false in
-    let f = c.depth-held in let t = f.new.seat in let rest' = rest_then s t p rest f.ensures.belongs f.ensures.knows in
-    let k = c.ask_again-deeper in let u = k.new.seat in awake_rests _ p refl (rest_said u _ p refl refl (deep_rest s u p m rest r.mutex (same_then s t u f.ensures.belongs k.ensures.belongs) AskAgainSteps (f.result + 1) (deepens_then s t u p m f.ensures.belongs f.ensures.knows AskAgainSteps (f.result + 1) k.ensures.deepens)))
-
-pub returns-then-held-lt-MAX_DEPTH-clause-asks : goal.returns-then-held-lt-MAX_DEPTH-clause-asks
-returns-then-held-lt-MAX_DEPTH-clause-asks c =
-    let s = c.args.seat.now in let p = c.args.pool.now in let m = c.args.mutex in let r = c.requires in let rest = r.between.awake c.if-asleep.false in
-    let f = c.depth-held in let t = f.new.seat in let rest' = rest_then s t p rest f.ensures.belongs f.ensures.knows in
-    let k = c.ask_again-deeper in let u = k.new.seat in asked_again s u p m c.if-asleep.false false u.counted f.result k.result k.ensures.deeper (let some = c.if-held-eq0.false in let e : 0 < f.result = omega (arith, some) in e) f.ensures.depth (deepens_then s t u p m f.ensures.belongs f.ensures.knows AskAgainSteps (f.result + 1) k.ensures.deepens)
-
-pub returns-clause-belongs : goal.returns-clause-belongs
-returns-clause-belongs c =
-    let s = c.args.seat.now in let p = c.args.pool.now in let m = c.args.mutex in let r = c.requires in let rest = r.between.awake c.if-asleep.false in
-    let f = c.depth-held in let t = f.new.seat in let rest' = rest_then s t p rest f.ensures.belongs f.ensures.knows in
-    same_said s t false _ f.ensures.belongs
+use Rattle.lfm_pool.proofs.calls.ask_without_waking.Goals.{in-Ok-Held, in-Ok-Asleep, in-Ok-Again, in-Err}
 
 pub returns-clause-between : goal.returns-clause-between
 returns-clause-between c =
-    let s = c.args.seat.now in let p = c.args.pool.now in let m = c.args.mutex in let r = c.requires in let rest = r.between.awake c.if-asleep.false in
-    let f = c.depth-held in let t = f.new.seat in let rest' = rest_then s t p rest f.ensures.belongs f.ensures.knows in
-    awake_rests _ p refl (rest_said t _ p refl refl rest')
-
-pub returns-clause-asks : goal.returns-clause-asks
-returns-clause-asks c =
-    let s = c.args.seat.now in let p = c.args.pool.now in let m = c.args.mutex in let r = c.requires in let rest = r.between.awake c.if-asleep.false in
-    let f = c.depth-held in let t = f.new.seat in let rest' = rest_then s t p rest f.ensures.belongs f.ensures.knows in
-    (c.if-asleep.false, full s p m f.result f.ensures.depth c.if-held-lt-MAX_DEPTH.false, f.ensures.knows)
-
-pub returns-then-asleep-clause-bounded : goal.returns-then-asleep-clause-bounded
-returns-then-asleep-clause-bounded c =
-    refused_beside c.args.seat.now c.args.seat.now c.args.mutex (10 + length (popped_of c.args.seat.now c.args.mutex)) refl
-
-pub returns-then-held-eq0-clause-bounded : goal.returns-then-held-eq0-clause-bounded
-returns-then-held-eq0-clause-bounded c =
-    let s = c.args.seat.now in let p = c.args.pool.now in let m = c.args.mutex in let r = c.requires in let rest = r.between.awake c.if-asleep.false in
-    let f = c.depth-held in let t = f.new.seat in
-    let k = c.ask_without_waking-asked in beside_then s t k.new.seat m (10 + length (popped_of k.new.seat m)) f.ensures.knows k.ensures.bounded
-
-pub returns-then-held-lt-MAX_DEPTH-clause-bounded : goal.returns-then-held-lt-MAX_DEPTH-clause-bounded
-returns-then-held-lt-MAX_DEPTH-clause-bounded c =
-    let s = c.args.seat.now in let p = c.args.pool.now in let m = c.args.mutex in let r = c.requires in let rest = r.between.awake c.if-asleep.false in
-    let f = c.depth-held in let t = f.new.seat in
-    let k = c.ask_again-deeper in let u = k.new.seat in asked_again_made s u p m (may_at_rest s p rest m r.mutex) (f.result + 1) (10 + length (popped_of u m)) (omega arith) (deepens_then s t u p m f.ensures.belongs f.ensures.knows AskAgainSteps (f.result + 1) k.ensures.deepens)
-
-pub returns-clause-bounded : goal.returns-clause-bounded
-returns-clause-bounded c =
-    let s = c.args.seat.now in let p = c.args.pool.now in let m = c.args.mutex in let r = c.requires in let rest = r.between.awake c.if-asleep.false in
-    let f = c.depth-held in let t = f.new.seat in
-    refused_beside s t m (10 + length (popped_of t m)) f.ensures.knows
+    let k = c.ask-asked in let e = k.ensures in
+    let awake : c.args.seat.now.asleep_in ≡ None = search rules in
+    elim c.match-asked.branch [
+      | in-Ok-Held w ↦
+          let inner : w.in-Ok-Held.field-0 ≡ Asked.Held w.in-Ok-Held.field-0-0 = rw w.in-Ok-Held.is at w.in-Ok-Held.field-0-is in
+          let is : k.result.0 ≡ Ok (Asked.Held w.in-Ok-Held.field-0-0) = w.in-Ok-Held.is ∙ (λ i. Ok (inner i)) in
+          subst (λ (x : PoolSeat). IsBetweenCalls x c.args.pool.now) (sym w.seat-is)
+          (asked_held c.args.seat.now k.new.seat c.args.pool.now c.args.mutex c.requires.between c.requires.mutex awake k.result.0 k.result.1 w.in-Ok-Held.field-0-0 is e.placed e.asks e.refuses)
+      | in-Ok-Asleep w ↦
+          let inner : w.in-Ok-Asleep.field-0 ≡ Asked.Asleep = rw w.in-Ok-Asleep.is at w.in-Ok-Asleep.field-0-is in
+          let is : k.result.0 ≡ Ok Asked.Asleep = w.in-Ok-Asleep.is ∙ (λ i. Ok (inner i)) in
+          subst (λ (x : PoolSeat). IsBetweenCalls x c.args.pool.now) (sym w.seat-is)
+          (asked_asleep c.args.seat.now k.new.seat c.args.pool.now c.args.mutex c.requires.between c.requires.mutex awake k.result.0 k.result.1 is e.placed e.asks e.refuses)
+      | in-Ok-Again w ↦
+          let inner : w.in-Ok-Again.field-0 ≡ Asked.Again w.in-Ok-Again.field-0-0 = rw w.in-Ok-Again.is at w.in-Ok-Again.field-0-is in
+          let is : k.result.0 ≡ Ok (Asked.Again w.in-Ok-Again.field-0-0) = w.in-Ok-Again.is ∙ (λ i. Ok (inner i)) in
+          subst (λ (x : PoolSeat). IsBetweenCalls x c.args.pool.now) (sym w.seat-is)
+          (asked_again c.args.seat.now k.new.seat c.args.pool.now c.args.mutex c.requires.between c.requires.mutex awake k.result.0 k.result.1 w.in-Ok-Again.field-0-0 is e.placed e.asks)
+      | in-Err w ↦
+          subst (λ (x : PoolSeat). IsBetweenCalls x c.args.pool.now) (sym w.seat-is)
+          (ask_refused c.args.seat.now k.new.seat c.args.pool.now c.args.mutex c.requires.between c.requires.mutex awake k.result.0 k.result.1 _ w.in-Err.is e.placed e.asks)
+    ]

@@ -1,4 +1,0 @@
-use Rattle.lfm_pool.proofs.calls.try_lock.Given as goal
-
-abbrev pub ghosts-try_again : goal.ghosts-try_again
-ghosts-try_again a = record { depth = a.depth }

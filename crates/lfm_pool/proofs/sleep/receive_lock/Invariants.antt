@@ -1,5 +1,0 @@
-use Rattle.lfm_pool.proofs.Sleeping.{Waiting}
-use Rattle.lfm_pool.proofs.sleep.receive_lock.Given as goal
-
-abbrev pub invariant-receives : goal.invariant-receives
-invariant-receives g l = Waiting l.fn.seat l.seat l.pool l.mutex

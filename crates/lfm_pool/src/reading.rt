@@ -1,0 +1,44 @@
+//! What a seat reads of a mutex between two calls: which seat owns it, and how many times the seat itself holds it.
+//!
+//! Nothing changes by these functions, neither in the pool nor in what the seat knows: no step of the protocol is made. None
+//! allocates or waits, and none refuses anything: a seat that sleeps may call them too.
+ghost use Rattle.std.specs.Prelude.{◌≡◌, ◌≢◌, Some};
+ghost use Rattle.lfm_pool.specs.Belongs.{IsMutex};
+ghost use Rattle.lfm_pool.specs.Calls.{IsBetweenCalls, SamePoolSeat};
+ghost use Rattle.lfm_pool.specs.Depths.{HasDepthIn, TellsOwner};
+ghost use Rattle.lfm_pool.specs.Tables.{part};
+
+use crate::pool::Pool;
+use crate::seat::PoolSeat;
+
+/// Loads the owner word of this mutex. Returns the number of the seat that owns it, or 0 if none does. It is the caller's own
+/// number exactly if the caller holds the mutex. Another seat's number may be out of date when the caller reads it.
+#[inline(always)]
+pub fn read_owner(pool: &Pool, seat: &mut PoolSeat, mutex: usize) -> u64
+    requires between { IsBetweenCalls seat.old pool.now }
+    requires mutex { IsMutex mutex pool.now }
+    ensures belongs { SamePoolSeat seat.old seat.new }
+    ensures between { IsBetweenCalls seat.new pool.now }
+    ensures same { (seat.new.asleep_in ≡ seat.old.asleep_in) × (seat.new.takes ≡ seat.old.takes) × (seat.new.table_seat.place.me ≡ seat.old.table_seat.place.me) }
+    ensures tells { TellsOwner (part seat.old.table_seat.place.me.0 mutex) result }
+{
+    crate::depth::read_owner(pool, &mut seat.table_seat, mutex)
+}
+
+/// How many times the seat holds this mutex: 0 to 65,535. It is 0 if the seat sleeps in this mutex, and nothing is loaded then.
+/// Else the call loads the owner word, and the carried word if the seat holds the mutex.
+#[inline(always)]
+pub fn depth(pool: &Pool, seat: &mut PoolSeat, mutex: usize) -> u32
+    requires between { IsBetweenCalls seat.old pool.now }
+    requires mutex { IsMutex mutex pool.now }
+    ensures belongs { SamePoolSeat seat.old seat.new }
+    ensures between { IsBetweenCalls seat.new pool.now }
+    ensures same { (seat.new.asleep_in ≡ seat.old.asleep_in) × (seat.new.takes ≡ seat.old.takes) × (seat.new.table_seat.place.me ≡ seat.old.table_seat.place.me) }
+    ensures depth { seat.old.asleep_in ≢ Some mutex → HasDepthIn seat.old.table_seat pool.now mutex result }
+    ensures sleeping { seat.old.asleep_in ≡ Some mutex → result ≡ 0 }
+{
+    if seat.asleep_in == Some(mutex) {
+        return 0;
+    }
+    crate::depth::depth(pool, &mut seat.table_seat, mutex)
+}

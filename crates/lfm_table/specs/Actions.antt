@@ -125,16 +125,24 @@ pub record KnowsRun (l : Limits) (actions : List Action) (t : ℕ) (early : List
   pub of_others : own_of t later ≡ []
   pub trail_is : trail ≡ part_of (start l) t early
 
--- A table that was opened with these limits has this run. The actions have led from the start to its core, and each trail is
--- its seat's part of them. Each seat knows an early part of them, which led to a state in which its data are as its view
--- states; all later actions are those of other seats. A number that is no seat's has made none of them.
-pub record HasRun {T : Type 0} (l : Limits) (actions : List Action) (c : Core) (views : List (View T)) : Type 0 where
-  pub allowed : are_in_limits l.seats l.budget ≡ true
+-- the limits that a mutex may be opened with
+abbrev pub AreInLimits : Limits → Type 0
+AreInLimits l = are_in_limits l.seats l.budget ≡ true
+
+-- A table that was opened with these limits, which are of this kind, has this run. The actions have led from the start to its
+-- core, and each trail is its seat's part of them. Each seat knows an early part of them, which led to a state in which its
+-- data are as its view states; all later actions are those of other seats. A number that is no seat's has made none of them.
+pub record HasRunWithin (Allowed : Limits → Type 0) {T : Type 0} (l : Limits) (actions : List Action) (c : Core) (views : List (View T)) : Type 0 where
+  pub allowed : Allowed l
   pub here : c ≡ reached l (events_of actions)
   pub trails : (j : ℕ) (v : View T) → get_elem? views j ≡ some v → v.trail ≡ part_of (start l) (j + 1) actions
   pub known : (j : ℕ) (v : View T) → get_elem? views j ≡ some v → KnowsRun l actions (j + 1) v.actions v.trail
   pub stands : (j : ℕ) (v : View T) → get_elem? views j ≡ some v → seat (reached l (events_of v.actions)).seats (j + 1) ≡ v.state
   pub others : (t : ℕ) → (t ≡ 0) ⊎ (length views < t) → own_of t actions ≡ []
+
+-- the table of a mutex has this run
+abbrev pub HasRun : {T : Type 0} → Limits → List Action → Core → List (View T) → Type 0
+HasRun l actions c views = HasRunWithin AreInLimits l actions c views
 
 -- How the run continues between two views of one seat
 

@@ -34,7 +34,7 @@ use Rattle.lfm_table.specs.declared.seat_view.Joined.{Joined}
 use Rattle.lfm_table.specs.declared.seat_view.View.{View}
 use Rattle.lfm_table.specs.declared.rule.Moving.{Moving}
 pub use Rattle.lfm_table.specs.Actions.{seen}
-use Rattle.lfm_table.specs.Actions.{HasRun, RunGoesOnBy, begins_and_step}
+use Rattle.lfm_table.specs.Actions.{AreInLimits, HasRunWithin, RunGoesOnBy, begins_and_step}
 use Rattle.lfm_table.specs.Reach.{Reached}
 
 -- Views
@@ -251,8 +251,8 @@ module _ {T : Type 0} (follows : ℕ → T → T → Type 0) (suits : T → ℕ 
     pub left : v.state.depth ≡ 0 → LeftIn views n value
 
   -- the words and views are those of a steady state of the core, which a run from its start has reached, and the value is where
-  -- the core requires
-  pub record Held (s : State (Option (Moving T)) (View T)) : Type 0 where
+  -- the core requires; the limits are of this kind
+  pub record HeldWithin (Allowed : Limits → Type 0) (s : State (Option (Moving T)) (View T)) : Type 0 where
     pub core : Core
     pub ghost_state : Ghost
     pub holds_ended : ℕ
@@ -270,7 +270,11 @@ module _ {T : Type 0} (follows : ℕ → T → T → Type 0) (suits : T → ℕ 
     pub others : (j : ℕ) (v : View T) → get_elem? s.views j ≡ some v → v.role ≡ Retired → (v.state.point ≡ Rest) × (v.state.depth ≡ 0)
     pub opened : Limits
     pub actions : List Action
-    pub run : HasRun opened actions core s.views
+    pub run : HasRunWithin Allowed opened actions core s.views
+
+  -- the rule of the table of a mutex
+  abbrev pub Held : State (Option (Moving T)) (View T) → Type 0
+  Held = HeldWithin AreInLimits
 
   -- what a step does with the slot and with the record of the value, by whether its seat carries it before and after
   abbrev pub Hands : Bool → Bool → Point → Option T → List Record → Mine → Mine → Type 0

@@ -27,7 +27,7 @@ use Rattle.lfm_table.specs.declared.seat_view.Action.{Action}
 use Rattle.lfm_table.specs.declared.seat_view.Action.TheVariants.{Begins, Makes, LoadsOwner}
 use Rattle.lfm_table.specs.declared.seat_view.Seen.{Seen}
 use Rattle.lfm_table.specs.declared.seat_view.View.{View}
-use Rattle.lfm_table.specs.Actions.{seen, told, noted_as, noted, actor, own_of, IsNotedBy, LastIsOwn, EndsWithOwn, events_of, after_action, if_own, noted_of, part_of, begins_of, begins_and_step, KnowsRun, HasRun, next_part, RunGoesOn, RunGoesOnBy}
+use Rattle.lfm_table.specs.Actions.{seen, told, noted_as, noted, actor, own_of, IsNotedBy, LastIsOwn, EndsWithOwn, events_of, after_action, if_own, noted_of, part_of, begins_of, begins_and_step, KnowsRun, HasRun, HasRunWithin, next_part, RunGoesOn, RunGoesOnBy}
 use Rattle.lfm_table.specs.Settled.{calls_to}
 
 -- Concatenation
@@ -268,7 +268,7 @@ SaysTheSame z v = (z.trail ≡ v.trail) × (z.actions ≡ v.actions) × (z.state
 abbrev pub SaysNothing : {T : Type 0} → View T → Type 0
 SaysNothing z = (z.trail ≡ []) × (z.actions ≡ []) × (z.state ≡ absent)
 
-module _ {T : Type 0} (l : Limits) (actions : List Action) (c : Core) (views : List (View T)) (run : HasRun l actions c views) where
+module _ {Allowed : Limits → Type 0} {T : Type 0} (l : Limits) (actions : List Action) (c : Core) (views : List (View T)) (run : HasRunWithin Allowed l actions c views) where
   -- the seat at place id has acted, and records this
   module _ (more : List Action) (d : Core) (id : ℕ) (v w : View T) (x : Seen) (at : get_elem? views id ≡ some v) (leads : d ≡ run_of c (events_of more)) (notes : w.trail ≡ v.trail ++ x ∷ [])
       (part : (t : ℕ) → part_of c t more ≡ if_own (id + 1) t x) (only : (t : ℕ) → id + 1 ≢ t → own_of t more ≡ []) (last : LastIsOwn (id + 1) more) (knows : w.actions ≡ actions ++ more) (stands : seat d.seats (id + 1) ≡ w.state) where
@@ -313,7 +313,7 @@ module _ {T : Type 0} (l : Limits) (actions : List Action) (c : Core) (views : L
       trail_is = k.trail_is;
     }
 
-    pub run_goes_on : HasRun l (actions ++ more) d (set views id w)
+    pub run_goes_on : HasRunWithin Allowed l (actions ++ more) d (set views id w)
     run_goes_on = record {
       allowed = run.allowed;
       here = leads_on;
@@ -356,7 +356,7 @@ module _ {T : Type 0} (l : Limits) (actions : List Action) (c : Core) (views : L
   -- No seat has acted: each view has the data of the run that an earlier one had, or is new.
   pub run_stays : (after : List (View T)) → length views ≤ length after
       → ((j : ℕ) (z : View T) → get_elem? after j ≡ some z → ((v : View T) × (get_elem? views j ≡ some v) × SaysTheSame z v) ⊎ ((length views ≤ j) × SaysNothing z))
-      → HasRun l actions c after
+      → HasRunWithin Allowed l actions c after
   run_stays after longer same = record {
     allowed = run.allowed;
     here = run.here;

@@ -21,7 +21,7 @@ use Rattle.lfm_table.specs.declared.seat_view.Role.TheVariants.{User, Retired}
 use Rattle.lfm_table.specs.declared.seat_view.View.{View}
 use Rattle.lfm_table.specs.declared.rule.Moving.{Moving}
 use Rattle.lfm_table.specs.Reach.{Reached}
-use Rattle.lfm_table.specs.Rule.{sum_over, LeadsToValue, Awaits, NoneEnded, LeftIn, AreNumbered, Sits, AtHome, WithSeat, Held}
+use Rattle.lfm_table.specs.Rule.{sum_over, LeadsToValue, Awaits, NoneEnded, LeftIn, AreNumbered, Sits, AtHome, WithSeat, HeldWithin}
 use Rattle.lfm_table.proofs.tables.Numbered.{numbered_same}
 use Rattle.lfm_table.proofs.tables.RuleKept.{length_at}
 
@@ -170,7 +170,7 @@ module _ {T : Type 0} (follows : ℕ → T → T → Type 0) (suits : T → ℕ 
       numbered = numbered_end p.numbered;
     }
 
-module _ {T : Type 0} (follows : ℕ → T → T → Type 0) (suits : T → ℕ → Type 0) where
+module _ {Allowed : Limits → Type 0} {T : Type 0} (follows : ℕ → T → T → Type 0) (suits : T → ℕ → Type 0) where
   -- the parts of a table of which the rule holds
-  pub parts : (s : State (Option (Moving T)) (View T)) (h : Held follows suits s) → Parts follows suits h.core h.ghost_state h.holds_ended s.homes s.views
+  pub parts : (s : State (Option (Moving T)) (View T)) (h : HeldWithin follows suits Allowed s) → Parts follows suits h.core h.ghost_state h.holds_ended s.homes s.views
   parts s h = record { few = h.few; each = h.each; later = h.later; home = h.home; outside = h.outside; numbered = h.numbered }

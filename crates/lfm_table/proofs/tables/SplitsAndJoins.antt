@@ -12,16 +12,13 @@ use Rattle.lfm_table.specs.declared.seat_view.Role.TheVariants.{User}
 use Rattle.lfm_table.specs.declared.seat_view.Joined.{Joined}
 use Rattle.lfm_table.specs.declared.seat_view.View.{View}
 use Rattle.lfm_table.specs.declared.rule.Moving.{Moving}
-use Rattle.lfm_table.specs.Actions.{HasRun}
-use Rattle.lfm_table.specs.Rule.{sum_over, retired, retired_at, split_view, with_split, with_joined, joined, joined_of, Roots, Held}
+use Rattle.lfm_table.specs.Actions.{HasRunWithin}
+use Rattle.lfm_table.specs.Rule.{sum_over, retired, retired_at, split_view, with_split, with_joined, joined, joined_of, Roots, HeldWithin}
 use Rattle.lfm_table.proofs.tables.Actions.{SaysTheSame, SaysNothing, run_stays}
 use Rattle.lfm_table.proofs.tables.RuleKept.{total_set, length_at}
 use Rattle.lfm_table.proofs.tables.OneView.{at_end, total_end, get_end, not_both, parts, quiet, extends}
 
-module _ {T : Type 0} (follows : ℕ → T → T → Type 0) (suits : T → ℕ → Type 0) where
-  abbrev St : Type 0
-  St = State (Option (Moving T)) (View T)
-
+module _ {T : Type 0} where
   -- the views state the same about the run as before
 
   same_set : (views : List (View T)) (i : ℕ) (x y : View T) → get_elem? views i ≡ some x → SaysTheSame y x → (j : ℕ) (z : View T) → get_elem? (set views i y) j ≡ some z
@@ -31,7 +28,8 @@ module _ {T : Type 0} (follows : ℕ → T → T → Type 0) (suits : T → ℕ 
       (λ (t : (j ≢ i) × (get_elem? views j ≡ some z)). (z, t.1, (refl, refl, refl)))
       (at_set views i j y z e)
 
-  run_split : (o : Limits) (actions : List Action) (c : Core) (views : List (View T)) → HasRun o actions c views → (v : View T) → get_elem? views 0 ≡ some v → HasRun o actions c (set views 0 (with_split v) ++ split_view v ∷ [])
+module _ {Allowed : Limits → Type 0} {T : Type 0} (follows : ℕ → T → T → Type 0) (suits : T → ℕ → Type 0) where
+  run_split : (o : Limits) (actions : List Action) (c : Core) (views : List (View T)) → HasRunWithin Allowed o actions c views → (v : View T) → get_elem? views 0 ≡ some v → HasRunWithin Allowed o actions c (set views 0 (with_split v) ++ split_view v ∷ [])
   run_split o actions c views run v at =
       let vs = set views 0 (with_split v) in let l = length-set views 0 (with_split v) in let n = length-append vs (split_view v ∷ []) in
       run_stays o actions c views run (vs ++ split_view v ∷ []) (omega (arith, l, n)) (λ j z e. ⊎_elim
@@ -39,15 +37,15 @@ module _ {T : Type 0} (follows : ℕ → T → T → Type 0) (suits : T → ℕ 
       (λ (u : (j ≡ length vs) × (split_view v ≡ z)). inr ((let q = u.0 in omega (arith, l, q)), subst SaysNothing u.1 (refl, refl, refl)))
       (at_end vs (split_view v) z j e))
 
-  run_joined : (o : Limits) (actions : List Action) (c : Core) (views : List (View T)) → HasRun o actions c views → (v w : View T) → get_elem? views 0 ≡ some v → (other : ℕ)
-      → get_elem? (set views 0 (with_joined v w)) other ≡ some w → HasRun o actions c (set (set views 0 (with_joined v w)) other (joined w))
+  run_joined : (o : Limits) (actions : List Action) (c : Core) (views : List (View T)) → HasRunWithin Allowed o actions c views → (v w : View T) → get_elem? views 0 ≡ some v → (other : ℕ)
+      → get_elem? (set views 0 (with_joined v w)) other ≡ some w → HasRunWithin Allowed o actions c (set (set views 0 (with_joined v w)) other (joined w))
   run_joined o actions c views run v w at other there =
       let vs = set views 0 (with_joined v w) in let l = length-set views 0 (with_joined v w) in let n = length-set vs other (joined w) in
       run_stays o actions c views run (set vs other (joined w)) (omega (arith, l, n)) (λ j z e.
       let a = same_set vs other w (joined w) there (refl, refl, refl) j z e in let b = same_set views 0 v (with_joined v w) at (refl, refl, refl) j a.0 a.1 in
       inl (b.0, b.1, (a.2.0 ∙ b.2.0, a.2.1 ∙ b.2.1, a.2.2 ∙ b.2.2)))
 
-  pub splits : (v : View T) → v.role ≡ User → v.made + 2 ≤ v.limits.seats → Splits (Held follows suits) 0 v (with_split v) (split_view v)
+  pub splits : (v : View T) → v.role ≡ User → v.made + 2 ≤ v.limits.seats → Splits (HeldWithin follows suits Allowed) 0 v (with_split v) (split_view v)
   splits v user room s h at = let k = h.root v at in let l = with_split v in let r = split_view v in let vs = set s.views 0 l in let here = length_at s.views 0 v at in
       let long : length vs ≡ v.made + 1 = length-set s.views 0 l ∙ k.made in
       let q = quiet follows suits h.core h.ghost_state h.holds_ended s.homes s.views (parts follows suits s h) 0 v l at refl refl refl refl refl refl refl refl refl refl refl in
@@ -85,7 +83,7 @@ module _ {T : Type 0} (follows : ℕ → T → T → Type 0) (suits : T → ℕ 
         run = run_split h.opened h.actions h.core s.views h.run v at;
       }
 
-  pub joins : (v w : View T) (other : ℕ) → v.role ≡ User → w.role ≡ User → w.state.point ≡ Rest → w.state.depth ≡ 0 → Joins (Held follows suits) 0 v other w (with_joined v w) (joined w)
+  pub joins : (v w : View T) (other : ℕ) → v.role ≡ User → w.role ≡ User → w.state.point ≡ Rest → w.state.depth ≡ 0 → Joins (HeldWithin follows suits Allowed) 0 v other w (with_joined v w) (joined w)
   joins v w other user uses rests flat s h at apart there = let k = h.root v at in let b = with_joined v w in let vs = set s.views 0 b in let here = length_at s.views 0 v at in
       let q = quiet follows suits h.core h.ghost_state h.holds_ended s.homes s.views (parts follows suits s h) 0 v b at refl refl refl refl refl refl refl refl refl refl refl in
       let parts_after = quiet follows suits h.core h.ghost_state h.holds_ended s.homes vs q other w (joined w) there refl refl refl refl refl refl refl refl refl refl refl in
@@ -130,12 +128,12 @@ module _ {T : Type 0} (follows : ℕ → T → T → Type 0) (suits : T → ℕ 
       }
 
   -- splitting off and joining keep the run
-  pub splits_keep : (v : View T) (user : v.role ≡ User) (room : v.made + 2 ≤ v.limits.seats) (s : State (Option (Moving T)) (View T)) (h : Held follows suits s) (at : get_elem? s.views 0 ≡ some v)
+  pub splits_keep : (v : View T) (user : v.role ≡ User) (room : v.made + 2 ≤ v.limits.seats) (s : State (Option (Moving T)) (View T)) (h : HeldWithin follows suits Allowed s) (at : get_elem? s.views 0 ≡ some v)
       → ((splits v user room s h at).opened ≡ h.opened) × ((splits v user room s h at).actions ≡ h.actions)
   unfolding splits
   splits_keep v user room s h at = (refl, refl)
 
-  pub joins_keep : (v w : View T) (other : ℕ) (user : v.role ≡ User) (uses : w.role ≡ User) (rests : w.state.point ≡ Rest) (flat : w.state.depth ≡ 0) (s : State (Option (Moving T)) (View T)) (h : Held follows suits s)
+  pub joins_keep : (v w : View T) (other : ℕ) (user : v.role ≡ User) (uses : w.role ≡ User) (rests : w.state.point ≡ Rest) (flat : w.state.depth ≡ 0) (s : State (Option (Moving T)) (View T)) (h : HeldWithin follows suits Allowed s)
       (at : get_elem? s.views 0 ≡ some v) (apart : ¬ (other ≡ 0)) (there : get_elem? (set s.views 0 (with_joined v w)) other ≡ some w)
       → ((joins v w other user uses rests flat s h at apart there).opened ≡ h.opened) × ((joins v w other user uses rests flat s h at apart there).actions ≡ h.actions)
   unfolding joins

@@ -22,7 +22,8 @@ use Rattle.lfm_laws.proofs.table.Starts.{start_narrow}
 use Rattle.lfm_table.specs.declared.seat_view.View.{View}
 use Rattle.lfm_table.specs.declared.rule.Moving.{Moving}
 use Rattle.lfm_table.specs.Reach.{Reached}
-use Rattle.lfm_table.specs.Rule.{first_view, Roots, Sits, Held}
+use Rattle.lfm_table.specs.Actions.{AreInLimits}
+use Rattle.lfm_table.specs.Rule.{first_view, Roots, Sits, Held, HeldWithin}
 use Rattle.lfm_table.proofs.tables.Actions.{knows_none, stands_first, starts_absent}
 use Rattle.lfm_table.proofs.tables.RuleKept.{stays_reached, some_same}
 use Rattle.lfm_table.proofs.tables.OneView.{not_both}
@@ -56,13 +57,12 @@ first_last follows x l a b seats j first same is = let eq : x ≡ l = some_same 
 some_seats : (seats budget : ℕ) → are_in_limits seats budget ≡ true → 0 < seats
 some_seats seats budget allowed = search (tests, arith, allowed)
 
--- the rule holds of the table at the start
-pub starts : {T : Type 0} (follows : ℕ → T → T → Type 0) (suits : T → ℕ → Type 0) (l : Limits) (ws : List ℕ) (x : Moving T) → are_in_limits l.seats l.budget ≡ true → ws ≡ replicate (4 + 2 * l.seats) 0 → x.popped.records ≡ [] → x.popped.room ≡ l.seats → suits x.value 0
-    → Held follows suits (opening ws (Some x ∷ []) (first_view l x.value))
-starts {T} follows suits l ws x allowed are none_popped room fit =
+-- the rule holds of the table at the start, whatever is asked of its limits, if the number of seats is within the range
+pub starts_within : {T : Type 0} (follows : ℕ → T → T → Type 0) (suits : T → ℕ → Type 0) (Allowed : Limits → Type 0) (l : Limits) (ws : List ℕ) (x : Moving T) → Allowed l → 0 < l.seats → l.seats ≤ max_seats
+    → ws ≡ replicate (4 + 2 * l.seats) 0 → x.popped.records ≡ [] → x.popped.room ≡ l.seats → suits x.value 0
+    → HeldWithin follows suits Allowed (opening ws (Some x ∷ []) (first_view l x.value))
+starts_within {T} follows suits Allowed l ws x allowed some_seat few are none_popped room fit =
     let k : View T = first_view l x.value in
-    let few = few_seats l.seats l.budget allowed in
-    let some_seat = some_seats l.seats l.budget allowed in
     let st = start_steady l few in
     let long = length-replicate l.seats absent in
     let none_carries : carries_value k.state ≡ false = refl in
@@ -112,11 +112,23 @@ starts {T} follows suits l ws x allowed are none_popped room fit =
       };
     }
 
+pub starts_within_at : {T : Type 0} (follows : ℕ → T → T → Type 0) (suits : T → ℕ → Type 0) (Allowed : Limits → Type 0) (l : Limits) (ws : List ℕ) (x : Moving T) (allowed : Allowed l) (some_seat : 0 < l.seats) (few : l.seats ≤ max_seats)
+    (are : ws ≡ replicate (4 + 2 * l.seats) 0) (none_popped : x.popped.records ≡ []) (room : x.popped.room ≡ l.seats) (fit : suits x.value 0)
+    → ((starts_within follows suits Allowed l ws x allowed some_seat few are none_popped room fit).opened ≡ l) × ((starts_within follows suits Allowed l ws x allowed some_seat few are none_popped room fit).actions ≡ [])
+unfolding starts_within
+starts_within_at follows suits Allowed l ws x allowed some_seat few are none_popped room fit = (refl, refl)
+
+-- The table of a mutex
+
+pub starts : {T : Type 0} (follows : ℕ → T → T → Type 0) (suits : T → ℕ → Type 0) (l : Limits) (ws : List ℕ) (x : Moving T) → are_in_limits l.seats l.budget ≡ true → ws ≡ replicate (4 + 2 * l.seats) 0 → x.popped.records ≡ [] → x.popped.room ≡ l.seats → suits x.value 0
+    → Held follows suits (opening ws (Some x ∷ []) (first_view l x.value))
+starts follows suits l ws x allowed = starts_within follows suits AreInLimits l ws x allowed (some_seats l.seats l.budget allowed) (few_seats l.seats l.budget allowed)
+
 pub starts_at : {T : Type 0} (follows : ℕ → T → T → Type 0) (suits : T → ℕ → Type 0) (l : Limits) (ws : List ℕ) (x : Moving T) (allowed : are_in_limits l.seats l.budget ≡ true) (are : ws ≡ replicate (4 + 2 * l.seats) 0)
     (none_popped : x.popped.records ≡ []) (room : x.popped.room ≡ l.seats) (fit : suits x.value 0)
     → ((starts follows suits l ws x allowed are none_popped room fit).opened ≡ l) × ((starts follows suits l ws x allowed are none_popped room fit).actions ≡ [])
 unfolding starts
-starts_at follows suits l ws x allowed are none_popped room fit = (refl, refl)
+starts_at follows suits l ws x allowed = starts_within_at follows suits AreInLimits l ws x allowed (some_seats l.seats l.budget allowed) (few_seats l.seats l.budget allowed)
 
 pub limit_facts : (seats budget : ℕ) → are_in_limits seats budget ≡ true → (0 < seats) × (seats ≤ max_seats)
 limit_facts seats budget allowed = (some_seats seats budget allowed, few_seats seats budget allowed)

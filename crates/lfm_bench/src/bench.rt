@@ -7,14 +7,14 @@ use crate::workloads::hits::Hit;
 use crate::workloads::misses::Miss;
 use crate::workloads::pairs::{Addition, BargingPair, Pair};
 use crate::workloads::recursive::Again;
-use crate::workloads::{Calls, Workload, broadcast, contended, looks, ping_pong, queue};
+use crate::workloads::{Calls, Workload, broadcast, contended, ping_pong, polls, queue};
 use std::io;
 use std::sync::Wait;
 use std::thread::Threads;
 use std::time::{Clock, CpuClock, Duration};
 
-/// How many calls count as one look. A round has fewer looks than calls, since a look has pauses.
-const CALLS_OF_LOOK: u64 = 10;
+/// How many calls count as one poll. A round has fewer polls than calls, since a poll has pauses.
+const CALLS_OF_POLL: u64 = 10;
 
 /// About how many locks by one thread take as long as a round trip. The next constant is the fewest round trips of a round.
 const CALLS_OF_TRIP: u64 = 100;
@@ -99,7 +99,7 @@ impl Bench<'_> {
             Calls::Hits => round_of_all::<R, Hit>(rt, peers, Start::Free, many),
             Calls::Misses => round_of_all::<R, Miss>(rt, peers, Start::HeldByOther, many),
             Calls::Handoffs => round_of_handoffs(rt, peers, many),
-            Calls::Looks => looks::round(rt, &mut peers.steps, many / CALLS_OF_LOOK),
+            Calls::Polls => polls::round(rt, &mut peers.steps, many / CALLS_OF_POLL),
         }
     }
 }

@@ -33,7 +33,7 @@ const ALONE: [Shape; 8] = [
     ),
     ("try_lock that is refused", Workload::Alone(Calls::Misses)),
     ("hand-off by one thread", Workload::Alone(Calls::Handoffs)),
-    ("a look", Workload::Alone(Calls::Looks)),
+    ("a poll", Workload::Alone(Calls::Polls)),
 ];
 
 /// The rows of condition variables.

@@ -4,10 +4,10 @@ pub mod broadcast;
 pub mod contended;
 pub mod handoffs;
 pub mod hits;
-pub mod looks;
 pub mod misses;
 pub mod pairs;
 pub mod ping_pong;
+pub mod polls;
 pub mod queue;
 pub mod recursive;
 
@@ -60,5 +60,5 @@ pub enum Calls {
     /// It passes the mutex from one seat to another.
     Handoffs,
     /// A sleeping seat loads its wake word to see whether it was granted the mutex.
-    Looks,
+    Polls,
 }

@@ -83,13 +83,13 @@ TellsDepth x y n = (y ≡ x) × ReadsSeated (λ a. (sight a.seat).depth) x.seate
 abbrev pub TellsLeft : SeatHandle → SeatHandle → ℕ → Type 0
 TellsLeft x y n = (y ≡ x) × ReadsSeated (λ a. (limits_of (arc_value a.mutex)).budget - (sight a.seat).takes) x.seated n
 
--- a look at the count: it returns 0 if the handle is blank, and nothing else is guaranteed of the result
-abbrev pub Looks : Option Seated → ℕ → Type 0
-Looks None n = n ≡ 0
-Looks (Some a) n = Unit {0}
+-- a read of the count: it returns 0 if the handle is blank, and nothing else is guaranteed of the result
+abbrev pub ReadsCount : Option Seated → ℕ → Type 0
+ReadsCount None n = n ≡ 0
+ReadsCount (Some a) n = Unit {0}
 
 abbrev pub TellsCount : SeatHandle → SeatHandle → ℕ → Type 0
-TellsCount x y n = (y ≡ x) × Looks x.seated n
+TellsCount x y n = (y ≡ x) × ReadsCount x.seated n
 
 -- the seats of a new mutex, in order, starting with seat 1
 abbrev pub AreNew : ℕ → Mutex ℕ → List (Seat ℕ) → Type 0

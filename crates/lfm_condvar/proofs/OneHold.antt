@@ -5,11 +5,11 @@ use Rattle.lfm_protocol.specs.declared.limits.Limits.{Limits}
 use Rattle.lfm_mutex.specs.declared.seat.Seat.{Seat}
 use Rattle.lfm_mutex.specs.calls.Sight.{Sight, sight, Gains, LeavesOff, MayLeave}
 use Rattle.lfm_mutex.specs.calls.WakeUps.{grants_of}
-use Rattle.lfm_mutex.specs.calls.Woken.{WakesNobody, WokenAsGranted, LooksAndWakesAsGranted}
+use Rattle.lfm_mutex.specs.calls.Woken.{WakesNobody, WokenAsGranted, PollsAndWakesAsGranted}
 use Rattle.lfm_condvar.specs.declared.waiters.Waiters.{Waiters}
 use Rattle.lfm_condvar.specs.Keeping.{WaitersFollow}
 use Rattle.lfm_condvar.specs.Holds.{CountsKnown, CondKept, StepsOfOneHold, HeldOnce, InHand, LeavesList, LocksList, MadeFor, Rewrites}
-use Rattle.lfm_mutex.proofs.runs.Woken.{looks_join, may_look, woken_join, woken_none}
+use Rattle.lfm_mutex.proofs.runs.Woken.{polls_join, may_poll, woken_join, woken_none}
 use Rattle.lfm_condvar.proofs.Followed.{since_reached}
 
 abbrev pub WaitersFit : Waiters → ℕ → Type 0
@@ -112,5 +112,5 @@ held_by own tries s t u z v w l r k = record {
 }
 
 -- A cond seat that locks the list, changes it and unlocks it wakes the seats to which the lock and the unlock granted the list
-pub woken_in_hold : (c l h d : Seat Waiters) (v w : Waiters) → LooksAndWakesAsGranted c l → WakesNobody l h → Rewrites (sight l) (sight h) v w → WokenAsGranted h d → LooksAndWakesAsGranted c d
-woken_in_hold c l h d v w locks nobody r leaves = looks_join c l d locks (may_look l d (woken_join l h d (woken_none l h nobody (ap (λ (s : Sight Waiters). grants_of s.trail) r.1)) leaves))
+pub woken_in_hold : (c l h d : Seat Waiters) (v w : Waiters) → PollsAndWakesAsGranted c l → WakesNobody l h → Rewrites (sight l) (sight h) v w → WokenAsGranted h d → PollsAndWakesAsGranted c d
+woken_in_hold c l h d v w locks nobody r leaves = polls_join c l d locks (may_poll l d (woken_join l h d (woken_none l h nobody (ap (λ (s : Sight Waiters). grants_of s.trail) r.1)) leaves))

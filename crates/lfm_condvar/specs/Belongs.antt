@@ -4,7 +4,7 @@ use Rattle.lfm_protocol.specs.declared.limits.Limits.{Limits}
 use Rattle.lfm_mutex.specs.Belongs.{OfMutex, limits_of, tries_of}
 use Rattle.lfm_mutex.specs.calls.RunGoesOn.{Action, past_of}
 use Rattle.lfm_mutex.specs.calls.Sight.{Sight, sight}
-use Rattle.lfm_mutex.specs.calls.Woken.{LooksAndWakesAsGranted}
+use Rattle.lfm_mutex.specs.calls.Woken.{PollsAndWakesAsGranted}
 use Rattle.lfm_condvar.specs.declared.condvar.Condvar.{Condvar}
 use Rattle.lfm_condvar.specs.declared.cond_seat.CondSeat.{CondSeat}
 use Rattle.lfm_condvar.specs.declared.waiters.Waiters.{Waiters}
@@ -27,10 +27,10 @@ cond_sight c = sight c.seat
 abbrev pub cond_past : CondSeat → List Action
 cond_past c = past_of c.seat
 
--- from one to the other, the cond seat has woken exactly those that it granted the list, in order; it may have looked, since each
+-- from one to the other, the cond seat has woken exactly those that it granted the list, in order; it may have polled, since each
 -- call that needs the list may wait for it
 abbrev pub CondWokenAsGranted : CondSeat → CondSeat → Type 0
-CondWokenAsGranted c d = LooksAndWakesAsGranted c.seat d.seat
+CondWokenAsGranted c d = PollsAndWakesAsGranted c.seat d.seat
 
 -- the cond seat belongs to the condvar
 abbrev pub OfCondvar : CondSeat → Condvar → Type 0

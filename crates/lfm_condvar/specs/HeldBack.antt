@@ -16,7 +16,7 @@ later_of held None = held
 later_of held (Some t) = Some t
 
 -- The steps from s to t granted the user mutex to the seats `woken`, in order, and then to the seat `wake_up`, if there is one.
--- The seats `woken` were woken, and no look was made. The wake-up of the last seat is held back. If no wake-up is held back, no
+-- The seats `woken` were woken, and no poll was made. The wake-up of the last seat is held back. If no wake-up is held back, no
 -- seat was granted the mutex
 pub record HoldsLastBack {T : Type 0} (seats : ℕ) (wake_up : Option ℕ) (s t : Seat T) : Type 0 where
   pub woken : List ℕ

@@ -4,7 +4,7 @@ ghost use Rattle.std.specs.Prelude.{◌≡◌, ◌<◌, ◌≤◌, Some, IfOk, l
 ghost use Rattle.lfm_mutex.specs.Belongs.{Beside, OfMutex, limits_of};
 ghost use Rattle.lfm_mutex.specs.calls.RunGoesOn.{RunGoesOnFrom};
 ghost use Rattle.lfm_mutex.specs.calls.Sight.{sight, MayRelease};
-ghost use Rattle.lfm_mutex.specs.calls.Woken.{LooksAndWakesAsGranted, WokenAsGranted};
+ghost use Rattle.lfm_mutex.specs.calls.Woken.{PollsAndWakesAsGranted, WokenAsGranted};
 ghost use Rattle.lfm_condvar.specs.Belongs.{CondWokenAsGranted, OfCondvar, cond_limits, cond_sight, cond_tries};
 ghost use Rattle.lfm_condvar.specs.Waits.{BeginWaitEnds, WaitEnds, ticket_of};
 
@@ -19,8 +19,8 @@ use std::sync::Wait;
 /// mutex. A seat that waits alone, with one other thread at work, may be sent soon, as when two threads take turns. Its polls
 /// then cost less than a sleep and a wake-up. If several seats wait, or were just sent, most of them wait long. Their polls
 /// would only take processor time from the threads that run.
-fn looks_behind(pace: Pace, ahead: usize, counted: u64) -> u32
-    ensures alone { ahead ≡ 0 → counted ≤ 1 → result ≡ pace.looks }
+fn polls_behind(pace: Pace, ahead: usize, counted: u64) -> u32
+    ensures alone { ahead ≡ 0 → counted ≤ 1 → result ≡ pace.polls }
     ensures behind { 0 < ahead → result ≡ 0 }
     ensures beside { 1 < counted → result ≡ 0 }
 {
@@ -117,12 +117,12 @@ impl Condvar {
         ensures belongs { OfCondvar cond.new self.now × Beside seat.old seat.new }
         ensures run { RunGoesOnFrom seat.old seat.new }
         ensures cond_woken { CondWokenAsGranted cond.old cond.new }
-        ensures woken { LooksAndWakesAsGranted seat.old seat.new }
+        ensures woken { PollsAndWakesAsGranted seat.old seat.new }
         ensures waits { WaitEnds T.follows T.fits (limits_of mutex.now) (cond_limits self.now) (cond_tries self.now) (cond_sight cond.old) (cond_sight cond.new) (sight seat.old) (sight seat.new) result }
     {
         let enlisted = self.begin_wait_counted(rt, cond, mutex, seat)?;
-        let looks = looks_behind(mutex.pace(), enlisted.ahead, mutex.count_from(seat));
-        match mutex.receive_lock_within(rt, seat, looks) {
+        let polls = polls_behind(mutex.pace(), enlisted.ahead, mutex.count_from(seat));
+        match mutex.receive_lock_within(rt, seat, polls) {
             Ok(how) => Ok((how, enlisted.ticket)),
             Err(_) => unreachable!(),
         }

@@ -5,7 +5,7 @@ ghost use Rattle.lfm_mutex.specs.Conditions.{FoundMayBeLeft};
 ghost use Rattle.lfm_mutex.specs.Belongs.{Beside, OfMutex, limits_of};
 ghost use Rattle.lfm_mutex.specs.calls.RunGoesOn.{RunGoesOnFrom};
 ghost use Rattle.lfm_mutex.specs.calls.Sight.{sight, MayRelease};
-ghost use Rattle.lfm_mutex.specs.calls.Woken.{LooksAndWakesAsGranted};
+ghost use Rattle.lfm_mutex.specs.calls.Woken.{PollsAndWakesAsGranted};
 ghost use Rattle.lfm_condvar.specs.Belongs.{CondWokenAsGranted, OfCondvar, cond_limits, cond_sight, cond_tries};
 ghost use Rattle.lfm_condvar.specs.Repeated.{WaitWhileEnds};
 
@@ -38,7 +38,7 @@ impl Condvar {
         ensures belongs { OfCondvar cond.new self.now × Beside seat.old seat.new }
         ensures run { RunGoesOnFrom seat.old seat.new }
         ensures cond_woken { CondWokenAsGranted cond.old cond.new }
-        ensures woken { LooksAndWakesAsGranted seat.old seat.new }
+        ensures woken { PollsAndWakesAsGranted seat.old seat.new }
         ensures depth { (sight seat.new).depth ≡ (sight seat.old).depth }
         ensures waits { WaitWhileEnds T.follows T.fits (limits_of mutex.now) (cond_limits self.now) (cond_tries self.now) (λ v b. FnReturnsAt F.Fn condition v b) (cond_sight cond.old) (cond_sight cond.new) (sight seat.old) (sight seat.new) result }
     {

@@ -11,7 +11,7 @@ use Rattle.lfm_monitor.specs.declared.monitor.Monitor.{Monitor}
 use Rattle.lfm_monitor.specs.declared.pass.Pass.{Pass}
 use Rattle.lfm_monitor.specs.Belongs.{OfMonitor, cond_seats_of, conditions_in, passes_of, tries_in}
 use Rattle.lfm_monitor.specs.CondSeats.{CondsWokenAsGranted, OfConditions, condition_limits}
-use Rattle.lfm_mutex.proofs.runs.Woken.{looks_join, looks_none}
+use Rattle.lfm_mutex.proofs.runs.Woken.{polls_join, polls_none}
 use Rattle.lfm_monitor.proofs.Pairing.{paired_alike, paired_join, paired_one, paired_set}
 use Rattle.lfm_monitor.proofs.Places.{stands}
 
@@ -25,7 +25,7 @@ abbrev wakes : CondSeat → CondSeat → Type 0
 wakes c d = CondWokenAsGranted c d
 
 none_woken : (c : CondSeat) → wakes c c
-none_woken c = looks_none c.seat c.seat refl refl
+none_woken c = polls_none c.seat c.seat refl refl
 
 pub conds_woken_none : (cs ds : List CondSeat) → ds ≡ cs → CondsWokenAsGranted cs ds
 conds_woken_none cs ds same = paired_alike (λ (c d : CondSeat). wakes c d) none_woken cs ds same
@@ -35,7 +35,7 @@ pub conds_woken_one : (cs : List CondSeat) (n : ℕ) (c d : CondSeat) → get_el
 conds_woken_one cs n c d at woken = paired_one (λ (c d : CondSeat). wakes c d) none_woken cs n c d at woken
 
 pub conds_woken_join : (cs ms ds : List CondSeat) → CondsWokenAsGranted cs ms → CondsWokenAsGranted ms ds → CondsWokenAsGranted cs ds
-conds_woken_join cs ms ds h k = paired_join (λ (c d : CondSeat). wakes c d) (λ c m d x y. looks_join c.seat m.seat d.seat x y) cs ms ds h k
+conds_woken_join cs ms ds h k = paired_join (λ (c d : CondSeat). wakes c d) (λ c m d x y. polls_join c.seat m.seat d.seat x y) cs ms ds h k
 
 module _ {O A R : Type 0} {K : _} where
   -- the condvar of a condition, and the pass's cond seat of it

@@ -13,7 +13,7 @@ use Rattle.lfm_monitor.specs.declared.pass.Pass.{Pass}
 use Rattle.lfm_monitor.specs.Belongs.{OfMonitor, passes_of, plain_conditions_in, plain_seats_of, tries_in}
 use Rattle.lfm_monitor.specs.CondSeats.{condition_limits}
 use Rattle.lfm_monitor.specs.PlainSeats.{OfPlainConditions, PlainSeatsWokenAsGranted, PlainWokenAsGranted}
-use Rattle.lfm_mutex.proofs.runs.Woken.{looks_join, looks_none}
+use Rattle.lfm_mutex.proofs.runs.Woken.{polls_join, polls_none}
 use Rattle.lfm_monitor.proofs.Pairing.{paired_alike, paired_join, paired_one, paired_set}
 use Rattle.lfm_monitor.proofs.Places.{stands}
 
@@ -27,7 +27,7 @@ abbrev wakes : PlainSeat → PlainSeat → Type 0
 wakes c d = PlainWokenAsGranted c d
 
 none_woken : (c : PlainSeat) → wakes c c
-none_woken c = looks_none c.seat c.seat refl refl
+none_woken c = polls_none c.seat c.seat refl refl
 
 pub plain_woken_none : (cs ds : List PlainSeat) → ds ≡ cs → PlainSeatsWokenAsGranted cs ds
 plain_woken_none cs ds same = paired_alike (λ (c d : PlainSeat). wakes c d) none_woken cs ds same
@@ -37,7 +37,7 @@ pub plain_woken_one : (cs : List PlainSeat) (n : ℕ) (c d : PlainSeat) → get_
 plain_woken_one cs n c d at woken = paired_one (λ (c d : PlainSeat). wakes c d) none_woken cs n c d at woken
 
 pub plain_woken_join : (cs ms ds : List PlainSeat) → PlainSeatsWokenAsGranted cs ms → PlainSeatsWokenAsGranted ms ds → PlainSeatsWokenAsGranted cs ds
-plain_woken_join cs ms ds h k = paired_join (λ (c d : PlainSeat). wakes c d) (λ c m d x y. looks_join c.seat m.seat d.seat x y) cs ms ds h k
+plain_woken_join cs ms ds h k = paired_join (λ (c d : PlainSeat). wakes c d) (λ c m d x y. polls_join c.seat m.seat d.seat x y) cs ms ds h k
 
 module _ {O A R : Type 0} {K : _} where
   -- the condvar of a condition, and the pass's plain seat of it

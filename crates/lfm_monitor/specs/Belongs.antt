@@ -4,7 +4,7 @@ use Rattle.lfm_protocol.specs.declared.limits.Limits.{Limits}
 use Rattle.lfm_mutex.specs.Belongs.{OfMutex, limits_of, tries_of}
 use Rattle.lfm_mutex.specs.calls.RunGoesOn.{Action, RunGoesOnFrom, past_of}
 use Rattle.lfm_mutex.specs.calls.Sight.{Sight, sight}
-use Rattle.lfm_mutex.specs.calls.Woken.{LooksAndWakesAsGranted, WokenAsGranted}
+use Rattle.lfm_mutex.specs.calls.Woken.{PollsAndWakesAsGranted, WokenAsGranted}
 use Rattle.lfm_condvar.specs.declared.condvar.Condvar.{Condvar}
 use Rattle.lfm_condvar.specs.declared.cond_seat.CondSeat.{CondSeat}
 use Rattle.lfm_plain_condvar.specs.declared.condvar.PlainCondvar.{PlainCondvar}
@@ -88,13 +88,13 @@ module _ {O A R : Type 0} {K : _} where
   abbrev pub pass_past : Pass O A R K → List Action
   pass_past p = past_of p.seat
 
-  -- from one to the other, the pass has woken exactly those that it granted the monitor, in order, and has made no look
+  -- from one to the other, the pass has woken exactly those that it granted the monitor, in order, and has made no poll
   abbrev pub PassWokenAsGranted : Pass O A R K → Pass O A R K → Type 0
   PassWokenAsGranted p q = WokenAsGranted p.seat q.seat
 
-  -- from one to the other, the pass has woken exactly those that it granted the monitor, in order; it may have looked
-  abbrev pub PassLooksAndWakesAsGranted : Pass O A R K → Pass O A R K → Type 0
-  PassLooksAndWakesAsGranted p q = LooksAndWakesAsGranted p.seat q.seat
+  -- from one to the other, the pass has woken exactly those that it granted the monitor, in order; it may have polled
+  abbrev pub PassPollsAndWakesAsGranted : Pass O A R K → Pass O A R K → Type 0
+  PassPollsAndWakesAsGranted p q = PollsAndWakesAsGranted p.seat q.seat
 
   -- the run of the monitor's mutex continues from what the pass knew to what it knows now
   abbrev pub PassRunGoesOnFrom : Pass O A R K → Pass O A R K → Type 0

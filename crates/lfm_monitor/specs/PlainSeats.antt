@@ -5,7 +5,7 @@ use lib.ListN.{get_elem?}
 use Rattle.lfm_mutex.specs.declared.pace.Pace.{Pace}
 use Rattle.lfm_mutex.specs.Belongs.{limits_of}
 use Rattle.lfm_mutex.specs.calls.Sight.{new_sight, sight}
-use Rattle.lfm_mutex.specs.calls.Woken.{LooksAndWakesAsGranted}
+use Rattle.lfm_mutex.specs.calls.Woken.{PollsAndWakesAsGranted}
 use Rattle.lfm_plain_condvar.specs.declared.condvar.PlainCondvar.{PlainCondvar}
 use Rattle.lfm_plain_condvar.specs.declared.plain_seat.PlainSeat.{PlainSeat}
 use Rattle.lfm_plain_condvar.specs.declared.waiters.Waiters.{Waiters}
@@ -38,7 +38,7 @@ OfPlainConditions seats conditions = Pairwise (λ (c : PlainSeat) (v : PlainCond
 
 -- from one to the other, the plain seat has woken exactly those that it granted the list of its condition, in order
 abbrev pub PlainWokenAsGranted : PlainSeat → PlainSeat → Type 0
-PlainWokenAsGranted c d = LooksAndWakesAsGranted c.seat d.seat
+PlainWokenAsGranted c d = PollsAndWakesAsGranted c.seat d.seat
 
 -- the same for each plain seat
 abbrev pub PlainSeatsWokenAsGranted : List PlainSeat → List PlainSeat → Type 0

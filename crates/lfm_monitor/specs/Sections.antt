@@ -5,7 +5,7 @@ use Rattle.lfm_model.specs.declared.answers.Locked.{Locked}
 use Rattle.lfm_model.specs.declared.refusals.Refusal.{Refusal}
 use Rattle.lfm_monitor.specs.declared.monitor.Monitor.{Monitor}
 use Rattle.lfm_monitor.specs.declared.pass.Pass.{Pass}
-use Rattle.lfm_monitor.specs.Belongs.{OfMonitor, PassLooksAndWakesAsGranted, PassRunGoesOnFrom, PassWokenAsGranted, SameCondSeats, mine_of, mutex_limits, pass_sight, seen_of, share_of, tries_in}
+use Rattle.lfm_monitor.specs.Belongs.{OfMonitor, PassPollsAndWakesAsGranted, PassRunGoesOnFrom, PassWokenAsGranted, SameCondSeats, mine_of, mutex_limits, pass_sight, seen_of, share_of, tries_in}
 use Rattle.lfm_monitor.specs.Passes.{EnterEnds, EnterRefused, journal_of}
 use Rattle.lfm_monitor.specs.Steps.{ByBarging, ByUnlocks}
 
@@ -43,7 +43,7 @@ module _ {O A R U : Type 0} {K : _} (m : Monitor O A R K) (makes : Pass O A R K 
     pub enters : EnterEnds (share_of m) (pass_sight p) (pass_sight entered) (mine_of p) (mine_of entered) (Ok locked)
     pub steps : ByBarging (mutex_limits m) (tries_in m) (pass_sight p) (pass_sight entered) (Ok locked)
     pub keeps : (seen_of entered ≡ seen_of p) × SameCondSeats p entered
-    pub woken : PassLooksAndWakesAsGranted p entered
+    pub woken : PassPollsAndWakesAsGranted p entered
     pub run : PassRunGoesOnFrom p entered
     pub belong : OfMonitor entered m × OfMonitor executed m
     pub executes : makes entered executed r
@@ -53,4 +53,4 @@ module _ {O A R U : Type 0} {K : _} (m : Monitor O A R K) (makes : Pass O A R K 
   -- how `hold` ends: with what the section returned, or refused as `enter` is, with nothing changed
   abbrev pub HoldEnds : Pass O A R K → Pass O A R K → Result U Refusal → Type 0
   HoldEnds p q (Ok x) = Holds p q (Ok x)
-  HoldEnds p q (Err r) = Holds p q (Err r) ⊎ (EnterRefused (share_of m) (pass_sight p) (mine_of p) r × SamePass p q × PassLooksAndWakesAsGranted p q × PassRunGoesOnFrom p q)
+  HoldEnds p q (Err r) = Holds p q (Err r) ⊎ (EnterRefused (share_of m) (pass_sight p) (mine_of p) r × SamePass p q × PassPollsAndWakesAsGranted p q × PassRunGoesOnFrom p q)

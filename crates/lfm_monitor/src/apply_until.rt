@@ -1,7 +1,7 @@
 //! `apply_until`: a pass that holds applies an op again and again, and waits on a condition in between.
 ghost use Rattle.std.specs.Prelude.{◌≡◌, IfOk, true};
 ghost use Rattle.std.specs.Fn.{FnReturnsAt};
-ghost use Rattle.lfm_monitor.specs.Belongs.{OfMonitor, PassLooksAndWakesAsGranted, PassRunGoesOnFrom, cond_seats_of, pass_sight, plain_seats_of};
+ghost use Rattle.lfm_monitor.specs.Belongs.{OfMonitor, PassPollsAndWakesAsGranted, PassRunGoesOnFrom, cond_seats_of, pass_sight, plain_seats_of};
 ghost use Rattle.lfm_monitor.specs.CondSeats.{CondsWokenAsGranted};
 ghost use Rattle.lfm_monitor.specs.PlainSeats.{PlainSeatsWokenAsGranted};
 ghost use Rattle.lfm_monitor.specs.Tries.{AppliedLast, ApplyUntilEnds};
@@ -45,7 +45,7 @@ impl<O: Object> Monitor<O> {
         ensures belongs { OfMonitor pass.new self.now }
         ensures number { (pass_sight pass.new).number ≡ (pass_sight pass.old).number }
         ensures run { PassRunGoesOnFrom pass.old pass.new }
-        ensures woken { PassLooksAndWakesAsGranted pass.old pass.new }
+        ensures woken { PassPollsAndWakesAsGranted pass.old pass.new }
         ensures cond_woken { CondsWokenAsGranted (cond_seats_of pass.old) (cond_seats_of pass.new) }
         ensures plain_woken { PlainSeatsWokenAsGranted (plain_seats_of pass.old) (plain_seats_of pass.new) }
         ensures done { IfOk result (λ r. FnReturnsAt F.Fn done r true) }

@@ -1,7 +1,7 @@
 //! `apply_until_for`: as `apply_until`, on a plain condition and with a time limit.
 ghost use Rattle.std.specs.Prelude.{◌≡◌, IfOk};
 ghost use Rattle.std.specs.Fn.{FnReturnsAt};
-ghost use Rattle.lfm_monitor.specs.Belongs.{OfMonitor, PassLooksAndWakesAsGranted, PassRunGoesOnFrom, cond_seats_of, pass_sight, plain_seats_of};
+ghost use Rattle.lfm_monitor.specs.Belongs.{OfMonitor, PassPollsAndWakesAsGranted, PassRunGoesOnFrom, cond_seats_of, pass_sight, plain_seats_of};
 ghost use Rattle.lfm_monitor.specs.PlainSeats.{PlainSeatsWokenAsGranted};
 ghost use Rattle.lfm_monitor.specs.TimedTries.{ApplyUntilForEnds, has_timed_out, is_accepted, reply_in};
 ghost use Rattle.lfm_monitor.specs.Tries.{AppliedLast};
@@ -56,7 +56,7 @@ impl<O: Object> Monitor<O> {
         ensures belongs { OfMonitor pass.new self.now }
         ensures number { (pass_sight pass.new).number ≡ (pass_sight pass.old).number }
         ensures run { PassRunGoesOnFrom pass.old pass.new }
-        ensures woken { PassLooksAndWakesAsGranted pass.old pass.new }
+        ensures woken { PassPollsAndWakesAsGranted pass.old pass.new }
         ensures plain_woken { PlainSeatsWokenAsGranted (plain_seats_of pass.old) (plain_seats_of pass.new) }
         ensures morphing { cond_seats_of pass.new ≡ cond_seats_of pass.old }
         ensures done { IfOk result (λ r. FnReturnsAt F.Fn done (reply_in r) (is_accepted r)) }

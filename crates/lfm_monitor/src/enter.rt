@@ -6,8 +6,8 @@ ghost use Rattle.lfm_mutex.specs.Belongs.{Beside, OfMutex};
 ghost use Rattle.lfm_mutex.specs.calls.RunGoesOn.{RunGoesOnFrom};
 ghost use Rattle.lfm_mutex.specs.calls.Sight.{LocksWaiting, sight};
 ghost use Rattle.lfm_mutex.specs.calls.Trails.{MakesAtMost};
-ghost use Rattle.lfm_mutex.specs.calls.Woken.{LooksAndWakesAsGranted};
-ghost use Rattle.lfm_monitor.specs.Belongs.{OfMonitor, PassLooksAndWakesAsGranted, PassRunGoesOnFrom, PassWokenAsGranted, SameCondSeats, mine_of, mutex_limits, pass_sight, seen_of, share_of, tries_in};
+ghost use Rattle.lfm_mutex.specs.calls.Woken.{PollsAndWakesAsGranted};
+ghost use Rattle.lfm_monitor.specs.Belongs.{OfMonitor, PassPollsAndWakesAsGranted, PassRunGoesOnFrom, PassWokenAsGranted, SameCondSeats, mine_of, mutex_limits, pass_sight, seen_of, share_of, tries_in};
 ghost use Rattle.lfm_monitor.specs.Journaled.{JournalFits, JournalFollows};
 ghost use Rattle.lfm_monitor.specs.Passes.{AskEnds, EnterEnds, ReceiveEnds, TryEnds};
 ghost use Rattle.lfm_monitor.specs.Steps.{ByLocking, ByLockingAs, BySteps};
@@ -41,7 +41,7 @@ impl<O: Object> Monitor<O> {
         ensures belongs { OfMonitor pass.new self.now }
         ensures number { (pass_sight pass.new).number ≡ (pass_sight pass.old).number }
         ensures run { PassRunGoesOnFrom pass.old pass.new }
-        ensures woken { PassLooksAndWakesAsGranted pass.old pass.new }
+        ensures woken { PassPollsAndWakesAsGranted pass.old pass.new }
         ensures enters { EnterEnds (share_of self.now) (pass_sight pass.old) (pass_sight pass.new) (mine_of pass.old) (mine_of pass.new) result }
         ensures seen { seen_of pass.new ≡ seen_of pass.old }
         ensures conditions { SameCondSeats pass.old pass.new }
@@ -148,7 +148,7 @@ impl<O: Object> Monitor<O> {
         ensures belongs { OfMonitor pass.new self.now }
         ensures number { (pass_sight pass.new).number ≡ (pass_sight pass.old).number }
         ensures run { PassRunGoesOnFrom pass.old pass.new }
-        ensures woken { PassLooksAndWakesAsGranted pass.old pass.new }
+        ensures woken { PassPollsAndWakesAsGranted pass.old pass.new }
         ensures enters { EnterEnds (share_of self.now) (pass_sight pass.old) (pass_sight pass.new) (mine_of pass.old) (mine_of pass.new) result }
         ensures seen { seen_of pass.new ≡ seen_of pass.old }
         ensures conditions { SameCondSeats pass.old pass.new }
@@ -178,7 +178,7 @@ impl<O: Object> Monitor<O> {
         requires belongs { OfMutex seat.old self.now.mutex }
         ensures belongs { Beside seat.old seat.new }
         ensures run { RunGoesOnFrom seat.old seat.new }
-        ensures woken { LooksAndWakesAsGranted seat.old seat.new }
+        ensures woken { PollsAndWakesAsGranted seat.old seat.new }
         ensures locks { LocksWaiting JournalFollows JournalFits (mutex_limits self.now).budget (sight seat.old) (sight seat.new) result }
         ensures steps { ByLockingAs (mutex_limits self.now) locking (tries_in self.now) (sight seat.old) (sight seat.new) result }
     {

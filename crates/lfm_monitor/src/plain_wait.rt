@@ -1,5 +1,5 @@
 //! How a pass waits on a plain condition.
-ghost use Rattle.lfm_monitor.specs.Belongs.{OfMonitor, PassLooksAndWakesAsGranted, PassRunGoesOnFrom, cond_seats_of, mine_of, pass_sight, plain_seats_of, seen_of};
+ghost use Rattle.lfm_monitor.specs.Belongs.{OfMonitor, PassPollsAndWakesAsGranted, PassRunGoesOnFrom, cond_seats_of, mine_of, pass_sight, plain_seats_of, seen_of};
 ghost use Rattle.lfm_monitor.specs.Conditions.{WaitReturns};
 ghost use Rattle.lfm_monitor.specs.PlainSeats.{PlainSeatsWokenAsGranted};
 ghost use Rattle.lfm_monitor.specs.Tries.{WaitsOnPlain};
@@ -23,7 +23,7 @@ impl<O: Object> Monitor<O> {
         ensures belongs { OfMonitor pass.new self.now }
         ensures number { (pass_sight pass.new).number ≡ (pass_sight pass.old).number }
         ensures run { PassRunGoesOnFrom pass.old pass.new }
-        ensures woken { PassLooksAndWakesAsGranted pass.old pass.new }
+        ensures woken { PassPollsAndWakesAsGranted pass.old pass.new }
         ensures plain_woken { PlainSeatsWokenAsGranted (plain_seats_of pass.old) (plain_seats_of pass.new) }
         ensures morphing { cond_seats_of pass.new ≡ cond_seats_of pass.old }
         ensures waits { WaitsOnPlain self.now condition pass.old pass.new result }

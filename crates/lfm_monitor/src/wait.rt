@@ -1,6 +1,6 @@
 //! How a pass waits on a condition: it leaves, sleeps until it is sent, and acquires the monitor again, which is written into
 //! the journal.
-ghost use Rattle.lfm_monitor.specs.Belongs.{OfMonitor, PassLooksAndWakesAsGranted, PassRunGoesOnFrom, cond_seats_of, mine_of, pass_sight, plain_conditions_of, plain_seats_of, seen_of};
+ghost use Rattle.lfm_monitor.specs.Belongs.{OfMonitor, PassPollsAndWakesAsGranted, PassRunGoesOnFrom, cond_seats_of, mine_of, pass_sight, plain_conditions_of, plain_seats_of, seen_of};
 ghost use Rattle.lfm_monitor.specs.CondSeats.{CondsWokenAsGranted};
 ghost use Rattle.lfm_monitor.specs.Conditions.{MayWait, WaitRefused, WaitReturns};
 ghost use Rattle.lfm_monitor.specs.PlainSeats.{PlainSeatsWokenAsGranted};
@@ -60,7 +60,7 @@ impl<O: Object> Monitor<O> {
         ensures belongs { OfMonitor pass.new self.now }
         ensures number { (pass_sight pass.new).number ≡ (pass_sight pass.old).number }
         ensures run { PassRunGoesOnFrom pass.old pass.new }
-        ensures woken { PassLooksAndWakesAsGranted pass.old pass.new }
+        ensures woken { PassPollsAndWakesAsGranted pass.old pass.new }
         ensures cond_woken { CondsWokenAsGranted (cond_seats_of pass.old) (cond_seats_of pass.new) }
         ensures plain_woken { PlainSeatsWokenAsGranted (plain_seats_of pass.old) (plain_seats_of pass.new) }
         ensures waits { plain_conditions_of self.now ≡ 0 → WaitsOn self.now condition pass.old pass.new result }
@@ -84,7 +84,7 @@ impl<O: Object> Monitor<O> {
         ensures belongs { OfMonitor pass.new self.now }
         ensures number { (pass_sight pass.new).number ≡ (pass_sight pass.old).number }
         ensures run { PassRunGoesOnFrom pass.old pass.new }
-        ensures woken { PassLooksAndWakesAsGranted pass.old pass.new }
+        ensures woken { PassPollsAndWakesAsGranted pass.old pass.new }
         ensures cond_woken { CondsWokenAsGranted (cond_seats_of pass.old) (cond_seats_of pass.new) }
         ensures plain { plain_seats_of pass.new ≡ plain_seats_of pass.old }
         ensures waits { WaitsOn self.now condition pass.old pass.new result }

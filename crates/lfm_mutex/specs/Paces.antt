@@ -3,4 +3,4 @@ use Rattle.lfm_mutex.specs.declared.pace.Pace.{Pace}
 
 -- 12 spins and 4 naps before a seat queues, and then 800 polls if at most 8 seats hold or wait
 abbrev pub usual_pace : Pace
-usual_pace = record { looks = 800; near = 8; spins = 12; naps = 4 }
+usual_pace = record { polls = 800; near = 8; spins = 12; naps = 4 }

@@ -7,7 +7,7 @@ ghost use Rattle.lfm_mutex.specs.Belongs.{Beside, OfMutex, limits_of, tries_of};
 ghost use Rattle.lfm_mutex.specs.calls.Barging.{BargesBy, FailedTry, GainsIf, MayTry, TriesBy, TriesFirst, TryHeld};
 ghost use Rattle.lfm_mutex.specs.calls.RunGoesOn.{RunGoesOnFrom};
 ghost use Rattle.lfm_mutex.specs.calls.Sight.{sight, LocksWaiting};
-ghost use Rattle.lfm_mutex.specs.calls.Woken.{LooksAndWakesAsGranted, LooksAndWakesNobody, WakesNobody};
+ghost use Rattle.lfm_mutex.specs.calls.Woken.{PollsAndWakesAsGranted, PollsAndWakesNobody, WakesNobody};
 
 use crate::mutex::Mutex;
 use crate::pace::pause_for;
@@ -60,7 +60,7 @@ impl<T: Kept> Mutex<T> {
     pub fn lock_barging<R: Wait>(&self, rt: &R, seat: &mut Seat<T>) -> Result<Locked, Refusal>
         requires belongs { OfMutex seat.old self.now }
         ensures belongs { Beside seat.old seat.new }
-        ensures woken { LooksAndWakesAsGranted seat.old seat.new }
+        ensures woken { PollsAndWakesAsGranted seat.old seat.new }
         ensures run { RunGoesOnFrom seat.old seat.new }
         ensures locks { LocksWaiting T.follows T.fits (limits_of self.now).budget (sight seat.old) (sight seat.new) result }
         ensures steps { BargesBy (limits_of self.now) (tries_of self.now) (sight seat.old) (sight seat.new) result }
@@ -101,7 +101,7 @@ impl<T: Kept> Mutex<T> {
         requires belongs { OfMutex seat.old self.now }
         requires free { MayTry (limits_of self.now).budget (sight seat.old) }
         ensures belongs { Beside seat.old seat.new }
-        ensures woken { LooksAndWakesAsGranted seat.old seat.new }
+        ensures woken { PollsAndWakesAsGranted seat.old seat.new }
         ensures run { RunGoesOnFrom seat.old seat.new }
         ensures locks { LocksWaiting T.follows T.fits (limits_of self.now).budget (sight seat.old) (sight seat.new) result }
         ensures steps { BargesBy (limits_of self.now) (self.now.pace.spins - 1 + self.now.pace.naps) (sight seat.old) (sight seat.new) result }
@@ -118,7 +118,7 @@ impl<T: Kept> Mutex<T> {
         requires belongs { OfMutex seat.old self.now }
         requires free { MayTry (limits_of self.now).budget (sight seat.old) }
         ensures belongs { Beside seat.old seat.new }
-        ensures woken { LooksAndWakesNobody seat.old seat.new }
+        ensures woken { PollsAndWakesNobody seat.old seat.new }
         ensures run { RunGoesOnFrom seat.old seat.new }
         ensures gains { GainsIf T.follows T.fits (limits_of self.now).budget (sight seat.old) (sight seat.new) result }
         ensures tries { TriesBy (limits_of self.now) (self.now.pace.spins - 1 + self.now.pace.naps) (sight seat.old) (sight seat.new) result }
@@ -137,14 +137,14 @@ impl<T: Kept> Mutex<T> {
         requires belongs { OfMutex seat.old self.now }
         requires free { MayTry (limits_of self.now).budget (sight seat.old) }
         ensures belongs { Beside seat.old seat.new }
-        ensures woken { LooksAndWakesNobody seat.old seat.new }
+        ensures woken { PollsAndWakesNobody seat.old seat.new }
         ensures run { RunGoesOnFrom seat.old seat.new }
         ensures gains { GainsIf T.follows T.fits (limits_of self.now).budget (sight seat.old) (sight seat.new) result }
         ensures tries { TriesBy (limits_of self.now) (self.now.pace.spins - 1) (sight seat.old) (sight seat.new) result }
     {
         'spins: for made in 1..self.pace.spins {
             pause_for(1 << (made - 1).min(MOST_DOUBLINGS));
-            let count = self.table.look_at_count(&mut seat.off_trail);
+            let count = self.table.poll_count(&mut seat.off_trail);
             match self.try_if_free(seat, count) {
                 Some(how) => return Some(how),
                 None => {}
@@ -164,14 +164,14 @@ impl<T: Kept> Mutex<T> {
         requires belongs { OfMutex seat.old self.now }
         requires free { MayTry (limits_of self.now).budget (sight seat.old) }
         ensures belongs { Beside seat.old seat.new }
-        ensures woken { LooksAndWakesNobody seat.old seat.new }
+        ensures woken { PollsAndWakesNobody seat.old seat.new }
         ensures run { RunGoesOnFrom seat.old seat.new }
         ensures gains { GainsIf T.follows T.fits (limits_of self.now).budget (sight seat.old) (sight seat.new) result }
         ensures tries { TriesBy (limits_of self.now) self.now.pace.naps (sight seat.old) (sight seat.new) result }
     {
         let wake = wake_at(seat.table_seat.limits.seats, seat.table_seat.number);
         'naps: for made in 0..self.pace.naps {
-            let found = self.table.look_at_count(&mut seat.off_trail);
+            let found = self.table.poll_count(&mut seat.off_trail);
             if self.pace.is_crowd(found) {
                 return None;
             }
@@ -211,7 +211,7 @@ impl<T: Kept> Mutex<T> {
     fn is_handed_over(&self, count: u64, off_trail: &mut OffTrail) -> bool
         ensures { off_trail.new.woken ≡ off_trail.old.woken }
     {
-        count == 1 && self.table.look_at_owner(off_trail) == 0
+        count == 1 && self.table.poll_owner(off_trail) == 0
     }
 
     /// The count after a sleep.
@@ -221,7 +221,7 @@ impl<T: Kept> Mutex<T> {
     {
         let nap = Duration::from_micros(NAP_MICROSECONDS);
         park_for(rt, &self.table, wake, nap);
-        self.table.look_at_count(off_trail)
+        self.table.poll_count(off_trail)
     }
 
     /// The count after a yield. The thread to which the mutex was handed over may be ready on this processor. A yield lets it
@@ -231,7 +231,7 @@ impl<T: Kept> Mutex<T> {
         ensures { off_trail.new.woken ≡ off_trail.old.woken }
     {
         yield_now();
-        self.table.look_at_count(off_trail)
+        self.table.poll_count(off_trail)
     }
 
     /// Makes one try if this count is 0, and none otherwise. Reading the count costs the holder less than a failed try. It

@@ -38,5 +38,5 @@ pub use holder::Holder;
 pub use lfm_table::{Kept, WakeUp};
 pub use lfm_threads::{NotStarted, StartFault};
 pub use mutex::Mutex;
-pub use pace::{LOOKS_BEFORE_SLEEP, Pace};
+pub use pace::{POLLS_BEFORE_SLEEP, Pace};
 pub use seat::Seat;

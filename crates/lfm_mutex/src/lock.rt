@@ -13,7 +13,7 @@ ghost use Rattle.lfm_mutex.specs.calls.Sight.{sight, Asks, LocksWaiting};
 ghost use Rattle.lfm_mutex.specs.calls.FastPath.{ComesTo, MayAcquire, MayDeepen};
 ghost use Rattle.lfm_mutex.specs.calls.Trails.{MakesCall, LocksBy};
 ghost use Rattle.lfm_mutex.specs.calls.WakeUps.{Wakes};
-ghost use Rattle.lfm_mutex.specs.calls.Woken.{LooksAndWakesAsGranted, WakesNobody, WokenAsGranted};
+ghost use Rattle.lfm_mutex.specs.calls.Woken.{PollsAndWakesAsGranted, WakesNobody, WokenAsGranted};
 ghost use Rattle.lfm_mutex.specs.calls.OpenCalls.{AtTableOf, WithinDue, FinishesAs};
 ghost use Rattle.lfm_mutex.specs.calls.Acts.{ActsOwing};
 
@@ -99,7 +99,7 @@ impl<T: Kept> Mutex<T> {
     pub fn lock<R: Wait>(&self, rt: &R, seat: &mut Seat<T>) -> Result<Locked, Refusal>
         requires belongs { OfMutex seat.old self.now }
         ensures belongs { Beside seat.old seat.new }
-        ensures woken { LooksAndWakesAsGranted seat.old seat.new }
+        ensures woken { PollsAndWakesAsGranted seat.old seat.new }
         ensures run { RunGoesOnFrom seat.old seat.new }
         ensures locks { LocksWaiting T.follows T.fits (limits_of self.now).budget (sight seat.old) (sight seat.new) result }
         ensures steps { LocksBy (limits_of self.now) (sight seat.old) (sight seat.new) result }

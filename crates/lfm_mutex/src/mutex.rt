@@ -40,26 +40,26 @@ impl<T: Kept> Mutex<T> {
     ghost use Rattle.lfm_mutex.specs.Belongs.{Beside, OfMutex};
     ghost use Rattle.lfm_mutex.specs.calls.RunGoesOn.{RunGoesOnFrom};
     ghost use Rattle.lfm_mutex.specs.calls.Sight.{sight};
-    ghost use Rattle.lfm_mutex.specs.calls.Woken.{LooksOnce};
+    ghost use Rattle.lfm_mutex.specs.calls.Woken.{PollsOnce};
 
     /// How many seats hold the mutex or want it, by one read of the count word. A queued seat is counted; a seat that spins,
     /// naps or waits for a send is not. The holder is counted twice while its `lock` adds a hold. The number is a hint, since
     /// it may change at once. The read is no atomic step of the protocol.
     pub fn count(&self) -> u64 {
         let mut off_trail = OffTrail::new();
-        self.table.look_at_count(&mut off_trail)
+        self.table.poll_count(&mut off_trail)
     }
 
-    /// `count`, for a call that is made with this seat. The look is added to those that calls with this seat have made.
+    /// `count`, for a call that is made with this seat. The read is added to the polls that calls with this seat have made.
     #[inline(always)]
     pub fn count_from(&self, seat: &mut Seat<T>) -> u64
         requires belongs { OfMutex seat.old self.now }
         ensures belongs { Beside seat.old seat.new }
         ensures same { sight seat.new ≡ sight seat.old }
         ensures run { RunGoesOnFrom seat.old seat.new }
-        ensures woken { LooksOnce seat.old seat.new }
+        ensures woken { PollsOnce seat.old seat.new }
     {
-        self.table.look_at_count(&mut seat.off_trail)
+        self.table.poll_count(&mut seat.off_trail)
     }
 
     /// How a seat waits for this mutex.

@@ -2,7 +2,7 @@
 //! since it was loaded, and no handoff is posted. Everything else is the slow path (`calls::finish`).
 ghost use Rattle.std.specs.Prelude.{◌≡◌};
 ghost use Rattle.lfm_protocol.specs.declared.points.Point.TheVariants.{PushLoad};
-ghost use Rattle.lfm_table.specs.FastPath.{KeepsNumberAndLimits, SeatFits};
+ghost use Rattle.lfm_table.specs.FastPath.{IsBetweenSteps, KeepsNumberAndLimits};
 ghost use Rattle.lfm_mutex.specs.calls.Pushes.{PushLeadsTo, push_end};
 
 use crate::stops::PushStop;
@@ -30,11 +30,11 @@ pub(crate) fn push<T: Kept>(
     pusher: Pusher,
 ) -> Pushed
     requires belongs { seat.old.place.table_id ≡ table.now.table_id }
-    requires fit { SeatFits seat.old state.now }
+    requires fit { IsBetweenSteps seat.old state.now }
     requires stands { state.now.point ≡ PushLoad pusher }
     ensures belongs { seat.new.place.table_id ≡ seat.old.place.table_id }
     ensures same { KeepsNumberAndLimits seat.old seat.new }
-    ensures fit { SeatFits seat.new (push_end result state.now pusher).seat }
+    ensures fit { IsBetweenSteps seat.new (push_end result state.now pusher).seat }
     ensures made { PushLeadsTo T.follows T.fits seat.old state.now (push_end result state.now pusher) seat.new }
 {
     let mut at = SeatState {

@@ -10,7 +10,7 @@ ghost use Rattle.lfm_mutex.specs.calls.RunGoesOn.{RunGoesOnFrom};
 ghost use Rattle.lfm_mutex.specs.calls.Sight.{sight, ReceivesLock, Receives};
 ghost use Rattle.lfm_mutex.specs.calls.FastPath.{ComesTo};
 ghost use Rattle.lfm_mutex.specs.calls.Trails.{ReceivesBy, MakesAtMost, MakesCall};
-ghost use Rattle.lfm_mutex.specs.calls.Woken.{LooksAndWakesAsGranted, WakesNobody, WokenAsGranted};
+ghost use Rattle.lfm_mutex.specs.calls.Woken.{PollsAndWakesAsGranted, WakesNobody, WokenAsGranted};
 ghost use Rattle.lfm_mutex.specs.calls.Acts.{ActsWakingNobody};
 
 use crate::calls::begin_and_finish;
@@ -36,13 +36,13 @@ impl<T: Kept> Mutex<T> {
     pub fn receive_lock<R: Wait>(&self, rt: &R, seat: &mut Seat<T>) -> Result<How, Refusal>
         requires belongs { OfMutex seat.old self.now }
         ensures belongs { Beside seat.old seat.new }
-        ensures woken { LooksAndWakesAsGranted seat.old seat.new }
+        ensures woken { PollsAndWakesAsGranted seat.old seat.new }
         ensures run { RunGoesOnFrom seat.old seat.new }
         ensures receives { ReceivesLock T.follows T.fits (sight seat.old) (sight seat.new) result }
         ensures steps { ReceivesBy (limits_of self.now) (sight seat.old) (sight seat.new) result }
     {
-        let count = self.table.look_at_count(&mut seat.off_trail);
-        self.receive_lock_within(rt, seat, self.pace.looks_at(count))
+        let count = self.table.poll_count(&mut seat.off_trail);
+        self.receive_lock_within(rt, seat, self.pace.polls_at(count))
     }
 
     /// `receive_lock` with this number of polls before it sleeps. With 0 it sleeps after its first receive, which suits a seat
@@ -52,17 +52,17 @@ impl<T: Kept> Mutex<T> {
         &self,
         rt: &R,
         seat: &mut Seat<T>,
-        looks: u32,
+        polls: u32,
     ) -> Result<How, Refusal>
         requires belongs { OfMutex seat.old self.now }
         ensures belongs { Beside seat.old seat.new }
-        ensures woken { LooksAndWakesAsGranted seat.old seat.new }
+        ensures woken { PollsAndWakesAsGranted seat.old seat.new }
         ensures run { RunGoesOnFrom seat.old seat.new }
         ensures receives { ReceivesLock T.follows T.fits (sight seat.old) (sight seat.new) result }
         ensures steps { ReceivesBy (limits_of self.now) (sight seat.old) (sight seat.new) result }
     {
         let wake = wake_at(seat.table_seat.limits.seats, seat.table_seat.number);
-        let mut left = looks;
+        let mut left = polls;
         for _ in rt.forever() {
             match self.try_receive(seat) {
                 Ok(Some(how)) => return Ok(how),
@@ -74,17 +74,17 @@ impl<T: Kept> Mutex<T> {
         unreachable!()
     }
 
-    /// Waits for a grant in the wake word: polls at most `looks` times, and parks if no poll finds a grant. Returns how many
+    /// Waits for a grant in the wake word: polls at most `polls` times, and parks if no poll finds a grant. Returns how many
     /// polls are left. A poll is a load, but no step of the seat. The pauses between polls leave the cache line of the word to
     /// the seat that grants.
-    fn await_grant<R: Wait>(&self, rt: &R, wake: usize, looks: u32, off_trail: &mut OffTrail) -> u32
+    fn await_grant<R: Wait>(&self, rt: &R, wake: usize, polls: u32, off_trail: &mut OffTrail) -> u32
         requires { wake < self.now.table.table_id.words }
         ensures { off_trail.new.woken ≡ off_trail.old.woken }
     {
-        for made in 0..looks {
+        for made in 0..polls {
             pause();
-            if Wake::is_grant_word(self.table.look_at_wake(wake, off_trail)) {
-                return looks - made - 1;
+            if Wake::is_grant_word(self.table.poll_wake(wake, off_trail)) {
+                return polls - made - 1;
             }
         }
         park(rt, &self.table, wake);

@@ -35,7 +35,7 @@ pub struct Seat<T: Drop> {
     pub(crate) table_seat: TableSeat<T>,
     /// The state of the seat. A fast path writes only the fields that a call changes.
     pub(crate) state: SeatState,
-    /// The seats that calls with this one have woken, and how often they looked.
+    /// The seats that calls with this one have woken, and how often they polled.
     pub(crate) off_trail: OffTrail,
     pub ghost seated: { Seated table_seat.number table_seat.limits state table_seat.place.me table_seat.moving },
     pub ghost became: { Became table_seat.place.me.0.state table_seat.limits state } by { Became-prop (Coded-set state-code) table_seat.place.me.0.state table_seat.limits state },

@@ -6,7 +6,7 @@ ghost use Rattle.lfm_mutex.specs.calls.RunGoesOn.{RunGoesOnFrom};
 ghost use Rattle.lfm_mutex.specs.calls.Sections.{SectionEnds, SectionKeeps, StandsAs, Changes, BargesFrom, TriesFrom};
 ghost use Rattle.lfm_mutex.specs.calls.Sight.{sight};
 ghost use Rattle.lfm_mutex.specs.calls.Trails.{MakesAtMost};
-ghost use Rattle.lfm_mutex.specs.calls.Woken.{LooksAndWakesAsGranted, WakesNobody, WokenAsGranted};
+ghost use Rattle.lfm_mutex.specs.calls.Woken.{PollsAndWakesAsGranted, WakesNobody, WokenAsGranted};
 ghost use Rattle.lfm_mutex.specs.calls.Acts.{ActsWakingNobody};
 
 use crate::mutex::Mutex;
@@ -40,7 +40,7 @@ impl<T: Kept> Mutex<T> {
         requires callable { F.IsAlwaysCallable f }
         requires keeps { SectionKeeps T.follows T.fits (limits_of self.now) (BargesFrom T.follows T.fits self.now seat.old) (FnOnceReturnsAtMut F.FnOnce f) }
         ensures belongs { Beside seat.old seat.new }
-        ensures woken { LooksAndWakesAsGranted seat.old seat.new }
+        ensures woken { PollsAndWakesAsGranted seat.old seat.new }
         ensures run { RunGoesOnFrom seat.old seat.new }
         ensures section { SectionEnds T.follows T.fits (limits_of self.now) (BargesFrom T.follows T.fits self.now seat.old) (FnOnceReturnsAtMut F.FnOnce f) (sight seat.new) result }
         ensures same { StandsAs (sight seat.old) (sight seat.new) }

@@ -26,7 +26,7 @@ use lfm_model::{Refusal, SeatNo};
 use lfm_protocol::points::{Point, Pusher};
 use lfm_protocol::{Answer, Call, SeatState, Turn, Why};
 use lfm_table::operations::{CountAdd, WakeExchange};
-use lfm_table::steps::{gain, grant, keep, keep_held};
+use lfm_table::steps::{gain, keep, keep_held, store_grant};
 use lfm_table::{Kept, WakeUp};
 use lfm_words::Wake;
 
@@ -139,7 +139,7 @@ fn send_without_hold<T: Kept>(
         return queue_target(mutex, seat, target);
     }
     state.point = Point::SendWakeStore(target);
-    let wake_up = grant(table, &mut seat.table_seat, &state);
+    let wake_up = store_grant(table, &mut seat.table_seat, &state);
     seat.state.point = Point::Rest;
     (Ok(()), wake_up)
 }

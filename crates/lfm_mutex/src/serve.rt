@@ -17,9 +17,9 @@ use lfm_protocol::points::{Carrier, Point, Releaser, Sleeper};
 use lfm_protocol::{Answer, SeatState, Turn};
 use lfm_table::moving_box::MovingBox;
 use lfm_table::operations::{ClearHead, WakeStore};
-use lfm_table::steps::{collect, keep, keep_held};
+use lfm_table::steps::{collect, keep, keep_held, store_grant};
 use lfm_table::transition::oldest_of;
-use lfm_table::{Kept, WakeUp, steps};
+use lfm_table::{Kept, WakeUp};
 use lfm_words::{Record, unpack_link};
 
 /// The slow path of an open release whose seat has given up the owner word, from the seat's point to the end of the call.
@@ -82,7 +82,7 @@ fn grant<T: Kept>(
         point: Point::GrantWakeStore(Carrier::Releaser(releaser), Record { seat: next, stamp }),
         ..seat.state
     };
-    let wake_up = steps::grant(table, &mut seat.table_seat, &state);
+    let wake_up = store_grant(table, &mut seat.table_seat, &state);
     match releaser {
         Releaser::Unlocker => {
             seat.state.point = Point::Rest;

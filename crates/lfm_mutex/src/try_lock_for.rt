@@ -5,7 +5,7 @@ ghost use Rattle.lfm_mutex.specs.calls.Barging.{GainsIf, MayTry, TriesBy};
 ghost use Rattle.lfm_mutex.specs.calls.RunGoesOn.{RunGoesOnFrom};
 ghost use Rattle.lfm_mutex.specs.calls.Sight.{sight};
 ghost use Rattle.lfm_mutex.specs.calls.TimedTries.{LocksInTime};
-ghost use Rattle.lfm_mutex.specs.calls.Woken.{LooksAndWakesAsGranted, LooksAndWakesNobody};
+ghost use Rattle.lfm_mutex.specs.calls.Woken.{PollsAndWakesAsGranted, PollsAndWakesNobody};
 
 use crate::deadlines::{Deadline, deadline_after, time_left};
 use crate::mutex::Mutex;
@@ -42,7 +42,7 @@ impl<T: Kept> Mutex<T> {
     ) -> Result<Locked, Refusal>
         requires belongs { OfMutex seat.old self.now }
         ensures belongs { Beside seat.old seat.new }
-        ensures woken { LooksAndWakesAsGranted seat.old seat.new }
+        ensures woken { PollsAndWakesAsGranted seat.old seat.new }
         ensures run { RunGoesOnFrom seat.old seat.new }
         ensures locks { LocksInTime T.follows T.fits (limits_of self.now) (sight seat.old) (sight seat.new) result }
     {
@@ -66,7 +66,7 @@ impl<T: Kept> Mutex<T> {
         requires belongs { OfMutex seat.old self.now }
         requires free { MayTry (limits_of self.now).budget (sight seat.old) }
         ensures belongs { Beside seat.old seat.new }
-        ensures woken { LooksAndWakesNobody seat.old seat.new }
+        ensures woken { PollsAndWakesNobody seat.old seat.new }
         ensures run { RunGoesOnFrom seat.old seat.new }
         ensures gains { GainsIf T.follows T.fits (limits_of self.now).budget (sight seat.old) (sight seat.new) result }
         ensures tries { (n : ℕ) × TriesBy (limits_of self.now) n (sight seat.old) (sight seat.new) result }
@@ -79,7 +79,7 @@ impl<T: Kept> Mutex<T> {
             };
             park_for(rt, &self.table, wake, Duration::from_micros(nap).min(left));
             nap = nap.saturating_mul(2).min(LONGEST_NAP);
-            let count = self.table.look_at_count(&mut seat.off_trail);
+            let count = self.table.poll_count(&mut seat.off_trail);
             match self.try_if_free(seat, count) {
                 Some(how) => return Some(how),
                 None => {}

@@ -3,7 +3,7 @@
 ghost use Rattle.std.specs.Prelude.{◌≡◌, ◌<◌, false};
 ghost use Rattle.lfm_mutex.specs.Belongs.{Beside, OfMutex, limits_of, tries_of};
 ghost use Rattle.lfm_mutex.specs.calls.Sight.{sight, LeavesOff, MayLeave};
-ghost use Rattle.lfm_mutex.specs.calls.Woken.{LooksAndWakesAsGranted, WokenAsGranted};
+ghost use Rattle.lfm_mutex.specs.calls.Woken.{PollsAndWakesAsGranted, WokenAsGranted};
 ghost use Rattle.lfm_plain_condvar.specs.Belongs.{parkers_of, seats_of};
 ghost use Rattle.lfm_plain_condvar.specs.Holds.{InHand, LocksList, SeatKept, Unlocks};
 ghost use Rattle.lfm_plain_condvar.specs.Keeping.{WaitersFollow};
@@ -44,7 +44,7 @@ impl PlainCondvar {
         requires kept { SeatKept (parkers_of self.now) (seats_of self.now) (sight cond.old) }
         requires spare { (sight cond.old).takes < (limits_of self.now.inner).budget }
         ensures belongs { Beside cond.old cond.new }
-        ensures woken { LooksAndWakesAsGranted cond.old cond.new }
+        ensures woken { PollsAndWakesAsGranted cond.old cond.new }
         ensures held { (v : _) × InHand (parkers_of self.now) (seats_of self.now) (limits_of self.now.inner).budget (sight cond.old) (sight cond.new) v v }
         ensures steps { LocksList (limits_of self.now.inner) (tries_of self.now.inner) (sight cond.old) (sight cond.new) }
     {

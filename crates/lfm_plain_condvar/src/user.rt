@@ -3,7 +3,7 @@ ghost use Rattle.std.specs.Prelude.{◌≡◌, ◌<◌, false, MatchOption};
 ghost use Rattle.lfm_mutex.specs.Belongs.{Beside, OfMutex, budget_of, limits_of, tries_of};
 ghost use Rattle.lfm_mutex.specs.calls.RunGoesOn.{RunGoesOnFrom};
 ghost use Rattle.lfm_mutex.specs.calls.Sight.{sight, LeavesOff, MayLeave, WaitRefused};
-ghost use Rattle.lfm_mutex.specs.calls.Woken.{LooksAndWakesAsGranted, WokenAsGranted};
+ghost use Rattle.lfm_mutex.specs.calls.Woken.{PollsAndWakesAsGranted, WokenAsGranted};
 ghost use Rattle.lfm_plain_condvar.specs.Holds.{Unlocks};
 ghost use Rattle.lfm_plain_condvar.specs.Waits.{ComesBackAs, MayWait};
 
@@ -54,7 +54,7 @@ pub(crate) fn come_back<T: Kept, R: Wait>(rt: &R, mutex: &Mutex<T>, seat: &mut S
     requires free { ((sight seat.old).depth ≡ 0) × ((sight seat.old).asleep ≡ false) × ((sight seat.old).takes < (limits_of mutex.now).budget) }
     ensures belongs { Beside seat.old seat.new }
     ensures run { RunGoesOnFrom seat.old seat.new }
-    ensures woken { LooksAndWakesAsGranted seat.old seat.new }
+    ensures woken { PollsAndWakesAsGranted seat.old seat.new }
     ensures back { ComesBackAs T.follows T.fits (limits_of mutex.now) (tries_of mutex.now) result (sight seat.old) (sight seat.new) }
 {
     match mutex.lock_barging(rt, seat) {

@@ -4,7 +4,7 @@ ghost use Rattle.std.specs.Prelude.{◌≡◌, ◌+◌, ◌<◌};
 ghost use Rattle.lfm_mutex.specs.Belongs.{Beside, OfMutex, limits_of, tries_of};
 ghost use Rattle.lfm_mutex.specs.calls.RunGoesOn.{RunGoesOnFrom};
 ghost use Rattle.lfm_mutex.specs.calls.Sight.{sight, MayRelease};
-ghost use Rattle.lfm_mutex.specs.calls.Woken.{LooksAndWakesAsGranted};
+ghost use Rattle.lfm_mutex.specs.calls.Woken.{PollsAndWakesAsGranted};
 ghost use Rattle.lfm_plain_condvar.specs.Belongs.{NotifiesNobody, OfPlain, WaitsAt};
 ghost use Rattle.lfm_plain_condvar.specs.Waits.{Enlists, WaitEnds, WaitWithHowEnds};
 
@@ -21,7 +21,7 @@ use std::sync::Wait;
 /// How many times a seat polls at most before it sleeps. A seat that waits alone may be woken soon, as when two threads take
 /// turns. Its polls then cost less than a sleep and a wake-up. If others wait ahead of it, it sleeps at once.
 pub(crate) fn polls_behind(pace: Pace, ahead: usize) -> u32
-    ensures alone { ahead ≡ 0 → result ≡ pace.looks }
+    ensures alone { ahead ≡ 0 → result ≡ pace.polls }
     ensures behind { 0 < ahead → result ≡ 0 }
 {
     if ahead == 0 { pace.looks() } else { 0 }
@@ -39,7 +39,7 @@ impl PlainCondvar {
         requires belongs { OfPlain cond.old self.now }
         requires holder { (sight holder.now).depth ≡ 1 }
         requires spare { (sight cond.old.seat).takes < (limits_of self.now.inner).budget }
-        ensures cond_woken { LooksAndWakesAsGranted cond.old.seat cond.new.seat }
+        ensures cond_woken { PollsAndWakesAsGranted cond.old.seat cond.new.seat }
         ensures waits { WaitsAt cond.new self.now × NotifiesNobody cond.old cond.new }
         ensures takes { (sight cond.new.seat).takes ≡ (sight cond.old.seat).takes + 1 }
         ensures enlists { Enlists (limits_of self.now.inner) (tries_of self.now.inner) (sight cond.old.seat) (sight cond.new.seat) (OfPlain cond.new self.now) result }
@@ -97,8 +97,8 @@ impl PlainCondvar {
         requires leaves { MayRelease T.follows T.fits (sight seat.old) }
         ensures belongs { OfPlain cond.new self.now × Beside seat.old seat.new }
         ensures run { RunGoesOnFrom seat.old seat.new }
-        ensures cond_woken { LooksAndWakesAsGranted cond.old.seat cond.new.seat }
-        ensures woken { LooksAndWakesAsGranted seat.old seat.new }
+        ensures cond_woken { PollsAndWakesAsGranted cond.old.seat cond.new.seat }
+        ensures woken { PollsAndWakesAsGranted seat.old seat.new }
         ensures notifies { NotifiesNobody cond.old cond.new }
         ensures waits { WaitEnds T.follows T.fits (limits_of mutex.now) (limits_of self.now.inner) (tries_of self.now.inner) (tries_of mutex.now) (sight cond.old.seat) (sight cond.new.seat) (sight seat.old) (sight seat.new) result }
     {
@@ -120,8 +120,8 @@ impl PlainCondvar {
         requires leaves { MayRelease T.follows T.fits (sight seat.old) }
         ensures belongs { OfPlain cond.new self.now × Beside seat.old seat.new }
         ensures run { RunGoesOnFrom seat.old seat.new }
-        ensures cond_woken { LooksAndWakesAsGranted cond.old.seat cond.new.seat }
-        ensures woken { LooksAndWakesAsGranted seat.old seat.new }
+        ensures cond_woken { PollsAndWakesAsGranted cond.old.seat cond.new.seat }
+        ensures woken { PollsAndWakesAsGranted seat.old seat.new }
         ensures notifies { NotifiesNobody cond.old cond.new }
         ensures waits { WaitWithHowEnds T.follows T.fits (limits_of mutex.now) (limits_of self.now.inner) (tries_of self.now.inner) (tries_of mutex.now) (sight cond.old.seat) (sight cond.new.seat) (sight seat.old) (sight seat.new) result }
     {

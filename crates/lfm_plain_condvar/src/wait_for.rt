@@ -5,7 +5,7 @@ ghost use Rattle.std.specs.Prelude.{◌≡◌, ◌<◌, IfSome, MatchBool, Match
 ghost use Rattle.lfm_mutex.specs.Belongs.{Beside, OfMutex, limits_of, tries_of};
 ghost use Rattle.lfm_mutex.specs.calls.RunGoesOn.{RunGoesOnFrom};
 ghost use Rattle.lfm_mutex.specs.calls.Sight.{sight, MayRelease};
-ghost use Rattle.lfm_mutex.specs.calls.Woken.{LooksAndWakesAsGranted};
+ghost use Rattle.lfm_mutex.specs.calls.Woken.{PollsAndWakesAsGranted};
 ghost use Rattle.lfm_plain_condvar.specs.Belongs.{NotifiesNobody, OfPlain, WaitsAt};
 ghost use Rattle.lfm_plain_condvar.specs.Waits.{LeftList, NoLonger, SleepEnds, WaitForEnds, WaitWithinEnds, waited_of};
 
@@ -71,7 +71,7 @@ impl PlainCondvar {
     fn leave<R: Wait>(&self, rt: &R, cond: &mut PlainSeat, ticket: u64) -> bool
         requires waits { WaitsAt cond.old self.now }
         requires spare { (sight cond.old.seat).takes < (limits_of self.now.inner).budget }
-        ensures cond_woken { LooksAndWakesAsGranted cond.old.seat cond.new.seat }
+        ensures cond_woken { PollsAndWakesAsGranted cond.old.seat cond.new.seat }
         ensures belongs { MatchBool result (OfPlain cond.new self.now) (WaitsAt cond.new self.now) }
         ensures notifies { NotifiesNobody cond.old cond.new }
         ensures leaves { MatchBool result (LeftList (limits_of self.now.inner) (tries_of self.now.inner) (sight cond.old.seat) (sight cond.new.seat) ticket) (NoLonger (limits_of self.now.inner) (tries_of self.now.inner) (sight cond.old.seat) (sight cond.new.seat) ticket) }
@@ -101,7 +101,7 @@ impl PlainCondvar {
         requires own { wait.listed.number ≡ (sight cond.old.seat).number }
         requires over { _over.deadline ≡ wait.deadline }
         requires spare { (sight cond.old.seat).takes < (limits_of self.now.inner).budget }
-        ensures cond_woken { LooksAndWakesAsGranted cond.old.seat cond.new.seat }
+        ensures cond_woken { PollsAndWakesAsGranted cond.old.seat cond.new.seat }
         ensures belongs { OfPlain cond.new self.now × NotifiesNobody cond.old cond.new }
         ensures ends { SleepEnds (limits_of self.now.inner) (tries_of self.now.inner) (sight cond.old.seat) (sight cond.new.seat) wait.entry.listed.enlisted.ticket result }
     {
@@ -124,7 +124,7 @@ impl PlainCondvar {
         requires waits { WaitsAt cond.old self.now }
         requires own { wait.listed.number ≡ (sight cond.old.seat).number }
         requires spare { (sight cond.old.seat).takes < (limits_of self.now.inner).budget }
-        ensures cond_woken { LooksAndWakesAsGranted cond.old.seat cond.new.seat }
+        ensures cond_woken { PollsAndWakesAsGranted cond.old.seat cond.new.seat }
         ensures belongs { OfPlain cond.new self.now × NotifiesNobody cond.old cond.new }
         ensures ends { SleepEnds (limits_of self.now.inner) (tries_of self.now.inner) (sight cond.old.seat) (sight cond.new.seat) wait.entry.listed.enlisted.ticket result }
     {
@@ -147,8 +147,8 @@ impl PlainCondvar {
         requires leaves { MayRelease T.follows T.fits (sight seat.old) }
         ensures belongs { OfPlain cond.new self.now × Beside seat.old seat.new }
         ensures run { RunGoesOnFrom seat.old seat.new }
-        ensures cond_woken { LooksAndWakesAsGranted cond.old.seat cond.new.seat }
-        ensures woken { LooksAndWakesAsGranted seat.old seat.new }
+        ensures cond_woken { PollsAndWakesAsGranted cond.old.seat cond.new.seat }
+        ensures woken { PollsAndWakesAsGranted seat.old seat.new }
         ensures notifies { NotifiesNobody cond.old cond.new }
         ensures waits { WaitWithinEnds T.follows T.fits (limits_of mutex.now) (limits_of self.now.inner) (tries_of self.now.inner) (tries_of mutex.now) (sight cond.old.seat) (sight cond.new.seat) (sight seat.old) (sight seat.new) result }
     {
@@ -192,8 +192,8 @@ impl PlainCondvar {
         requires leaves { MayRelease T.follows T.fits (sight seat.old) }
         ensures belongs { OfPlain cond.new self.now × Beside seat.old seat.new }
         ensures run { RunGoesOnFrom seat.old seat.new }
-        ensures cond_woken { LooksAndWakesAsGranted cond.old.seat cond.new.seat }
-        ensures woken { LooksAndWakesAsGranted seat.old seat.new }
+        ensures cond_woken { PollsAndWakesAsGranted cond.old.seat cond.new.seat }
+        ensures woken { PollsAndWakesAsGranted seat.old seat.new }
         ensures notifies { NotifiesNobody cond.old cond.new }
         ensures waits { WaitForEnds T.follows T.fits (limits_of mutex.now) (limits_of self.now.inner) (tries_of self.now.inner) (tries_of mutex.now) (sight cond.old.seat) (sight cond.new.seat) (sight seat.old) (sight seat.new) result }
     {
@@ -213,8 +213,8 @@ impl PlainCondvar {
         requires leaves { MayRelease T.follows T.fits (sight seat.old) }
         ensures belongs { OfPlain cond.new self.now × Beside seat.old seat.new }
         ensures run { RunGoesOnFrom seat.old seat.new }
-        ensures cond_woken { LooksAndWakesAsGranted cond.old.seat cond.new.seat }
-        ensures woken { LooksAndWakesAsGranted seat.old seat.new }
+        ensures cond_woken { PollsAndWakesAsGranted cond.old.seat cond.new.seat }
+        ensures woken { PollsAndWakesAsGranted seat.old seat.new }
         ensures notifies { NotifiesNobody cond.old cond.new }
         ensures waits { WaitForEnds T.follows T.fits (limits_of mutex.now) (limits_of self.now.inner) (tries_of self.now.inner) (tries_of mutex.now) (sight cond.old.seat) (sight cond.new.seat) (sight seat.old) (sight seat.new) result }
     {

@@ -5,7 +5,7 @@ ghost use Rattle.lfm_mutex.specs.Conditions.{FoundMayBeLeft};
 ghost use Rattle.lfm_mutex.specs.Belongs.{Beside, OfMutex, limits_of, tries_of};
 ghost use Rattle.lfm_mutex.specs.calls.RunGoesOn.{RunGoesOnFrom};
 ghost use Rattle.lfm_mutex.specs.calls.Sight.{sight, MayRelease};
-ghost use Rattle.lfm_mutex.specs.calls.Woken.{LooksAndWakesAsGranted};
+ghost use Rattle.lfm_mutex.specs.calls.Woken.{PollsAndWakesAsGranted};
 ghost use Rattle.lfm_plain_condvar.specs.Belongs.{NotifiesNobody, OfPlain};
 ghost use Rattle.lfm_plain_condvar.specs.Repeated.{WaitWhileEnds};
 
@@ -37,8 +37,8 @@ impl PlainCondvar {
         requires callable { F.IsAlwaysCallable condition }
         ensures belongs { OfPlain cond.new self.now × Beside seat.old seat.new }
         ensures run { RunGoesOnFrom seat.old seat.new }
-        ensures cond_woken { LooksAndWakesAsGranted cond.old.seat cond.new.seat }
-        ensures woken { LooksAndWakesAsGranted seat.old seat.new }
+        ensures cond_woken { PollsAndWakesAsGranted cond.old.seat cond.new.seat }
+        ensures woken { PollsAndWakesAsGranted seat.old seat.new }
         ensures notifies { NotifiesNobody cond.old cond.new }
         ensures depth { (sight seat.new).depth ≡ (sight seat.old).depth }
         ensures waits { WaitWhileEnds T.follows T.fits (limits_of mutex.now) (limits_of self.now.inner) (tries_of self.now.inner) (tries_of mutex.now) (λ v b. FnReturnsAt F.Fn condition v b) (sight cond.old.seat) (sight cond.new.seat) (sight seat.old) (sight seat.new) result }

@@ -2,7 +2,7 @@
 //! Each of them is then notified by its waker.
 ghost use Rattle.std.specs.Prelude.{◌≡◌, ◌++◌, ◌∷◌, []};
 ghost use Rattle.lfm_mutex.specs.Belongs.{limits_of, tries_of};
-ghost use Rattle.lfm_mutex.specs.calls.Woken.{LooksAndWakesAsGranted};
+ghost use Rattle.lfm_mutex.specs.calls.Woken.{PollsAndWakesAsGranted};
 ghost use Rattle.lfm_plain_condvar.specs.Belongs.{IsOwedBy, OfPlain, OwedBy, notified_by};
 ghost use Rattle.lfm_plain_condvar.specs.Wakes.{WakeAllEnds, WakeLaterEnds, WakeOneEnds, WakeOneWithNumberEnds, ticket_in};
 
@@ -38,7 +38,7 @@ impl PlainCondvar {
     ) -> Result<Option<OwedWakeUp>, Refusal>
         requires belongs { OfPlain cond.old self.now }
         ensures belongs { OfPlain cond.new self.now }
-        ensures cond_woken { LooksAndWakesAsGranted cond.old.seat cond.new.seat }
+        ensures cond_woken { PollsAndWakesAsGranted cond.old.seat cond.new.seat }
         ensures owes { OwedBy result self.now }
         ensures wakes { WakeLaterEnds (limits_of self.now.inner) (tries_of self.now.inner) cond.old cond.new result }
     {
@@ -86,7 +86,7 @@ impl PlainCondvar {
     pub fn wake_one<R: Wait>(&self, rt: &R, cond: &mut PlainSeat) -> Result<Option<u64>, Refusal>
         requires belongs { OfPlain cond.old self.now }
         ensures belongs { OfPlain cond.new self.now }
-        ensures cond_woken { LooksAndWakesAsGranted cond.old.seat cond.new.seat }
+        ensures cond_woken { PollsAndWakesAsGranted cond.old.seat cond.new.seat }
         ensures wakes { WakeOneEnds (limits_of self.now.inner) (tries_of self.now.inner) cond.old cond.new result }
     {
         without_number(self.wake_one_with_number(rt, cond))
@@ -100,7 +100,7 @@ impl PlainCondvar {
     ) -> Result<Option<(SeatNo, u64)>, Refusal>
         requires belongs { OfPlain cond.old self.now }
         ensures belongs { OfPlain cond.new self.now }
-        ensures cond_woken { LooksAndWakesAsGranted cond.old.seat cond.new.seat }
+        ensures cond_woken { PollsAndWakesAsGranted cond.old.seat cond.new.seat }
         ensures wakes { WakeOneWithNumberEnds (limits_of self.now.inner) (tries_of self.now.inner) cond.old cond.new result }
     {
         match self.wake_one_later(rt, cond) {
@@ -119,7 +119,7 @@ impl PlainCondvar {
     pub fn wake_all<R: Wait>(&self, rt: &R, cond: &mut PlainSeat) -> Result<u64, Refusal>
         requires belongs { OfPlain cond.old self.now }
         ensures belongs { OfPlain cond.new self.now }
-        ensures cond_woken { LooksAndWakesAsGranted cond.old.seat cond.new.seat }
+        ensures cond_woken { PollsAndWakesAsGranted cond.old.seat cond.new.seat }
         ensures wakes { WakeAllEnds (limits_of self.now.inner) (tries_of self.now.inner) cond.old cond.new result }
     {
         if cond.seat.left() == 0 {

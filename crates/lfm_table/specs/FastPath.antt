@@ -27,8 +27,8 @@ pub record MadeStep {T : Type 0} (follows : ℕ → T → T → Type 0) (suits :
 -- `Fit` and `MadeStep`, for a `TableSeat`
 
 -- the seat, whose plain data are p, is as the steps leave it
-abbrev pub SeatFits : {T : Type 0} → TableSeat T → SeatState → Type 0
-SeatFits s p = Fit s.number s.place.table_id.words s.place.id s.limits p s.place.me s.moving
+abbrev pub IsBetweenSteps : {T : Type 0} → TableSeat T → SeatState → Type 0
+IsBetweenSteps s p = Fit s.number s.place.table_id.words s.place.id s.limits p s.place.me s.moving
 
 -- the step of seat s, whose plain data are p, has found n and made it t
 abbrev pub StepMade : {T : Type 0} → (ℕ → T → T → Type 0) → (T → ℕ → Type 0) → TableSeat T → SeatState → ℕ → TableSeat T → Type 0

@@ -1,9 +1,9 @@
 //! The words of a mutex as a table, a seat at it, and the operations on a word. The fields and the operations are private, so
 //! only this module and its children can make an operation, and a reader finds each of them here:
 //! - `operate` makes the step of a call, and its contract adds the step to the seat's trail;
-//! - `looks` loads a word outside the steps, and adds a load for `owner` to the trail;
+//! - `polls` loads a word outside the steps, and adds a load for `owner` to the trail;
 //! - `parking` lets a thread sleep on a wake word, and wakes it;
-//! - `off_trail` records the looks, and the seats that were woken;
+//! - `off_trail` records the polls, and the seats that were woken;
 //! - `opening` and `closing` split seats off and join them, which loads a word;
 //! - `slot_exchange` touches no word.
 ghost use Rattle.std.specs.Prelude.{◌≡◌, ◌+◌, ◌-◌, ◌%◌, ◌^◌, ◌<◌, ◌==◌, bit_and};
@@ -13,11 +13,11 @@ ghost use Rattle.atomic_table.specs.Table.{step, Allows};
 ghost use Rattle.lfm_table.specs.Rule.{Held};
 
 pub mod closing;
-pub mod looks;
 pub mod off_trail;
 pub mod opening;
 pub(crate) mod operate;
 pub mod parking;
+pub mod polls;
 mod slot_exchange;
 
 use crate::kept::Kept;

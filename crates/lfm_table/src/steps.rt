@@ -1,6 +1,7 @@
 //! The atomic steps of the fast paths, named by what happens to the guarded value. A fast path rarely stores a point. It builds
 //! the seat's state at the step's point and passes it. After inlining, only the fields that the step reads are left. The proof
-//! needs the other fields. Each function except `grant` returns the number that its step found, or stored if it is a store.
+//! needs the other fields. Each function except `store_grant` returns the number that its step found, or stored if it is a
+//! store.
 //!
 //! An atomic step waits for the plain writes before it. Therefore a fast path makes its plain writes together, between two
 //! steps between which it moves the value anyway, since that takes plain writes too.
@@ -14,7 +15,7 @@ ghost use Rattle.lfm_laws.specs.table.Carried.{carries_value};
 ghost use Rattle.lfm_laws.specs.table.Words.{stepped_by};
 ghost use Rattle.lfm_table.specs.Grants.{granted_at};
 ghost use Rattle.lfm_table.specs.Steps.{gives_at, MayBeLeft};
-ghost use Rattle.lfm_table.specs.FastPath.{KeepsNumberAndLimits, SeatFits, StepMade};
+ghost use Rattle.lfm_table.specs.FastPath.{IsBetweenSteps, KeepsNumberAndLimits, StepMade};
 
 use crate::kept::Kept;
 use crate::operations::{CountSubtract, LinkLoad, Operation, OwnerLoad, WakeLoad, WakeStore};
@@ -37,7 +38,7 @@ pub fn keep<O: Operation, T: Kept>(
     state: &SeatState,
 ) -> u64
     requires table { seat.old.place.table_id ≡ table.now.table_id }
-    requires fit { SeatFits seat.old state.now }
+    requires fit { IsBetweenSteps seat.old state.now }
     requires is_next { kind_of state.now.point ≡ Some O.kind }
     requires moves_nothing { (O.kind ≢ KindNow.LinkLoad) × (drops_oldest state.now ≡ false) × (gives_at state.now.point ≡ false) }
     requires leaves { (r : Releaser) → state.now.point ≡ ReleaseOwnerStore r → MayBeLeft T.follows T.fits seat.old.moving seat.old.place.me.0 }
@@ -58,7 +59,7 @@ pub fn keep_held<O: Operation, T: Kept>(
     state: &SeatState,
 ) -> u64
     requires table { seat.old.place.table_id ≡ table.now.table_id }
-    requires fit { SeatFits seat.old state.now }
+    requires fit { IsBetweenSteps seat.old state.now }
     requires is_next { kind_of state.now.point ≡ Some O.kind }
     requires moves_nothing { (O.kind ≢ KindNow.LinkLoad) × (drops_oldest state.now ≡ false) × (gives_at state.now.point ≡ false) }
     requires leaves { (r : Releaser) → state.now.point ≡ ReleaseOwnerStore r → MayBeLeft T.follows T.fits seat.old.moving seat.old.place.me.0 }
@@ -79,7 +80,7 @@ pub fn load_other_owner<T: Kept>(
     state: &SeatState,
 ) -> u64
     requires table { seat.old.place.table_id ≡ table.now.table_id }
-    requires fit { SeatFits seat.old state.now }
+    requires fit { IsBetweenSteps seat.old state.now }
     requires is_next { kind_of state.now.point ≡ Some KindNow.OwnerLoad }
     requires flat { state.now.depth ≡ 0 }
     requires free { carries_value state.now ≡ false }
@@ -101,7 +102,7 @@ pub fn gain<O: Operation, T: Kept>(
     state: &SeatState,
 ) -> u64
     requires table { seat.old.place.table_id ≡ table.now.table_id }
-    requires fit { SeatFits seat.old state.now }
+    requires fit { IsBetweenSteps seat.old state.now }
     requires is_next { kind_of state.now.point ≡ Some O.kind }
     requires moves_nothing { (O.kind ≢ KindNow.LinkLoad) × (drops_oldest state.now ≡ false) × (gives_at state.now.point ≡ false) }
     requires ends_no_hold { O.kind ≢ KindNow.OwnerStore }
@@ -128,7 +129,7 @@ pub fn gain_by_grant<T: Kept>(
     state: &SeatState,
 ) -> u64
     requires table { seat.old.place.table_id ≡ table.now.table_id }
-    requires fit { SeatFits seat.old state.now }
+    requires fit { IsBetweenSteps seat.old state.now }
     requires is_next { kind_of state.now.point ≡ Some KindNow.WakeLoad }
     requires free { carries_value state.now ≡ false }
     requires gains { (n : ℕ) → 2 < n → carries_value (stepped_by state.now seat.old.number n None).seat ≡ true }
@@ -151,7 +152,7 @@ pub fn gain_by_grant<T: Kept>(
 #[inline(always)]
 pub fn retake<T: Kept>(table: &SharedTable<T>, seat: &mut TableSeat<T>, state: &SeatState) -> u64
     requires table { seat.old.place.table_id ≡ table.now.table_id }
-    requires fit { SeatFits seat.old state.now }
+    requires fit { IsBetweenSteps seat.old state.now }
     requires is_next { kind_of state.now.point ≡ Some KindNow.CountSubtract }
     requires gives { gives_at state.now.point ≡ true }
     requires leaves { carries_value (stepped_by state.now seat.old.number 1 None).seat ≡ false }
@@ -173,7 +174,7 @@ pub fn retake<T: Kept>(table: &SharedTable<T>, seat: &mut TableSeat<T>, state: &
 #[inline(always)]
 pub fn collect<T: Kept>(table: &SharedTable<T>, seat: &mut TableSeat<T>, state: &SeatState) -> u64
     requires table { seat.old.place.table_id ≡ table.now.table_id }
-    requires fit { SeatFits seat.old state.now }
+    requires fit { IsBetweenSteps seat.old state.now }
     requires is_next { kind_of state.now.point ≡ Some KindNow.LinkLoad }
     requires held { carries_value state.now ≡ true }
     ensures table { seat.new.place.table_id ≡ seat.old.place.table_id }
@@ -191,13 +192,13 @@ pub fn collect<T: Kept>(table: &SharedTable<T>, seat: &mut TableSeat<T>, state: 
 /// Therefore the record that the grant serves, if there is one, is removed from the pop list first. Then both are put into the
 /// slot.
 #[inline(always)]
-pub fn grant<T: Kept>(
+pub fn store_grant<T: Kept>(
     table: &SharedTable<T>,
     seat: &mut TableSeat<T>,
     state: &SeatState,
 ) -> Option<WakeUp>
     requires table { seat.old.place.table_id ≡ table.now.table_id }
-    requires fit { SeatFits seat.old state.now }
+    requires fit { IsBetweenSteps seat.old state.now }
     requires is_next { kind_of state.now.point ≡ Some KindNow.WakeStore }
     requires gives { gives_at state.now.point ≡ true }
     requires leaves { (n : ℕ) → carries_value (stepped_by state.now seat.old.number n None).seat ≡ false }

@@ -63,7 +63,7 @@ const SELF: u64 = 1;
 const OTHER: u64 = 2;
 
 /// How many pauses a waiting seat makes before each load of its wake word.
-const PAUSES_OF_LOOK: u32 = 4;
+const PAUSES_OF_POLL: u32 = 4;
 
 /// As many words as a mutex of two seats has.
 const WORDS: [u64; 8] = [0; 8];
@@ -145,11 +145,11 @@ impl<'a> Steps<'a> {
         self.queue() && self.serve() && self.receive()
     }
 
-    /// A look of a seat that waits for a grant: some pauses and a load of the wake word. The load does not count as a step of
+    /// A poll of a seat that waits for a grant: some pauses and a load of the wake word. The load does not count as a step of
     /// the seat. Returns whether the word was no grant.
     #[inline(always)]
-    pub fn look(&self) -> bool {
-        for _ in 0..PAUSES_OF_LOOK {
+    pub fn poll(&self) -> bool {
+        for _ in 0..PAUSES_OF_POLL {
             spin_loop();
         }
         self.table.peek(WAKE) < GRANT

@@ -6,7 +6,7 @@ use std::thread::yield_now;
 use std::time::{Clock, Duration};
 
 /// How often a thread checks whether the others have arrived, before it goes on without them.
-const LOOKS: u64 = 100_000;
+const POLLS: u64 = 100_000;
 
 /// How often the thread that shuts the gate checks whether all have passed, before it goes on without them.
 const GLANCES: u64 = 1_000;
@@ -32,10 +32,10 @@ impl Gate {
         }
     }
 
-    /// Waits until all threads have arrived, but checks this at most `LOOKS` times.
+    /// Waits until all threads have arrived, but checks this at most `POLLS` times.
     pub fn pass(&self) {
         self.ready.fetch_add(1, Ordering::SeqCst);
-        for _ in 0..LOOKS {
+        for _ in 0..POLLS {
             if self.is_passed() {
                 return;
             }

@@ -127,9 +127,9 @@ impl<'a> User<'a> {
     }
 
     /// `receive_lock_within` of a seat that sleeps. Returns whether it acquired the mutex.
-    pub fn receive_within<R: Wait>(&mut self, rt: &R, looks: u32) -> bool {
+    pub fn receive_within<R: Wait>(&mut self, rt: &R, polls: u32) -> bool {
         self.mutex
-            .receive_lock_within(rt, &mut self.seat, looks)
+            .receive_lock_within(rt, &mut self.seat, polls)
             .is_ok()
     }
 

@@ -4,7 +4,7 @@ ghost use Rattle.std.specs.Prelude.{◌≡◌, ◌≤◌, IfErr, IfOk, false};
 ghost use Rattle.lfm_model.specs.declared.refusals.Refusal.TheVariants.{Spent};
 ghost use Rattle.lfm_mutex.specs.Belongs.{Beside, OfMutex, limits_of, tries_of};
 ghost use Rattle.lfm_mutex.specs.calls.Sight.{sight, LeavesOff, MayLeave};
-ghost use Rattle.lfm_mutex.specs.calls.Woken.{LooksAndWakesAsGranted, WokenAsGranted};
+ghost use Rattle.lfm_mutex.specs.calls.Woken.{PollsAndWakesAsGranted, WokenAsGranted};
 ghost use Rattle.lfm_condvar.specs.Holds.{CondKept, InHand, LeavesList, LocksList, MadeFor};
 ghost use Rattle.lfm_condvar.specs.Keeping.{WaitersFollow};
 
@@ -27,7 +27,7 @@ fn lock_list<R: Wait>(
     requires made { MadeFor (limits_of inner.now) (sight cond.old) }
     requires kept { CondKept (sight cond.old) }
     ensures belongs { Beside cond.old cond.new }
-    ensures woken { LooksAndWakesAsGranted cond.old cond.new }
+    ensures woken { PollsAndWakesAsGranted cond.old cond.new }
     ensures held { IfOk result (λ _. (v : _) × InHand (limits_of inner.now) (sight cond.old) (sight cond.new) v v) }
     ensures steps { IfOk result (λ _. LocksList (limits_of inner.now) (tries_of inner.now) (sight cond.old) (sight cond.new)) }
     ensures refused { IfErr result (λ r. (r ≡ Spent) × ((limits_of inner.now).budget ≤ (sight cond.old).takes) × (sight cond.new ≡ sight cond.old)) }

@@ -25,7 +25,7 @@ use Rattle.lfm_mutex.specs.calls.Runs.{trail_of}
 use Rattle.lfm_mutex.specs.calls.Sight.{Sight, sight}
 use Rattle.lfm_mutex.specs.calls.Trails.{CallEnds, Makes, MakesCall}
 use Rattle.lfm_mutex.specs.calls.WakeUps.{as_list, grants_of}
-use Rattle.lfm_mutex.specs.calls.Woken.{woken_of, WakesNobody, WakesThese, WokenAsGranted, LooksOnce, LooksAndWakesNobody, LooksAndWakesAsGranted}
+use Rattle.lfm_mutex.specs.calls.Woken.{woken_of, WakesNobody, WakesThese, WokenAsGranted, PollsOnce, PollsAndWakesNobody, PollsAndWakesAsGranted}
 use Rattle.lfm_mutex.proofs.runs.ShortCalls.{Short, is_short, short_step_at, idle_step, try_opens, receive_opens}
 use Rattle.lfm_mutex.proofs.runs.WakeUps.{grants_join}
 
@@ -54,19 +54,19 @@ woken_join s m t h k = (
 pub woken_from : {T : Type 0} (s m t : Seat T) (l : List ℕ) → WakesNobody s m → grants_of (sight m).trail ≡ grants_of (sight s).trail ++ l → WakesThese l m t → sight t ≡ sight m → WokenAsGranted s t
 woken_from {T} s m t l nobody granted woke same = (l, woke ∙ ap (λ (o : OffTrail). record o { woken = o.woken ++ l }) nobody, ap (λ (z : Sight T). grants_of z.trail) same ∙ granted)
 
--- The same if looks may have been made
+-- The same if polls may have been made
 
-pub may_look : {T : Type 0} (s t : Seat T) → WokenAsGranted s t → LooksAndWakesAsGranted s t
-may_look s t woken = (woken.0, ap (λ (o : OffTrail). o.woken) woken.1, woken.2)
+pub may_poll : {T : Type 0} (s t : Seat T) → WokenAsGranted s t → PollsAndWakesAsGranted s t
+may_poll s t woken = (woken.0, ap (λ (o : OffTrail). o.woken) woken.1, woken.2)
 
-pub looks_none : {T : Type 0} (s t : Seat T) → LooksAndWakesNobody s t → grants_of (sight t).trail ≡ grants_of (sight s).trail → LooksAndWakesAsGranted s t
-looks_none s t nobody none = ([], nobody ∙ sym (append-nil (woken_of s)), none ∙ sym (append-nil (grants_of (sight s).trail)))
+pub polls_none : {T : Type 0} (s t : Seat T) → PollsAndWakesNobody s t → grants_of (sight t).trail ≡ grants_of (sight s).trail → PollsAndWakesAsGranted s t
+polls_none s t nobody none = ([], nobody ∙ sym (append-nil (woken_of s)), none ∙ sym (append-nil (grants_of (sight s).trail)))
 
-pub looks_once : {T : Type 0} (s t : Seat T) → LooksOnce s t → sight t ≡ sight s → LooksAndWakesAsGranted s t
-looks_once {T} s t look same = looks_none s t (ap (λ (o : OffTrail). o.woken) look) (ap (λ (z : Sight T). grants_of z.trail) same)
+pub polls_once : {T : Type 0} (s t : Seat T) → PollsOnce s t → sight t ≡ sight s → PollsAndWakesAsGranted s t
+polls_once {T} s t poll same = polls_none s t (ap (λ (o : OffTrail). o.woken) poll) (ap (λ (z : Sight T). grants_of z.trail) same)
 
-pub looks_join : {T : Type 0} (s m t : Seat T) → LooksAndWakesAsGranted s m → LooksAndWakesAsGranted m t → LooksAndWakesAsGranted s t
-looks_join s m t h k = (
+pub polls_join : {T : Type 0} (s m t : Seat T) → PollsAndWakesAsGranted s m → PollsAndWakesAsGranted m t → PollsAndWakesAsGranted s t
+polls_join s m t h k = (
   h.0 ++ k.0,
   k.1 ∙ (ap (λ (l : List ℕ). l ++ k.0) h.1 ∙ append_assoc (woken_of s) h.0 k.0),
   k.2 ∙ (ap (λ (l : List ℕ). l ++ k.0) h.2 ∙ append_assoc (grants_of (sight s).trail) h.0 k.0),

@@ -4,7 +4,7 @@
 ghost use Rattle.std.specs.Prelude.{◌≡◌, ◌<◌, ◌≤◌, Some};
 ghost use Rattle.lfm_mutex.specs.Belongs.{Beside, OfMutex, limits_of, tries_of};
 ghost use Rattle.lfm_mutex.specs.calls.Sight.{sight};
-ghost use Rattle.lfm_mutex.specs.calls.Woken.{LooksAndWakesAsGranted, WakesNobody};
+ghost use Rattle.lfm_mutex.specs.calls.Woken.{PollsAndWakesAsGranted, WakesNobody};
 ghost use Rattle.lfm_plain_condvar.specs.Belongs.{parkers_of, seats_of};
 ghost use Rattle.lfm_plain_condvar.specs.Holds.{HeldOnce, Rewrites, SeatKept, StepsOfOneHold};
 ghost use Rattle.lfm_plain_condvar.specs.Keeping.{Adds};
@@ -95,7 +95,7 @@ impl PlainCondvar {
         requires holder { (sight _holder.now).depth ≡ 1 }
         ensures belongs { Beside cond.old cond.new }
         ensures kept { SeatKept (parkers_of self.now) (seats_of self.now) (sight cond.new) }
-        ensures woken { LooksAndWakesAsGranted cond.old cond.new }
+        ensures woken { PollsAndWakesAsGranted cond.old cond.new }
         ensures held { (v : _) × (w : _) × HeldOnce (limits_of self.now.inner).budget (sight cond.old) (sight cond.new) v w × AddsWait waker v w result }
         ensures steps { StepsOfOneHold (limits_of self.now.inner) (tries_of self.now.inner) (sight cond.old) (sight cond.new) }
     {

@@ -4,7 +4,7 @@
 ghost use Rattle.std.specs.Prelude.{◌≡◌, ◌<◌, ◌++◌, [], length, Some};
 ghost use Rattle.lfm_mutex.specs.Belongs.{Beside, OfMutex, limits_of, tries_of};
 ghost use Rattle.lfm_mutex.specs.calls.Sight.{sight};
-ghost use Rattle.lfm_mutex.specs.calls.Woken.{LooksAndWakesAsGranted, WakesNobody};
+ghost use Rattle.lfm_mutex.specs.calls.Woken.{PollsAndWakesAsGranted, WakesNobody};
 ghost use Rattle.lfm_plain_condvar.specs.Belongs.{numbers_of, parkers_of, seats_of};
 ghost use Rattle.lfm_plain_condvar.specs.Holds.{HeldOnce, IsOf, Rewrites, SeatKept, StepsOfOneHold};
 ghost use Rattle.lfm_plain_condvar.specs.Keeping.{TakesFirst};
@@ -82,7 +82,7 @@ impl PlainCondvar {
         requires log { log.old.seat.table_id ≡ parkers_of self.now }
         ensures belongs { Beside cond.old cond.new }
         ensures kept { SeatKept (parkers_of self.now) (seats_of self.now) (sight cond.new) }
-        ensures woken { LooksAndWakesAsGranted cond.old cond.new }
+        ensures woken { PollsAndWakesAsGranted cond.old cond.new }
         ensures held { (v : _) × (w : _) × HeldOnce (limits_of self.now.inner).budget (sight cond.old) (sight cond.new) v w × TakesFirst v.list.items v w × (result ≡ length v.list.items) × (log.new.seat.me.0.parkers ≡ log.old.seat.me.0.parkers ++ numbers_of v.list.items) }
         ensures log { log.new.seat.table_id ≡ log.old.seat.table_id }
         ensures steps { StepsOfOneHold (limits_of self.now.inner) (tries_of self.now.inner) (sight cond.old) (sight cond.new) }

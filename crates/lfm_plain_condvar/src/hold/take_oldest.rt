@@ -2,7 +2,7 @@
 ghost use Rattle.std.specs.Prelude.{◌≡◌, ◌<◌};
 ghost use Rattle.lfm_mutex.specs.Belongs.{Beside, OfMutex, limits_of, tries_of};
 ghost use Rattle.lfm_mutex.specs.calls.Sight.{sight};
-ghost use Rattle.lfm_mutex.specs.calls.Woken.{LooksAndWakesAsGranted, WakesNobody};
+ghost use Rattle.lfm_mutex.specs.calls.Woken.{PollsAndWakesAsGranted, WakesNobody};
 ghost use Rattle.lfm_plain_condvar.specs.Belongs.{parkers_of, seats_of};
 ghost use Rattle.lfm_plain_condvar.specs.Holds.{HeldOnce, IsOf, Rewrites, SeatKept, StepsOfOneHold};
 ghost use Rattle.lfm_plain_condvar.specs.Keeping.{TakesMaybe};
@@ -38,7 +38,7 @@ impl PlainCondvar {
         requires spare { (sight cond.old).takes < (limits_of self.now.inner).budget }
         ensures belongs { Beside cond.old cond.new }
         ensures kept { SeatKept (parkers_of self.now) (seats_of self.now) (sight cond.new) }
-        ensures woken { LooksAndWakesAsGranted cond.old cond.new }
+        ensures woken { PollsAndWakesAsGranted cond.old cond.new }
         ensures held { (v : _) × (w : _) × HeldOnce (limits_of self.now.inner).budget (sight cond.old) (sight cond.new) v w × IsOf (parkers_of self.now) (seats_of self.now) v × TakesMaybe v w result }
         ensures steps { StepsOfOneHold (limits_of self.now.inner) (tries_of self.now.inner) (sight cond.old) (sight cond.new) }
     {

@@ -1,6 +1,6 @@
-//! What calls with a seat did that is in no trail: the seats that they woke, in order, and the number of their looks. Contracts
+//! What calls with a seat did that is in no trail: the seats that they woke, in order, and the number of their polls. Contracts
 //! read both, and no code does. Only `shared_table` and its children can add to them. A handwritten proof in any crate could
-//! change them. Only `new`, `with_wake_up` and `with_look`, which no tactic can prove, have a handwritten proof that names them.
+//! change them. Only `new`, `with_wake_up` and `with_poll`, which no tactic can prove, have a handwritten proof that names them.
 //! `scripts/gate/edits --check` looks for others.
 ghost use Rattle.std.specs.Prelude.{◌≡◌, ◌+◌, ℕ, List, [], ◌∷◌, ◌++◌};
 ghost use Rattle.std.specs.Borrow.{ftrue};
@@ -8,13 +8,13 @@ ghost use Rattle.std.specs.Borrow.{ftrue};
 use crate::wake_up::WakeUp;
 use std::marker::Model;
 
-/// The seats that were woken so far, and how many looks were made. It takes no bytes. Only contracts tie the two to what was
-/// done. Therefore only `parking::wake` adds a seat, when it wakes it, and only `SharedTable::look` adds a look, when it loads.
+/// The seats that were woken so far, and how many polls were made. It takes no bytes. Only contracts tie the two to what was
+/// done. Therefore only `parking::wake` adds a seat, when it wakes it, and only `SharedTable::poll` adds a poll, when it loads.
 #[derive(Drop)]
 pub struct OffTrail {
     seal: (),
     pub ghost woken: { List ℕ },
-    pub ghost looks: { ℕ },
+    pub ghost polls: { ℕ },
 }
 
 impl Model for OffTrail {
@@ -28,10 +28,10 @@ unsafe impl Send for OffTrail {}
 unsafe impl Sync for OffTrail {}
 
 impl OffTrail {
-    /// Nobody was woken, and no look was made.
+    /// Nobody was woken, and no poll was made.
     #[inline(always)]
     pub fn new() -> OffTrail
-        ensures { (result.woken ≡ []) × (result.looks ≡ 0) }
+        ensures { (result.woken ≡ []) × (result.polls ≡ 0) }
     {
         OffTrail { seal: () }
     }
@@ -44,10 +44,10 @@ impl OffTrail {
         OffTrail { seal: () }
     }
 
-    /// The same with one more look. Only `SharedTable::look` calls it.
+    /// The same with one more poll. Only `SharedTable::poll` calls it.
     #[inline(always)]
-    pub(super) fn with_look(_before: &OffTrail) -> OffTrail
-        ensures { result ≡ record _before.now { looks = _before.now.looks + 1 } }
+    pub(super) fn with_poll(_before: &OffTrail) -> OffTrail
+        ensures { result ≡ record _before.now { polls = _before.now.polls + 1 } }
     {
         OffTrail { seal: () }
     }

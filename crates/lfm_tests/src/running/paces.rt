@@ -5,7 +5,7 @@ use crate::seeing::{holds, sees};
 use lfm_mutex::Pace;
 use std::test::Fail;
 
-/// The numbers of a pace: its looks, how many seats are near, its spins and its naps.
+/// The numbers of a pace: its polls, how many seats are near, its spins and its naps.
 fn numbers(pace: Pace) -> (u32, u64, u32, u32) {
     (pace.looks(), pace.near(), pace.spins(), pace.naps())
 }
@@ -27,12 +27,12 @@ fn paces(rt: HostRuntime) {
 #[test]
 fn pace_of_this_machine(rt: HostRuntime) -> Result<(), Fail> {
     let pace = Pace::of_machine(&rt)?;
-    let (looks, near, spins, naps) = numbers(pace);
+    let (polls, near, spins, naps) = numbers(pace);
     let spins_wanted = if near == 0 { 1 } else { 12 };
     sees(&rt, "the spins", &spins, &spins_wanted);
     sees(&rt, "the naps", &naps, &4);
-    let looks_fit = looks == 0 || (near > 1 && looks >= 100 && looks <= 4_000);
-    holds(&rt, "the looks", looks_fit);
+    let polls_fit = polls == 0 || (near > 1 && polls >= 100 && polls <= 4_000);
+    holds(&rt, "the polls", polls_fit);
     Ok(())
 }
 

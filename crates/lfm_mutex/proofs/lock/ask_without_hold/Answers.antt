@@ -19,7 +19,7 @@ use Rattle.lfm_mutex.proofs.runs.Courses.{course_none, course_next, course_join,
 use Rattle.lfm_table.proofs.tables.StepFacts.{made_of}
 use Rattle.lfm_mutex.proofs.runs.Spending.{spends_any, spends_join, spent}
 use Rattle.lfm_mutex.proofs.runs.FastPathPoints.{begins_free, fit_begun, added_none, added_some, fit_after}
-use Rattle.lfm_table.specs.FastPath.{SeatFits}
+use Rattle.lfm_table.specs.FastPath.{IsBetweenSteps}
 use Rattle.lfm_mutex.proofs.runs.WakeUps.{grants_none, wakes_after, wakes_none}
 use Rattle.lfm_mutex.specs.calls.WakeUps.{Wakes}
 use Rattle.lfm_table.proofs.tables.Actions.{run_next}
@@ -84,7 +84,7 @@ pub invariant_of-seat-2 : goal.invariant_of-seat-2
 invariant_of-seat-2 g c =
     let s = c.args.seat.now in let t = s.state.takes + 1 in let ps = s.state.posts in
     let f = c.gain-found in let h = c.keep_held in
-    let fit = subst (λ (x : SeatState). SeatFits h.new.seat x) (λ i. record { depth = 1; takes = t; posts = ps; point = sym c.requires.may.rests i }) h.ensures.step.fit in
+    let fit = subst (λ (x : SeatState). IsBetweenSteps h.new.seat x) (λ i. record { depth = 1; takes = t; posts = ps; point = sym c.requires.may.rests i }) h.ensures.step.fit in
     record { seated = fit.seated; became = fit.became; ready = fit.ready; rooted = fit.rooted }
 
 pub returns-then-found-ne0-clause-acts : goal.returns-then-found-ne0-clause-acts

@@ -14,7 +14,7 @@ use Rattle.lfm_table.specs.Table.{Me}
 use Rattle.lfm_table.specs.declared.rule.Moving.{Moving}
 use Rattle.lfm_table.specs.declared.seat_view.View.{View}
 use Rattle.lfm_table.specs.Steps.{oldest_in}
-use Rattle.lfm_table.specs.FastPath.{Fit, MadeStep, SeatFits}
+use Rattle.lfm_table.specs.FastPath.{Fit, IsBetweenSteps, MadeStep}
 use Rattle.lfm_table.proofs.tables.StepFacts.{made_of}
 use Rattle.lfm_mutex.specs.calls.Due.{due}
 use Rattle.lfm_mutex.specs.calls.Pushes.{PlainCourse}
@@ -44,7 +44,7 @@ goes_on {T} {follows} {suits} {s} {k} {l} {j} {p} {q} {a} {b} {v} {w} {turn} sam
 -- the seat is at the point where it pushes
 pub push-requires-clause-fit : goal.push-requires-clause-fit
 push-requires-clause-fit g c κs within = let x = c.args.seat.now.state in let h = c.load_other_owner in
-    subst (λ (z : Stepped). SeatFits h.new.seat z.seat) (not_owned 0 x.takes x.posts h.new.seat.number h.result (oldest_in h.new.seat.moving) (λ e. h.ensures.other (e ∙ h.ensures.same.0))) h.ensures.step.fit
+    subst (λ (z : Stepped). IsBetweenSteps h.new.seat z.seat) (not_owned 0 x.takes x.posts h.new.seat.number h.result (oldest_in h.new.seat.moving) (λ e. h.ensures.other (e ∙ h.ensures.same.0))) h.ensures.step.fit
 
 pub returns-in-Queued-clause-finishes : goal.returns-in-Queued-clause-finishes
 returns-in-Queued-clause-finishes g c = record {

@@ -6,7 +6,7 @@ use Rattle.lfm_protocol.specs.After.{found_posted, pushed}
 use Rattle.lfm_protocol.specs.Begin.{Stepped}
 use Rattle.lfm_laws.specs.table.Words.{stepped_by, handoff_of, link_of}
 use Rattle.lfm_table.specs.Steps.{oldest_in}
-use Rattle.lfm_table.specs.FastPath.{SeatFits}
+use Rattle.lfm_table.specs.FastPath.{IsBetweenSteps}
 use Rattle.lfm_table.proofs.tables.StepFacts.{made_of}
 use Rattle.lfm_table.proofs.tables.FastPathSteps.{told_before, same_then}
 use Rattle.lfm_mutex.specs.calls.Pushes.{PlainCourse}
@@ -21,26 +21,26 @@ keep-handoff-requires-clause-stays g c κs within = let x = c.args.state.now in
 
 pub keep-word-requires-clause-fit : goal.keep-word-requires-clause-fit
 keep-word-requires-clause-fit g c κs within = let s = c.args.seat.now in let x = c.args.state.now in
-    subst (λ (z : Point). SeatFits s (made_of x.depth x.takes x.posts z)) c.requires.stands c.requires.fit
+    subst (λ (z : Point). IsBetweenSteps s (made_of x.depth x.takes x.posts z)) c.requires.stands c.requires.fit
 
 pub returns-then-found-word-clause-fit : goal.returns-then-found-word-clause-fit
 returns-then-found-word-clause-fit g c =
     let x = c.args.state.now in let u = c.args.pusher in
     let w = c.keep-word in let old = c.unpack_link-seen in let f = c.keep-found in
-    subst (λ (z : Stepped). SeatFits f.new.seat z.seat)
+    subst (λ (z : Stepped). IsBetweenSteps f.new.seat z.seat)
     (ap (λ (z : Link). stepped_by (made_of x.depth x.takes x.posts (PushExchange u z)) f.new.seat.number f.result (oldest_in f.new.seat.moving)) old.ensures.holds
     ∙ exchanged_not u x.depth x.takes x.posts f.new.seat.number w.result f.result (oldest_in f.new.seat.moving) c.if-found-word.true) f.ensures.step.fit
 
 pub returns-then-is_posted_in-clause-fit : goal.returns-then-is_posted_in-clause-fit
 returns-then-is_posted_in-clause-fit g c =
     let x = c.args.state.now in let u = c.args.pusher in let k = c.keep-handoff in
-    subst (λ (z : Stepped). SeatFits k.new.seat z.seat)
+    subst (λ (z : Stepped). IsBetweenSteps k.new.seat z.seat)
     (found_one u x.depth x.takes x.posts k.new.seat.number k.result (oldest_in k.new.seat.moving) (sym c.is_posted_in.ensures ∙ c.if-is_posted_in.true)) k.ensures.step.fit
 
 pub returns-clause-fit : goal.returns-clause-fit
 returns-clause-fit g c =
     let x = c.args.state.now in let u = c.args.pusher in let k = c.keep-handoff in
-    subst (λ (z : Stepped). SeatFits k.new.seat z.seat)
+    subst (λ (z : Stepped). IsBetweenSteps k.new.seat z.seat)
     (found_none u x.depth x.takes x.posts k.new.seat.number k.result (oldest_in k.new.seat.moving) (sym c.is_posted_in.ensures ∙ c.if-is_posted_in.false) ∙ queued_end x u) k.ensures.step.fit
 
 pub returns-then-found-word-clause-made : goal.returns-then-found-word-clause-made

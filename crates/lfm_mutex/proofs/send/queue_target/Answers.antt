@@ -5,7 +5,7 @@ use Rattle.lfm_protocol.specs.declared.points.Pusher.{Pusher}
 use Rattle.lfm_protocol.specs.declared.answers.Answer.{Answer}
 use Rattle.lfm_protocol.specs.declared.answers.Turn.TheVariants.{Open, Ended}
 use Rattle.lfm_protocol.specs.declared.seats.SeatState.{SeatState}
-use Rattle.lfm_table.specs.FastPath.{SeatFits}
+use Rattle.lfm_table.specs.FastPath.{IsBetweenSteps}
 use Rattle.lfm_table.proofs.tables.StepFacts.{made_of}
 use Rattle.lfm_mutex.specs.calls.Due.{due}
 use Rattle.lfm_mutex.specs.calls.FailedPushes.{Spends}
@@ -19,7 +19,7 @@ use Rattle.lfm_mutex.proofs.send.queue_target.Goals as goal
 
 pub push-requires-clause-fit : goal.push-requires-clause-fit
 push-requires-clause-fit g c κs within = let s = c.args.seat.now in let x = s.state in
-    subst (λ (z : Point). SeatFits s.table_seat (made_of x.depth x.takes x.posts z)) c.requires.stands (record { seated = s.seated; became = s.became; ready = s.ready; rooted = s.rooted })
+    subst (λ (z : Point). IsBetweenSteps s.table_seat (made_of x.depth x.takes x.posts z)) c.requires.stands (record { seated = s.seated; became = s.became; ready = s.ready; rooted = s.rooted })
 
 -- the seat is already at that point
 stands : {u : ℕ} (x : SeatState) → x.point ≡ PushLoad (Pusher.Sender u) → x ≡ record x { point = PushLoad (Pusher.Sender u) }

@@ -36,7 +36,7 @@ pub returns-clause-finishes : goal.returns-clause-finishes
 returns-clause-finishes g c =
     let s = c.args.seat.now in let x = s.state in let u = c.args.target in let f = c.gain-found in
     let so = counts x 0 (SendWakeStore u) c.requires.stands c.requires.flat (record { seated = s.seated; became = s.became; ready = s.ready; rooted = s.rooted }) (told_before f.ensures.same f.ensures.step) (counted_none 0 x.takes x.posts s.table_seat.number f.result u (oldest_in f.new.seat.moving) c.if-found-ne0.false) in
-    let p1 = made_of 0 x.takes x.posts (SendWakeStore u) in let k = c.grant-wake_up in let did = told_before (same_then f.ensures.same k.ensures.same) k.ensures.step.1 in
+    let p1 = made_of 0 x.takes x.posts (SendWakeStore u) in let k = c.store_grant-wake_up in let did = told_before (same_then f.ensures.same k.ensures.same) k.ensures.step.1 in
     record {
       kept = search rules;
       made = let last = course_next g.T.Kept.follows g.T.Kept.fits s.table_seat.number x s.table_seat.moving s.table_seat.place.me.0 so.words so.id s.table_seat.limits p1 k.ensures.step.0 f.new.seat.place.me f.new.seat.moving k.new.seat.place.me k.new.seat.moving k.new.seat.place.table_id.words k.new.seat.place.id
@@ -51,7 +51,7 @@ pub returns-clause-spends : goal.returns-clause-spends
 returns-clause-spends g c =
     let s = c.args.seat.now in let x = s.state in let u = c.args.target in let f = c.gain-found in
     let so = counts x 0 (SendWakeStore u) c.requires.stands c.requires.flat (record { seated = s.seated; became = s.became; ready = s.ready; rooted = s.rooted }) (told_before f.ensures.same f.ensures.step) (counted_none 0 x.takes x.posts s.table_seat.number f.result u (oldest_in f.new.seat.moving) c.if-found-ne0.false) in
-    let p1 = made_of 0 x.takes x.posts (SendWakeStore u) in let k = c.grant-wake_up in let did = told_before (same_then f.ensures.same k.ensures.same) k.ensures.step.1 in
+    let p1 = made_of 0 x.takes x.posts (SendWakeStore u) in let k = c.store_grant-wake_up in let did = told_before (same_then f.ensures.same k.ensures.same) k.ensures.step.1 in
     let n = s.table_seat.limits.seats in let st = stepped_by p1 s.table_seat.number k.ensures.step.0 (oldest_in k.new.seat.moving) in
     spends_join (due n (length s.table_seat.place.me.0.popped) x.point) 1 0 s.table_seat.place.me.0.trail f.new.seat.place.me.0.trail k.new.seat.place.me.0.trail so.plain.spends
     (spends_any g.T.Kept.follows g.T.Kept.fits p1 st.seat f.new.seat.place.me.0 k.new.seat.place.me.0 f.new.seat.moving k.new.seat.moving st.turn did.event 0)

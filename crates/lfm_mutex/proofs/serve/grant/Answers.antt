@@ -24,7 +24,7 @@ use Rattle.lfm_mutex.proofs.serve.grant.Goals as goal
 
 pub returns-in-Unlocker-clause-finishes : goal.returns-in-Unlocker-clause-finishes
 returns-in-Unlocker-clause-finishes g c =
-    let s = c.args.seat.now in let t = s.state.takes in let ps = s.state.posts in let f = c.grant-wake_up in let u = c.args.releaser in
+    let s = c.args.seat.now in let t = s.state.takes in let ps = s.state.posts in let f = c.store_grant-wake_up in let u = c.args.releaser in
     let r : Record = record { seat = c.args.oldest.seat; stamp = c.args.oldest.stamp } in
     let p0 = made_of 0 t ps (GrantWakeStore (Carrier.Releaser u) r) in
     let at : s.state ≡ p0 = (λ i. record { depth = c.requires.flat i; takes = t; posts = ps; point = c.requires.stands i }) in
@@ -41,7 +41,7 @@ returns-in-Unlocker-clause-finishes g c =
 
 pub returns-in-Waiter-clause-finishes : goal.returns-in-Waiter-clause-finishes
 returns-in-Waiter-clause-finishes g c =
-    let s = c.args.seat.now in let t = s.state.takes in let ps = s.state.posts in let f = c.grant-wake_up in let u = c.args.releaser in
+    let s = c.args.seat.now in let t = s.state.takes in let ps = s.state.posts in let f = c.store_grant-wake_up in let u = c.args.releaser in
     let r : Record = record { seat = c.args.oldest.seat; stamp = c.args.oldest.stamp } in
     let p0 = made_of 0 t ps (GrantWakeStore (Carrier.Releaser u) r) in
     let at : s.state ≡ p0 = (λ i. record { depth = c.requires.flat i; takes = t; posts = ps; point = c.requires.stands i }) in

@@ -19,7 +19,7 @@ use Rattle.lfm_mutex.specs.calls.FastPath.{Course, ComesTo, try_turn}
 use Rattle.lfm_mutex.proofs.runs.Courses.{course_none, course_next, course_join, comes}
 use Rattle.lfm_table.proofs.tables.StepFacts.{made_of}
 use Rattle.lfm_mutex.proofs.runs.FastPathPoints.{begins_try_free, fit_begun, exchanged_none, exchanged_some, try_not_owned, posted, unposted, fit_after}
-use Rattle.lfm_table.specs.FastPath.{SeatFits}
+use Rattle.lfm_table.specs.FastPath.{IsBetweenSteps}
 use Rattle.lfm_table.proofs.tables.Actions.{run_next}
 use Rattle.lfm_mutex.proofs.runs.RunGoesOn.{run_made}
 use Rattle.lfm_table.proofs.tables.FastPathSteps.{told_before, same_then}
@@ -94,7 +94,7 @@ invariant_of-seat-then-is_posted_in g c =
     let k = c.keep-handoff in
     let q = made_of 0 t ps (TryHandoffExchange (handoff_of k.result)) in
     let at : c.stop_at_post.new.state ≡ q = c.stop_at_post.ensures ∙ (λ i. record { depth = c.requires.may.flat i; takes = t; posts = ps; point = TryHandoffExchange (handoff_of k.result) }) in
-    let fit = subst (λ (x : SeatState). SeatFits k.new.seat x) (ap (λ (z : Stepped). z.seat) (posted 0 t ps k.new.seat.number k.result (oldest_in k.new.seat.moving) (sym c.is_posted_in.ensures ∙ c.if-is_posted_in.true)) ∙ sym at) k.ensures.step.fit in
+    let fit = subst (λ (x : SeatState). IsBetweenSteps k.new.seat x) (ap (λ (z : Stepped). z.seat) (posted 0 t ps k.new.seat.number k.result (oldest_in k.new.seat.moving) (sym c.is_posted_in.ensures ∙ c.if-is_posted_in.true)) ∙ sym at) k.ensures.step.fit in
     record { seated = fit.seated; became = fit.became; ready = fit.ready; rooted = fit.rooted }
 
 pub returns-then-found-eq0-clause-acts : goal.returns-then-found-eq0-clause-acts

@@ -13,7 +13,7 @@ use Rattle.lfm_table.specs.Rule.{value_in}
 use Rattle.lfm_table.specs.Steps.{Event, oldest_in}
 use Rattle.lfm_mutex.specs.calls.Runs.{opens, weight}
 use Rattle.lfm_mutex.specs.calls.Sight.{sight_of}
-use Rattle.lfm_table.specs.FastPath.{Fit, SeatFits}
+use Rattle.lfm_table.specs.FastPath.{Fit, IsBetweenSteps}
 use Rattle.lfm_mutex.specs.calls.FastPath.{Course, ComesTo}
 use Rattle.lfm_mutex.proofs.runs.Courses.{course_none, course_next, course_join, gives_up}
 use Rattle.lfm_mutex.proofs.runs.Running.{trail_grows, bounded_more}
@@ -104,7 +104,7 @@ pub invariant_of-seat-else-found-ne1 : goal.invariant_of-seat-else-found-ne1
 invariant_of-seat-else-found-ne1 g c =
     let s = c.args.seat.now in let t = s.state.takes in let ps = s.state.posts in
     let f = c.retake-found in
-    let fit = subst (λ (x : SeatState). SeatFits f.new.seat x)
+    let fit = subst (λ (x : SeatState). IsBetweenSteps f.new.seat x)
     (ap (λ (z : Stepped). z.seat) (freed Unlocker 0 t ps f.new.seat.number f.result (oldest_in f.new.seat.moving) c.if-found-ne1.false) ∙ (λ i. record { depth = 0; takes = t; posts = ps; point = sym c.requires.rests i })) f.ensures.step.fit in
     record { seated = fit.seated; became = fit.became; ready = fit.ready; rooted = fit.rooted }
 

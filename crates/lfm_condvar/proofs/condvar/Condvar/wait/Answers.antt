@@ -4,7 +4,7 @@ use Rattle.lfm_mutex.specs.calls.Sight.{sight}
 use Rattle.lfm_condvar.specs.Belongs.{cond_limits, cond_sight, cond_tries}
 use Rattle.lfm_condvar.specs.Waits.{ComesBack}
 use Rattle.lfm_condvar.proofs.Enlisted.{ends_refused}
-use Rattle.lfm_mutex.proofs.runs.Woken.{looks_join, looks_once, may_look}
+use Rattle.lfm_mutex.proofs.runs.Woken.{polls_join, polls_once, may_poll}
 use Rattle.lfm_mutex.proofs.runs.RunGoesOn.{run_next}
 use Rattle.lfm_condvar.proofs.condvar.Condvar.wait.Goals as goal
 
@@ -25,4 +25,4 @@ returns-clause-waits g c = let r = c.in-Ok.ensures in (
 
 pub returns-clause-woken : goal.returns-clause-woken
 returns-clause-woken g c = let s = c.args.seat.now in let b = c.begin_wait_counted.new.seat in let n = c.count_from.new.seat in let t = c.receive_lock_within.new.seat in
-    looks_join s b t (may_look s b c.begin_wait_counted.ensures.woken) (looks_join b n t (looks_once b n c.count_from.ensures.woken c.count_from.ensures.same) c.receive_lock_within.ensures.woken)
+    polls_join s b t (may_poll s b c.begin_wait_counted.ensures.woken) (polls_join b n t (polls_once b n c.count_from.ensures.woken c.count_from.ensures.same) c.receive_lock_within.ensures.woken)

@@ -8,7 +8,7 @@ use Rattle.lfm_mutex.specs.Conditions.{NeedNotWait, WouldWait}
 use Rattle.lfm_condvar.specs.Repeated.{WaitWhileEnds}
 use Rattle.lfm_mutex.proofs.ConditionEnds.{handed_on, if_true}
 use Rattle.lfm_condvar.proofs.Repeating.{as_deep, may_again, stays}
-use Rattle.lfm_mutex.proofs.runs.Woken.{looks_join, looks_none}
+use Rattle.lfm_mutex.proofs.runs.Woken.{polls_join, polls_none}
 use Rattle.lfm_mutex.proofs.runs.RunGoesOn.{run_next, run_same}
 use Rattle.lfm_condvar.proofs.condvar.Condvar.wait_while.Goals as goal
 
@@ -16,7 +16,7 @@ pub returns-in_err-_waited-clause-run : goal.returns-in_err-_waited-clause-run
 returns-in_err-_waited-clause-run g c = run_next c.waits.invariant.run c.in_err-_waited.ensures.run
 
 pub waits-init : goal.waits-init
-waits-init g c = record { belongs = c.requires.belongs; beside = (refl, refl); run = run_same; woken = looks_none c.args.seat.now c.args.seat.now refl refl; cond_woken = looks_none c.args.cond.now.seat c.args.cond.now.seat refl refl; leaves = c.requires.leaves; depth = refl; waits = (zero, (refl, refl)) }
+waits-init g c = record { belongs = c.requires.belongs; beside = (refl, refl); run = run_same; woken = polls_none c.args.seat.now c.args.seat.now refl refl; cond_woken = polls_none c.args.cond.now.seat c.args.cond.now.seat refl refl; leaves = c.requires.leaves; depth = refl; waits = (zero, (refl, refl)) }
 
 -- one more wait was needed
 pub waits-preserved : goal.waits-preserved
@@ -24,8 +24,8 @@ waits-preserved g c = let i = c.waits.invariant in let e = c.in_ok-_waited.ensur
     let c' = cond_sight c.waits.cond in let d = cond_sight c.wait.new.cond in let s = sight c.waits.seat in let t = sight c.wait.new.seat in
     let says = (λ (v : _) (b : _). FnReturnsAt g.F.Fn c.args.condition v b) in let must : c.must_wait.result ≡ true = cc in record {
       belongs = (e.belongs.0, (e.belongs.1.0 ∙ i.belongs.1.0, e.belongs.1.1 ∙ i.belongs.1.1));
-      woken = looks_join c.args.seat.now c.waits.seat c.wait.new.seat i.woken e.woken;
-      cond_woken = looks_join c.args.cond.now.seat c.waits.cond.seat c.wait.new.cond.seat i.cond_woken e.cond_woken;
+      woken = polls_join c.args.seat.now c.waits.seat c.wait.new.seat i.woken e.woken;
+      cond_woken = polls_join c.args.cond.now.seat c.waits.cond.seat c.wait.new.cond.seat i.cond_woken e.cond_woken;
       beside = (e.belongs.1.0 ∙ i.beside.0, e.belongs.1.1 ∙ i.beside.1);
       run = run_next i.run e.run;
       leaves = may_again g.T.Kept.follows g.T.Kept.fits user own tries c.in_ok-_waited._waited c' d s t c.requires.keeps e.waits;
@@ -44,7 +44,7 @@ returns-in_err-_waited-clause-waits g c = let i = c.waits.invariant in let e = c
     (i.waits.0, (cond_sight c.waits.cond), s, i.waits.1, if_true c.must_wait.result (WouldWait says s) (NeedNotWait says s) must c.must_wait.ensures, e.waits)
 
 pub returns-in_err-_waited-clause-woken : goal.returns-in_err-_waited-clause-woken
-returns-in_err-_waited-clause-woken g c = looks_join c.args.seat.now c.waits.seat c.wait.new.seat c.waits.invariant.woken c.in_err-_waited.ensures.woken
+returns-in_err-_waited-clause-woken g c = polls_join c.args.seat.now c.waits.seat c.wait.new.seat c.waits.invariant.woken c.in_err-_waited.ensures.woken
 
 pub returns-in_err-_waited-clause-cond_woken : goal.returns-in_err-_waited-clause-cond_woken
-returns-in_err-_waited-clause-cond_woken g c = looks_join c.args.cond.now.seat c.waits.cond.seat c.wait.new.cond.seat c.waits.invariant.cond_woken c.in_err-_waited.ensures.cond_woken
+returns-in_err-_waited-clause-cond_woken g c = polls_join c.args.cond.now.seat c.waits.cond.seat c.wait.new.cond.seat c.waits.invariant.cond_woken c.in_err-_waited.ensures.cond_woken

@@ -4,7 +4,7 @@ use Rattle.lfm_model.specs.declared.refusals.Refusal.{Refusal}
 use Rattle.lfm_monitor.specs.Belongs.{cond_seats_of, mine_of, pass_sight, plain_seats_of, seen_of, share_of}
 use Rattle.lfm_monitor.specs.Tries.{ApplyUntilEnds}
 use Rattle.lfm_monitor.proofs.Trying.{applied_depth, handed_on, waited_depth}
-use Rattle.lfm_mutex.proofs.runs.Woken.{looks_join, looks_none, may_look}
+use Rattle.lfm_mutex.proofs.runs.Woken.{polls_join, polls_none, may_poll}
 use Rattle.lfm_monitor.specs.CondSeats.{CondsWokenAsGranted}
 use Rattle.lfm_monitor.specs.PlainSeats.{PlainSeatsWokenAsGranted}
 use Rattle.lfm_monitor.proofs.UsedConditions.{conds_woken_join, conds_woken_none}
@@ -22,7 +22,7 @@ pub returns-in_err-_waited-clause-run : goal.returns-in_err-_waited-clause-run
 returns-in_err-_waited-clause-run g c = run_next (run_next c.tries.invariant.run c.apply.ensures.run) c.wait.ensures.run
 
 pub tries-init : goal.tries-init
-tries-init g c = record { belongs = c.requires.belongs; run = run_same; woken = looks_none c.args.pass.now.seat c.args.pass.now.seat refl refl; cond_woken = conds_woken_none (cond_seats_of c.args.pass.now) (cond_seats_of c.args.pass.now) refl; plain_woken = plain_woken_none (plain_seats_of c.args.pass.now) (plain_seats_of c.args.pass.now) refl; depth = refl; number = refl; tries = (zero, refl) }
+tries-init g c = record { belongs = c.requires.belongs; run = run_same; woken = polls_none c.args.pass.now.seat c.args.pass.now.seat refl refl; cond_woken = conds_woken_none (cond_seats_of c.args.pass.now) (cond_seats_of c.args.pass.now) refl; plain_woken = plain_woken_none (plain_seats_of c.args.pass.now) (plain_seats_of c.args.pass.now) refl; depth = refl; number = refl; tries = (zero, refl) }
 
 -- one more try failed
 pub tries-preserved : goal.tries-preserved
@@ -32,7 +32,7 @@ tries-preserved g c = let i = c.tries.invariant in let a = c.in_ok-reply.ensures
       ∙ (applied_depth g.O.Object.after g.O.Object.reply (share_of c.args.self.now) c.args.op c.in_ok-reply.reply (pass_sight l) (pass_sight p) (mine_of l) (mine_of p) a.applies ∙ i.depth);
   number = w.number ∙ (a.number ∙ i.number);
   run = run_next i.run (run_next a.run w.run);
-  woken = looks_join c.args.pass.now.seat l.seat q.seat i.woken (looks_join l.seat p.seat q.seat (may_look l.seat p.seat a.woken) w.woken);
+  woken = polls_join c.args.pass.now.seat l.seat q.seat i.woken (polls_join l.seat p.seat q.seat (may_poll l.seat p.seat a.woken) w.woken);
   cond_woken = conds_woken_join (cond_seats_of c.args.pass.now) (cond_seats_of p) (cond_seats_of q) (subst (CondsWokenAsGranted (cond_seats_of c.args.pass.now)) (sym a.conditions.0) i.cond_woken) w.cond_woken;
   plain_woken = plain_woken_join (plain_seats_of c.args.pass.now) (plain_seats_of p) (plain_seats_of q) (subst (PlainSeatsWokenAsGranted (plain_seats_of c.args.pass.now)) (sym a.conditions.1) i.plain_woken) w.plain_woken;
   tries = (
@@ -71,13 +71,13 @@ returns-then-accepts-clause-tries g c = let i = c.tries.invariant in let a = c.i
     (i.tries.0, c.tries.pass, i.belongs, i.tries.1, ((a.applies, a.seen, a.conditions), subst (λ b. FnReturnsAt g.F.Fn c.args.done c.in_ok-reply.reply b) c.if-accepts.true c.accepts.ensures))
 
 pub returns-in_err-reply-clause-woken : goal.returns-in_err-reply-clause-woken
-returns-in_err-reply-clause-woken g c = looks_join c.args.pass.now.seat c.tries.pass.seat c.apply.new.pass.seat c.tries.invariant.woken (may_look c.tries.pass.seat c.apply.new.pass.seat c.apply.ensures.woken)
+returns-in_err-reply-clause-woken g c = polls_join c.args.pass.now.seat c.tries.pass.seat c.apply.new.pass.seat c.tries.invariant.woken (may_poll c.tries.pass.seat c.apply.new.pass.seat c.apply.ensures.woken)
 
 pub returns-then-accepts-clause-woken : goal.returns-then-accepts-clause-woken
-returns-then-accepts-clause-woken g c = looks_join c.args.pass.now.seat c.tries.pass.seat c.apply.new.pass.seat c.tries.invariant.woken (may_look c.tries.pass.seat c.apply.new.pass.seat c.apply.ensures.woken)
+returns-then-accepts-clause-woken g c = polls_join c.args.pass.now.seat c.tries.pass.seat c.apply.new.pass.seat c.tries.invariant.woken (may_poll c.tries.pass.seat c.apply.new.pass.seat c.apply.ensures.woken)
 
 pub returns-in_err-_waited-clause-woken : goal.returns-in_err-_waited-clause-woken
-returns-in_err-_waited-clause-woken g c = looks_join c.args.pass.now.seat c.apply.new.pass.seat c.wait.new.pass.seat (looks_join c.args.pass.now.seat c.tries.pass.seat c.apply.new.pass.seat c.tries.invariant.woken (may_look c.tries.pass.seat c.apply.new.pass.seat c.apply.ensures.woken)) c.wait.ensures.woken
+returns-in_err-_waited-clause-woken g c = polls_join c.args.pass.now.seat c.apply.new.pass.seat c.wait.new.pass.seat (polls_join c.args.pass.now.seat c.tries.pass.seat c.apply.new.pass.seat c.tries.invariant.woken (may_poll c.tries.pass.seat c.apply.new.pass.seat c.apply.ensures.woken)) c.wait.ensures.woken
 
 pub returns-in_err-reply-clause-cond_woken : goal.returns-in_err-reply-clause-cond_woken
 returns-in_err-reply-clause-cond_woken g c = subst (CondsWokenAsGranted (cond_seats_of c.args.pass.now)) (sym c.in_err-reply.ensures.conditions.0) c.tries.invariant.cond_woken

@@ -9,13 +9,13 @@ use Rattle.lfm_monitor.specs.PlainSeats.{PlainSeatsWokenAsGranted}
 use Rattle.lfm_monitor.specs.TimedTries.{FailedTriesWithin, ApplyUntilForEnds}
 use Rattle.lfm_monitor.proofs.Trying.{applied_depth, handed_on, waited_depth}
 use Rattle.lfm_monitor.proofs.UsedPlainConditions.{plain_woken_join, plain_woken_none}
-use Rattle.lfm_mutex.proofs.runs.Woken.{looks_join, looks_none, may_look}
+use Rattle.lfm_mutex.proofs.runs.Woken.{polls_join, polls_none, may_poll}
 use Rattle.lfm_mutex.proofs.runs.RunGoesOn.{run_next, run_same}
 use Rattle.lfm_monitor.proofs.monitor.Monitor.apply_until_for.Goals as goal
 
 pub tries-init : goal.tries-init
 tries-init g c = let b = c.args.pass.now in
-    record { belongs = c.requires.belongs; run = run_same; woken = looks_none b.seat b.seat refl refl; plain_woken = plain_woken_none (plain_seats_of b) (plain_seats_of b) refl; morphing = refl; depth = refl; number = refl; tries = (zero, (refl, refl)) }
+    record { belongs = c.requires.belongs; run = run_same; woken = polls_none b.seat b.seat refl refl; plain_woken = plain_woken_none (plain_seats_of b) (plain_seats_of b) refl; morphing = refl; depth = refl; number = refl; tries = (zero, (refl, refl)) }
 
 -- one more try failed
 pub tries-preserved : goal.tries-preserved
@@ -25,7 +25,7 @@ tries-preserved g c = let i = c.tries.invariant in let a = c.in_ok-reply.ensures
       ∙ (applied_depth g.O.Object.after g.O.Object.reply (share_of c.args.self.now) c.args.op c.in_ok-reply.reply (pass_sight l) (pass_sight p) (mine_of l) (mine_of p) a.applies ∙ i.depth);
   number = w.number ∙ (a.number ∙ i.number);
   run = run_next i.run (run_next a.run w.run);
-  woken = looks_join b.seat l.seat q.seat i.woken (looks_join l.seat p.seat q.seat (may_look l.seat p.seat a.woken) w.woken);
+  woken = polls_join b.seat l.seat q.seat i.woken (polls_join l.seat p.seat q.seat (may_poll l.seat p.seat a.woken) w.woken);
   plain_woken = plain_woken_join (plain_seats_of b) (plain_seats_of p) (plain_seats_of q) (subst (PlainSeatsWokenAsGranted (plain_seats_of b)) (sym a.conditions.1) i.plain_woken) w.plain_woken;
   morphing = w.morphing ∙ (a.conditions.0 ∙ i.morphing);
   tries = (
@@ -51,7 +51,7 @@ returns-then-accepts g c = let i = c.tries.invariant in let a = c.in_ok-reply.en
   belongs = a.belongs;
   number = a.number ∙ i.number;
   run = run_next i.run a.run;
-  woken = looks_join b.seat l.seat p.seat i.woken (may_look l.seat p.seat a.woken);
+  woken = polls_join b.seat l.seat p.seat i.woken (may_poll l.seat p.seat a.woken);
   plain_woken = subst (PlainSeatsWokenAsGranted (plain_seats_of b)) (sym a.conditions.1) i.plain_woken;
   morphing = a.conditions.0 ∙ i.morphing;
   done = subst (λ b. FnReturnsAt g.F.Fn c.args.done c.in_ok-reply.reply b) c.if-accepts.true c.accepts.ensures;
@@ -65,7 +65,7 @@ returns-then-is_over g c = let i = c.tries.invariant in let a = c.in_ok-reply.en
   belongs = a.belongs;
   number = a.number ∙ i.number;
   run = run_next i.run a.run;
-  woken = looks_join b.seat l.seat p.seat i.woken (may_look l.seat p.seat a.woken);
+  woken = polls_join b.seat l.seat p.seat i.woken (may_poll l.seat p.seat a.woken);
   plain_woken = subst (PlainSeatsWokenAsGranted (plain_seats_of b)) (sym a.conditions.1) i.plain_woken;
   morphing = a.conditions.0 ∙ i.morphing;
   done = subst (λ b. FnReturnsAt g.F.Fn c.args.done c.in_ok-reply.reply b) c.if-accepts.false c.accepts.ensures;
@@ -78,7 +78,7 @@ pub returns-in_err-reply-clause-run : goal.returns-in_err-reply-clause-run
 returns-in_err-reply-clause-run g c = run_next c.tries.invariant.run c.apply.ensures.run
 
 pub returns-in_err-reply-clause-woken : goal.returns-in_err-reply-clause-woken
-returns-in_err-reply-clause-woken g c = looks_join c.args.pass.now.seat c.tries.pass.seat c.apply.new.pass.seat c.tries.invariant.woken (may_look c.tries.pass.seat c.apply.new.pass.seat c.apply.ensures.woken)
+returns-in_err-reply-clause-woken g c = polls_join c.args.pass.now.seat c.tries.pass.seat c.apply.new.pass.seat c.tries.invariant.woken (may_poll c.tries.pass.seat c.apply.new.pass.seat c.apply.ensures.woken)
 
 pub returns-in_err-reply-clause-plain_woken : goal.returns-in_err-reply-clause-plain_woken
 returns-in_err-reply-clause-plain_woken g c = subst (PlainSeatsWokenAsGranted (plain_seats_of c.args.pass.now)) (sym c.in_err-reply.ensures.conditions.1) c.tries.invariant.plain_woken
@@ -92,7 +92,7 @@ pub returns-in_err-_how-clause-run : goal.returns-in_err-_how-clause-run
 returns-in_err-_how-clause-run g c = run_next (run_next c.tries.invariant.run c.apply.ensures.run) c.wait_within.ensures.run
 
 pub returns-in_err-_how-clause-woken : goal.returns-in_err-_how-clause-woken
-returns-in_err-_how-clause-woken g c = looks_join c.args.pass.now.seat c.apply.new.pass.seat c.wait_within.new.pass.seat (looks_join c.args.pass.now.seat c.tries.pass.seat c.apply.new.pass.seat c.tries.invariant.woken (may_look c.tries.pass.seat c.apply.new.pass.seat c.apply.ensures.woken)) c.wait_within.ensures.woken
+returns-in_err-_how-clause-woken g c = polls_join c.args.pass.now.seat c.apply.new.pass.seat c.wait_within.new.pass.seat (polls_join c.args.pass.now.seat c.tries.pass.seat c.apply.new.pass.seat c.tries.invariant.woken (may_poll c.tries.pass.seat c.apply.new.pass.seat c.apply.ensures.woken)) c.wait_within.ensures.woken
 
 pub returns-in_err-_how-clause-plain_woken : goal.returns-in_err-_how-clause-plain_woken
 returns-in_err-_how-clause-plain_woken g c = let p = plain_seats_of c.args.pass.now in let q = plain_seats_of c.apply.new.pass in

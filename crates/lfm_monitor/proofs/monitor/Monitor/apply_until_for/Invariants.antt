@@ -1,6 +1,6 @@
 use Rattle.std.proofs.Common.{◌≡◌, ℕ}
 use Rattle.std.specs.Fn.{FnReturnsAt}
-use Rattle.lfm_monitor.specs.Belongs.{OfMonitor, PassLooksAndWakesAsGranted, PassRunGoesOnFrom, cond_seats_of, pass_sight, plain_seats_of}
+use Rattle.lfm_monitor.specs.Belongs.{OfMonitor, PassPollsAndWakesAsGranted, PassRunGoesOnFrom, cond_seats_of, pass_sight, plain_seats_of}
 use Rattle.lfm_monitor.specs.PlainSeats.{PlainSeatsWokenAsGranted}
 use Rattle.lfm_monitor.specs.TimedTries.{FailedTriesWithin}
 use Rattle.lfm_monitor.proofs.monitor.Monitor.apply_until_for.Given as goal
@@ -10,7 +10,7 @@ abbrev pub invariant-tries : goal.invariant-tries
 invariant-tries g l = record {
   belongs : OfMonitor l.pass l.self;
   run : PassRunGoesOnFrom l.fn.pass l.pass;
-  woken : PassLooksAndWakesAsGranted l.fn.pass l.pass;
+  woken : PassPollsAndWakesAsGranted l.fn.pass l.pass;
   plain_woken : PlainSeatsWokenAsGranted (plain_seats_of l.fn.pass) (plain_seats_of l.pass);
   morphing : cond_seats_of l.pass ≡ cond_seats_of l.fn.pass;
   depth : (pass_sight l.pass).depth ≡ (pass_sight l.fn.pass).depth;

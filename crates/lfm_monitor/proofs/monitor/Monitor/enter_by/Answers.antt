@@ -7,7 +7,7 @@ use Rattle.lfm_monitor.proofs.Asking.{again_began, enter_none, enter_refused, en
 use Rattle.lfm_monitor.proofs.Refusing.{same_began, same_kept}
 use Rattle.lfm_monitor.proofs.Knowing.{gained, may_all, room_left, arrived, again, of_next}
 use Rattle.lfm_mutex.specs.calls.WakeUps.{grants_of}
-use Rattle.lfm_mutex.proofs.runs.Woken.{looks_join, looks_none, may_look, woken_none}
+use Rattle.lfm_mutex.proofs.runs.Woken.{polls_join, polls_none, may_poll, woken_none}
 use Rattle.lfm_mutex.proofs.runs.RunGoesOn.{run_next, run_same}
 use Rattle.lfm_monitor.proofs.monitor.Monitor.enter_by.Goals as goal
 
@@ -128,7 +128,7 @@ overflow_add-pass g c = let p = c.args.pass.now in let m = c.args.self.now in le
     let room : p.mine < m.share = room_left m.share p.mine (λ h. c.if-lacks_entry.ensures.1 (gains.0, gains.1, h)) in omega arith
 
 pub returns-then-lacks_entry-clause-woken : goal.returns-then-lacks_entry-clause-woken
-returns-then-lacks_entry-clause-woken g c = looks_none c.args.pass.now.seat c.args.pass.now.seat refl refl
+returns-then-lacks_entry-clause-woken g c = polls_none c.args.pass.now.seat c.args.pass.now.seat refl refl
 
 pub returns-in_err-locked-clause-woken : goal.returns-in_err-locked-clause-woken
 returns-in_err-locked-clause-woken g c = c.lock_by.ensures.woken
@@ -137,4 +137,4 @@ pub returns-in-Again-clause-woken : goal.returns-in-Again-clause-woken
 returns-in-Again-clause-woken g c = c.lock_by.ensures.woken
 
 pub returns-clause-woken : goal.returns-clause-woken
-returns-clause-woken g c = let p = c.args.pass.now in looks_join p.seat c.lock_by.new.seat c.write_took.new.seat c.lock_by.ensures.woken (may_look c.lock_by.new.seat c.write_took.new.seat (woken_none c.lock_by.new.seat c.write_took.new.seat c.write_took.ensures.7 (ap (λ u. grants_of u.trail) c.write_took.ensures.3)))
+returns-clause-woken g c = let p = c.args.pass.now in polls_join p.seat c.lock_by.new.seat c.write_took.new.seat c.lock_by.ensures.woken (may_poll c.lock_by.new.seat c.write_took.new.seat (woken_none c.lock_by.new.seat c.write_took.new.seat c.write_took.ensures.7 (ap (λ u. grants_of u.trail) c.write_took.ensures.3)))

@@ -14,7 +14,7 @@ use Rattle.lfm_monitor.proofs.PlainReturning.{plain_barred, plain_refused, plain
 use Rattle.lfm_monitor.proofs.Returning.{returned}
 use Rattle.lfm_monitor.proofs.UsedPlainConditions.{as_plain_told, at_plain_place, plain_woken_none, plain_woken_one, still_of_plain_conditions}
 use Rattle.lfm_mutex.specs.calls.WakeUps.{grants_of}
-use Rattle.lfm_mutex.proofs.runs.Woken.{looks_join, looks_none, may_look, woken_none}
+use Rattle.lfm_mutex.proofs.runs.Woken.{polls_join, polls_none, may_poll, woken_none}
 use Rattle.lfm_mutex.proofs.runs.RunGoesOn.{run_next, run_same}
 use Rattle.lfm_monitor.proofs.monitor.Monitor.wait_until_notified.Goals as goal
 
@@ -71,7 +71,7 @@ returns g c = let p = c.args.pass.now in let m = c.args.self.now in let k = c.in
       );
       number = back.waits.2;
       run = run_next e.run w.8;
-      woken = looks_join p.seat c.wait_with_how.new.seat c.write_took.new.seat e.woken (may_look c.wait_with_how.new.seat c.write_took.new.seat (woken_none c.wait_with_how.new.seat c.write_took.new.seat w.7 (ap (λ u. grants_of u.trail) w.3)));
+      woken = polls_join p.seat c.wait_with_how.new.seat c.write_took.new.seat e.woken (may_poll c.wait_with_how.new.seat c.write_took.new.seat (woken_none c.wait_with_how.new.seat c.write_took.new.seat w.7 (ap (λ u. grants_of u.trail) w.3)));
       plain_woken = plain_woken_one (plain_seats_of p) k x y a.seat e.cond_woken;
       morphing = refl;
       waits = (c.in_default.ensures, (k, x, y, c.in-Some-plain_index_of.ensures.0, a.seat, refl, (e.notifies, (t, ends, (w.0, w.1, w.2, w.3, w.4, w.5)))));
@@ -83,7 +83,7 @@ returns-in-Some g c = let p = c.args.pass.now in let m = c.args.self.now in reco
   belongs = c.requires.belongs;
   number = refl;
   run = run_same;
-  woken = looks_none p.seat p.seat refl refl;
+  woken = polls_none p.seat p.seat refl refl;
   plain_woken = plain_woken_none (plain_seats_of p) (plain_seats_of p) refl;
   morphing = refl;
   waits = plain_barred (condition_limits (passes_of m)) 1 (tries_in m) (share_of m) (plain_conditions_of m) c.args.condition (plain_seats_of p) (sight p.seat) p.mine _ c.in-Some.ensures;
@@ -95,7 +95,7 @@ returns-in_default-plain_index_of g c = let p = c.args.pass.now in record {
   belongs = c.requires.belongs;
   number = refl;
   run = run_same;
-  woken = looks_none p.seat p.seat refl refl;
+  woken = polls_none p.seat p.seat refl refl;
   plain_woken = plain_woken_none (plain_seats_of p) (plain_seats_of p) refl;
   morphing = refl;
   waits = (c.in_default.ensures, c.in_default-plain_index_of.ensures, refl, refl);

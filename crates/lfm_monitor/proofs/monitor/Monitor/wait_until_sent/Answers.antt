@@ -14,7 +14,7 @@ use Rattle.lfm_monitor.proofs.Knowing.{may_all, may_leave, of_next, some_of}
 use Rattle.lfm_monitor.proofs.Returning.{refused, returned, wait_refused, waited}
 use Rattle.lfm_monitor.proofs.UsedConditions.{as_told, at_place, conds_woken_none, conds_woken_one, still_of_conditions}
 use Rattle.lfm_mutex.specs.calls.WakeUps.{grants_of}
-use Rattle.lfm_mutex.proofs.runs.Woken.{looks_join, looks_none, may_look, woken_none}
+use Rattle.lfm_mutex.proofs.runs.Woken.{polls_join, polls_none, may_poll, woken_none}
 use Rattle.lfm_mutex.proofs.runs.RunGoesOn.{run_next, run_same}
 use Rattle.lfm_monitor.proofs.monitor.Monitor.wait_until_sent.Goals as goal
 
@@ -70,7 +70,7 @@ returns g c = let p = c.args.pass.now in let m = c.args.self.now in let k = c.in
       belongs = (of_next m.mutex c.wait.new.seat c.write_took.new.seat (of_next m.mutex p.seat c.wait.new.seat c.requires.belongs.0 e.belongs.1) w.6, back.of, record { morphing = still_of_conditions (cond_seats_of p) (conditions_in m) k y v c.requires.belongs.2.morphing a.condition e.belongs.0; plain = c.requires.belongs.2.plain });
       number = back.waits.2;
       run = run_next e.run w.8;
-      woken = looks_join p.seat c.wait.new.seat c.write_took.new.seat e.woken (may_look c.wait.new.seat c.write_took.new.seat (woken_none c.wait.new.seat c.write_took.new.seat w.7 (ap (λ u. grants_of u.trail) w.3)));
+      woken = polls_join p.seat c.wait.new.seat c.write_took.new.seat e.woken (may_poll c.wait.new.seat c.write_took.new.seat (woken_none c.wait.new.seat c.write_took.new.seat w.7 (ap (λ u. grants_of u.trail) w.3)));
       plain = refl;
       cond_woken = conds_woken_one (cond_seats_of p) k x y a.seat e.cond_woken;
       waits = (c.in_default.ensures, (k, x, y, c.in-Some-index_of.ensures.0, a.seat, refl, (t, ends, (w.0, w.1, w.2, w.3, w.4, w.5))));
@@ -82,7 +82,7 @@ returns-in-Some g c = let p = c.args.pass.now in let m = c.args.self.now in reco
   belongs = c.requires.belongs;
   number = refl;
   run = run_same;
-  woken = looks_none c.args.pass.now.seat c.args.pass.now.seat refl refl;
+  woken = polls_none c.args.pass.now.seat c.args.pass.now.seat refl refl;
   plain = refl;
   cond_woken = conds_woken_none (cond_seats_of p) (cond_seats_of p) refl;
   waits = barred (mutex_limits m) (condition_limits (passes_of m)) (tries_in m) (share_of m) (conditions_of m) c.args.condition (cond_seats_of p) (sight p.seat) p.mine _ c.in-Some.ensures;
@@ -90,7 +90,7 @@ returns-in-Some g c = let p = c.args.pass.now in let m = c.args.self.now in reco
 }
 
 pub returns-in_default-index_of : goal.returns-in_default-index_of
-returns-in_default-index_of g c = record { belongs = c.requires.belongs; number = refl; run = run_same; woken = looks_none c.args.pass.now.seat c.args.pass.now.seat refl refl; plain = refl; cond_woken = conds_woken_none (cond_seats_of c.args.pass.now) (cond_seats_of c.args.pass.now) refl; waits = (c.in_default.ensures, c.in_default-index_of.ensures, refl, refl); returns = (refl, refl, refl) }
+returns-in_default-index_of g c = record { belongs = c.requires.belongs; number = refl; run = run_same; woken = polls_none c.args.pass.now.seat c.args.pass.now.seat refl refl; plain = refl; cond_woken = conds_woken_none (cond_seats_of c.args.pass.now) (cond_seats_of c.args.pass.now) refl; waits = (c.in_default.ensures, c.in_default-index_of.ensures, refl, refl); returns = (refl, refl, refl) }
 
 pub invariant_of-pass : goal.invariant_of-pass
 invariant_of-pass g c = let p = c.args.pass.now in let m = c.args.self.now in let s = sight p.seat in let t = sight c.wait.new.seat in record {

@@ -1,6 +1,6 @@
 use Rattle.std.proofs.Common.{rules, ◌≡◌, Err, inl, inr}
 use Rattle.lfm_mutex.specs.calls.Sight.{sight}
-use Rattle.lfm_mutex.proofs.runs.Woken.{looks_join, may_look}
+use Rattle.lfm_mutex.proofs.runs.Woken.{polls_join, may_poll}
 use Rattle.lfm_table.proofs.tables.Actions.{run_next}
 use Rattle.lfm_mutex.proofs.mutex.Mutex.lock.Goals as goal
 
@@ -20,7 +20,7 @@ pub returns-in-Again-clause-locks : goal.returns-in-Again-clause-locks
 returns-in-Again-clause-locks g c = rw c.in-Again.is at c.in_ok-how.ensures.asks
 
 pub returns-in_ok-how-in-Asleep-clause-woken : goal.returns-in_ok-how-in-Asleep-clause-woken
-returns-in_ok-how-in-Asleep-clause-woken g c = looks_join c.args.seat.now c.ask.new.seat c.receive_lock.new.seat (may_look c.args.seat.now c.ask.new.seat c.ask.ensures.woken) c.receive_lock.ensures.woken
+returns-in_ok-how-in-Asleep-clause-woken g c = polls_join c.args.seat.now c.ask.new.seat c.receive_lock.new.seat (may_poll c.args.seat.now c.ask.new.seat c.ask.ensures.woken) c.receive_lock.ensures.woken
 
 pub returns-in_ok-how-in-Asleep-clause-run : goal.returns-in_ok-how-in-Asleep-clause-run
 returns-in_ok-how-in-Asleep-clause-run g c = run_next c.ask.ensures.run c.receive_lock.ensures.run

@@ -15,7 +15,7 @@ pub naps-preserved : goal.naps-preserved
 naps-preserved g c = record {
   belongs = search rules;
   beside = search rules;
-  woken = ap (λ (o : OffTrail). o.woken) c.try_if_free.ensures.woken ∙ (c.later_count-count.ensures ∙ (ap (λ (o : OffTrail). o.woken) c.look_at_count-found.ensures ∙ c.naps.invariant.woken));
+  woken = ap (λ (o : OffTrail). o.woken) c.try_if_free.ensures.woken ∙ (c.later_count-count.ensures ∙ (ap (λ (o : OffTrail). o.woken) c.poll_count-found.ensures ∙ c.naps.invariant.woken));
   run = run_next c.naps.invariant.run c.try_if_free.ensures.run;
   wake = search rules;
   tries = tries_join c.args.self.now.limits c.naps.made 1 (sight c.args.seat.now) (sight c.naps.seat) (sight c.try_if_free.new.seat) None c.naps.invariant.tries c.in-None.ensures.tries;

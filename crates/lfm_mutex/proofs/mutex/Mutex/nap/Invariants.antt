@@ -2,14 +2,14 @@ use Rattle.std.proofs.Common.{◌≡◌, ◌<◌, None}
 use Rattle.lfm_mutex.specs.calls.Barging.{TriesBy}
 use Rattle.lfm_mutex.specs.calls.RunGoesOn.{RunGoesOnFrom}
 use Rattle.lfm_mutex.specs.calls.Sight.{sight}
-use Rattle.lfm_mutex.specs.calls.Woken.{LooksAndWakesNobody}
+use Rattle.lfm_mutex.specs.calls.Woken.{PollsAndWakesNobody}
 use Rattle.lfm_mutex.proofs.mutex.Mutex.nap.Given as goal
 
 abbrev pub invariant-naps : goal.invariant-naps
 invariant-naps g l = record {
   belongs : (l.seat.table_seat.place.table_id ≡ l.self.table.table_id) × (l.seat.table_seat.limits ≡ l.self.limits);
   beside : (l.seat.table_seat.place.table_id ≡ l.fn.seat.table_seat.place.table_id) × (l.seat.table_seat.limits ≡ l.fn.seat.table_seat.limits);
-  woken : LooksAndWakesNobody l.fn.seat l.seat;
+  woken : PollsAndWakesNobody l.fn.seat l.seat;
   run : RunGoesOnFrom l.fn.seat l.seat;
   tries : TriesBy l.self.limits l.made (sight l.fn.seat) (sight l.seat) None;
   wake : l.wake < l.self.table.table_id.words;

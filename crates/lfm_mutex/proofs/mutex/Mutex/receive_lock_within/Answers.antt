@@ -5,18 +5,18 @@ use Rattle.lfm_protocol.specs.declared.answers.Why.{Why}
 use Rattle.lfm_mutex.specs.calls.Sight.{Sight, sight, Receives}
 use Rattle.lfm_mutex.specs.calls.Trails.{Makes}
 use Rattle.lfm_mutex.proofs.runs.MadeCalls.{finds_none_more, refused_receive, first_receive}
-use Rattle.lfm_mutex.proofs.runs.Woken.{looks_join, looks_none, may_look}
+use Rattle.lfm_mutex.proofs.runs.Woken.{polls_join, polls_none, may_poll}
 use Rattle.lfm_table.proofs.tables.Actions.{run_next, run_same}
 use Rattle.lfm_mutex.proofs.mutex.Mutex.receive_lock_within.Goals as goal
 
 pub loop-init : goal.loop-init
-loop-init g c = record { belongs = search rules; beside = search rules; woken = looks_none c.args.seat.now c.args.seat.now refl refl; run = run_same; seen = refl; received = ([], refl); first = inl refl; wake = search rules }
+loop-init g c = record { belongs = search rules; beside = search rules; woken = polls_none c.args.seat.now c.args.seat.now refl refl; run = run_same; seen = refl; received = ([], refl); first = inl refl; wake = search rules }
 
 pub loop-preserved : goal.loop-preserved
 loop-preserved g c = let i = c.loop.invariant in let s = c.try_receive.new.seat in
     let told = rw c.in-Ok-None.field-0-is at c.in-Ok-None.ensures.receives in
     let made = rw c.in-Ok-None.field-0-is at c.in-Ok-None.ensures.steps in
-    let woken = looks_join c.args.seat.now c.loop.seat s i.woken (may_look c.loop.seat s c.try_receive.ensures.woken) in
+    let woken = polls_join c.args.seat.now c.loop.seat s i.woken (may_poll c.loop.seat s c.try_receive.ensures.woken) in
     record {
       belongs = search rules;
       beside = search rules;
@@ -42,10 +42,10 @@ pub returns-in-Ok-Some-clause-steps : goal.returns-in-Ok-Some-clause-steps
 returns-in-Ok-Some-clause-steps g c = let i = c.loop.invariant in (i.received.0, sight c.loop.seat, i.received.1, rw c.in-Ok-Some.field-0-is at c.in-Ok-Some.ensures.steps)
 
 pub returns-in-Err-clause-woken : goal.returns-in-Err-clause-woken
-returns-in-Err-clause-woken g c = looks_join c.args.seat.now c.loop.seat c.try_receive.new.seat c.loop.invariant.woken (may_look c.loop.seat c.try_receive.new.seat c.try_receive.ensures.woken)
+returns-in-Err-clause-woken g c = polls_join c.args.seat.now c.loop.seat c.try_receive.new.seat c.loop.invariant.woken (may_poll c.loop.seat c.try_receive.new.seat c.try_receive.ensures.woken)
 
 pub returns-in-Ok-Some-clause-woken : goal.returns-in-Ok-Some-clause-woken
-returns-in-Ok-Some-clause-woken g c = looks_join c.args.seat.now c.loop.seat c.try_receive.new.seat c.loop.invariant.woken (may_look c.loop.seat c.try_receive.new.seat c.try_receive.ensures.woken)
+returns-in-Ok-Some-clause-woken g c = polls_join c.args.seat.now c.loop.seat c.try_receive.new.seat c.loop.invariant.woken (may_poll c.loop.seat c.try_receive.new.seat c.try_receive.ensures.woken)
 
 pub returns-in-Err-clause-run : goal.returns-in-Err-clause-run
 returns-in-Err-clause-run g c = run_next c.loop.invariant.run c.try_receive.ensures.run

@@ -15,7 +15,7 @@ pub spins-preserved : goal.spins-preserved
 spins-preserved g c = let after = c.spins.invariant.after_the_first.0 in let below = c.spins-test.true in let l = c.args.self.now.limits in let s = sight c.args.seat.now in let t = sight c.try_if_free.new.seat in record {
   belongs = search rules;
   beside = search rules;
-  woken = ap (λ (o : OffTrail). o.woken) (c.try_if_free.ensures.woken ∙ c.look_at_count-count.ensures) ∙ c.spins.invariant.woken;
+  woken = ap (λ (o : OffTrail). o.woken) (c.try_if_free.ensures.woken ∙ c.poll_count-count.ensures) ∙ c.spins.invariant.woken;
   run = run_next c.spins.invariant.run c.try_if_free.ensures.run;
   after_the_first = (omega arith, omega arith);
   tries = tries_fewer l (c.spins.made - 1 + 1) (c.spins.made + 1 - 1) s t None (omega arith) (tries_join l (c.spins.made - 1) 1 s (sight c.spins.seat) t None c.spins.invariant.tries c.in-None.ensures.tries);

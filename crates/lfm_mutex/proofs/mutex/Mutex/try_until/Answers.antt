@@ -16,7 +16,7 @@ pub tries-preserved : goal.tries-preserved
 tries-preserved g c = let made = c.tries.invariant.made in record {
   belongs = search rules;
   beside = search rules;
-  woken = ap (λ (o : OffTrail). o.woken) (c.try_if_free.ensures.woken ∙ c.look_at_count-count.ensures) ∙ c.tries.invariant.woken;
+  woken = ap (λ (o : OffTrail). o.woken) (c.try_if_free.ensures.woken ∙ c.poll_count-count.ensures) ∙ c.tries.invariant.woken;
   run = run_next c.tries.invariant.run c.try_if_free.ensures.run;
   wake = search rules;
   made = (made.0 + 1, tries_join c.args.self.now.limits made.0 1 (sight c.args.seat.now) (sight c.tries.seat) (sight c.try_if_free.new.seat) None made.1 c.in-None-try_if_free.ensures.tries);

@@ -4,7 +4,7 @@ use Rattle.lfm_mutex.specs.calls.Sections.{UnlocksSo, with_value}
 use Rattle.lfm_mutex.specs.calls.Sight.{MayRelease, sight}
 use Rattle.lfm_mutex.proofs.SectionEnds.{stands_after_lock, holds_after_lock}
 use Rattle.lfm_mutex.specs.calls.WakeUps.{grants_of}
-use Rattle.lfm_mutex.proofs.runs.Woken.{looks_join, may_look, woken_join, woken_none}
+use Rattle.lfm_mutex.proofs.runs.Woken.{polls_join, may_poll, woken_join, woken_none}
 use Rattle.lfm_table.proofs.tables.Actions.{run_next}
 use Rattle.lfm_mutex.proofs.mutex.Mutex.with.Goals as goal
 
@@ -39,7 +39,7 @@ returns-clause-same g c = stands_after_lock g.T.Kept.follows g.T.Kept.fits (limi
 
 pub returns-clause-woken : goal.returns-clause-woken
 returns-clause-woken g c = let f = c.lock_barging.new.seat in let k = c.change-answer in
-    looks_join c.args.seat.now f c.unlock.new.seat c.lock_barging.ensures.woken (may_look f c.unlock.new.seat (woken_join f k.new.seat c.unlock.new.seat (woken_none f k.new.seat k.ensures.acts.woken (ap (λ s. grants_of s.trail) k.ensures.changes.4)) c.unlock.ensures.woken))
+    polls_join c.args.seat.now f c.unlock.new.seat c.lock_barging.ensures.woken (may_poll f c.unlock.new.seat (woken_join f k.new.seat c.unlock.new.seat (woken_none f k.new.seat k.ensures.acts.woken (ap (λ s. grants_of s.trail) k.ensures.changes.4)) c.unlock.ensures.woken))
 
 pub returns-clause-run : goal.returns-clause-run
 returns-clause-run g c = run_next c.lock_barging.ensures.run (run_next c.change-answer.ensures.acts.run c.unlock.ensures.run)

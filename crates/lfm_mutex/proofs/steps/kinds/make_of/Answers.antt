@@ -4,7 +4,7 @@ use Rattle.lfm_protocol.specs.declared.limits.Limits.{Limits}
 use Rattle.lfm_laws.specs.table.Carried.{carries_value}
 use Rattle.lfm_laws.specs.table.Words.{stepped_by}
 use Rattle.lfm_table.specs.Rule.{value_in, is_carried}
-use Rattle.lfm_table.specs.FastPath.{Fit, SeatFits}
+use Rattle.lfm_table.specs.FastPath.{Fit, IsBetweenSteps}
 use Rattle.lfm_table.specs.Steps.{kept_out, put_in, with_record, CanMake, Took}
 use Rattle.lfm_table.proofs.tables.SeatKept.{can_make, slot_there, made_next}
 use Rattle.lfm_table.proofs.tables.FastPathSteps.{same_then}
@@ -38,7 +38,7 @@ invariant_of-seat g c = let s = c.args.seat.now in let p = c.prepare in let m = 
     in
     let t = ap (λ t. t.words) (e.ensures.table.0 ∙ (m.ensures.table.0 ∙ p.ensures.table.0)) in
     let d = e.ensures.table.1 ∙ (m.ensures.table.1 ∙ p.ensures.table.1) in
-    let fit : SeatFits e.new.seat c.advance-turn.new.state = subst (λ (z : ℕ × ℕ × ℕ × Limits). Fit z.2 z.0 z.1 z.3 c.advance-turn.new.state e.new.seat.place.me e.new.seat.moving) (λ i. (sym t i, sym d i, sym all.0 i, sym all.1 i))
+    let fit : IsBetweenSteps e.new.seat c.advance-turn.new.state = subst (λ (z : ℕ × ℕ × ℕ × Limits). Fit z.2 z.0 z.1 z.3 c.advance-turn.new.state e.new.seat.place.me e.new.seat.moving) (λ i. (sym t i, sym d i, sym all.0 i, sym all.1 i))
     (record {
       seated = next.seated;
       became = next.became_now;

@@ -1,4 +1,4 @@
--- `new` makes a value of no bytes, for nobody woken and no look.
+-- `new` makes a value of no bytes, for nobody woken and no poll.
 use mathlib.Core.Path.{refl}
 use Rattle.lfm_table.specs.declared.shared_table.off_trail.OffTrail.{OffTrail}
 use mathlib.Core.List.{[], ◌∷◌}
@@ -29,7 +29,7 @@ use Rattle.lfm_table.proofs.shared_table.off_trail.OffTrail.new.Code as code
 use Rattle.lfm_table.specs.contracts.shared_table.off_trail.OffTrail as made
 
 abbrev none : OffTrail
-none = record { seal = tt; woken = []; looks = 0 }
+none = record { seal = tt; woken = []; polls = 0 }
 
 abbrev stayed : Stays (f.ended).signature.params (f.ended).kept
 stayed = tt

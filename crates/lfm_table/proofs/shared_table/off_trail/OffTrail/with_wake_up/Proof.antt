@@ -52,7 +52,7 @@ module _ {M : Type 1} {𝓤 : Ura M} (𝓛 : Logic 𝓤) (mem : Memory → SProp
     made = vstruct (vcons vunit vnil)
 
     abbrev longer : OffTrail
-    longer = record { seal = tt; woken = a.0.now.woken ++ a.1.0.now ∷ []; looks = a.0.now.looks }
+    longer = record { seal = tt; woken = a.0.now.woken ++ a.1.0.now ∷ []; polls = a.0.now.polls }
 
     abbrev bound : (walk_of 𝓛 f.ended stayed (f.clauses 𝓛 mem run)).Ghost
     bound = ((κs, qs, tt, a, (before ∷ [], (named_by ∷ [], tt))), tt)

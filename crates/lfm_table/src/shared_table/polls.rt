@@ -1,5 +1,5 @@
-//! Loads of a word outside the steps of a call. A *look* is a load from which no proof learns anything, and it is in no trail.
-//! Each adds itself to the looks that its `OffTrail` counts. The load of `read_owner` is in its seat's trail.
+//! Loads of a word outside the steps of a call. A *poll* is a load from which no proof learns anything, and it is in no trail.
+//! Each adds itself to the polls that its `OffTrail` counts. The load of `read_owner` is in its seat's trail.
 ghost use Rattle.std.specs.Prelude.{◌≡◌, ◌+◌, ◌<◌};
 ghost use Rattle.atomic_table.specs.Table.{Allows};
 ghost use Rattle.lfm_table.specs.Rule.{Held, ReadsOwner};
@@ -11,41 +11,41 @@ use crate::shared_table::off_trail::OffTrail;
 use crate::shared_table::{AtomicSeat, SharedTable};
 
 impl<T: Kept> SharedTable<T> {
-    /// Looks at this word.
+    /// Polls this word.
     #[inline(always)]
-    fn look(&self, word: usize, off_trail: &mut OffTrail) -> u64
+    fn poll(&self, word: usize, off_trail: &mut OffTrail) -> u64
         requires { word < self.now.table_id.words }
-        ensures { off_trail.new ≡ record off_trail.old { looks = off_trail.old.looks + 1 } }
+        ensures { off_trail.new ≡ record off_trail.old { polls = off_trail.old.polls + 1 } }
     {
-        *off_trail = OffTrail::with_look(off_trail);
+        *off_trail = OffTrail::with_poll(off_trail);
         self.peek(word)
     }
 
-    /// Looks at the count.
+    /// Polls the count.
     #[inline(always)]
-    pub fn look_at_count(&self, off_trail: &mut OffTrail) -> u64
+    pub fn poll_count(&self, off_trail: &mut OffTrail) -> u64
         requires { 0 < self.now.table_id.words }
-        ensures { off_trail.new ≡ record off_trail.old { looks = off_trail.old.looks + 1 } }
+        ensures { off_trail.new ≡ record off_trail.old { polls = off_trail.old.polls + 1 } }
     {
-        self.look(COUNT, off_trail)
+        self.poll(COUNT, off_trail)
     }
 
-    /// Looks at the owner word.
+    /// Polls the owner word.
     #[inline(always)]
-    pub fn look_at_owner(&self, off_trail: &mut OffTrail) -> u64
+    pub fn poll_owner(&self, off_trail: &mut OffTrail) -> u64
         requires { 1 < self.now.table_id.words }
-        ensures { off_trail.new ≡ record off_trail.old { looks = off_trail.old.looks + 1 } }
+        ensures { off_trail.new ≡ record off_trail.old { polls = off_trail.old.polls + 1 } }
     {
-        self.look(OWNER, off_trail)
+        self.poll(OWNER, off_trail)
     }
 
-    /// Looks at this wake word.
+    /// Polls this wake word.
     #[inline(always)]
-    pub fn look_at_wake(&self, word: usize, off_trail: &mut OffTrail) -> u64
+    pub fn poll_wake(&self, word: usize, off_trail: &mut OffTrail) -> u64
         requires { word < self.now.table_id.words }
-        ensures { off_trail.new ≡ record off_trail.old { looks = off_trail.old.looks + 1 } }
+        ensures { off_trail.new ≡ record off_trail.old { polls = off_trail.old.polls + 1 } }
     {
-        self.look(word, off_trail)
+        self.poll(word, off_trail)
     }
 
     /// Loads the owner word.

@@ -1,4 +1,4 @@
--- `with_look` makes a value of no bytes, for one look more.
+-- `with_poll` makes a value of no bytes, for one poll more.
 use mathlib.Core.Path.{refl}
 use mathlib.Core.List.{[], ◌∷◌}
 use Rattle.std.specs.Prelude.{◌+◌}
@@ -29,10 +29,10 @@ use denote.Triple.Spec.{Meets, triple_of}
 use denote.Triple.Table.{entered}
 use denote.Triple.Walked.{says, stay_none_ref, Stays, walk_of, Walks, ends_at, walked, Goes-none_ref, walk_Meets}
 use Rattle.lfm_table.specs.declared.shared_table.off_trail.OffTrail.{OffTrail}
-use Rattle.lfm_table.specs.contracts.shared_table.off_trail.OffTrail.with_look.Key.{name as key}
-use Rattle.lfm_table.specs.contracts.shared_table.off_trail.OffTrail.with_look as f
-use Rattle.lfm_table.proofs.shared_table.off_trail.OffTrail.with_look.Statement as stated
-use Rattle.lfm_table.proofs.shared_table.off_trail.OffTrail.with_look.Code as code
+use Rattle.lfm_table.specs.contracts.shared_table.off_trail.OffTrail.with_poll.Key.{name as key}
+use Rattle.lfm_table.specs.contracts.shared_table.off_trail.OffTrail.with_poll as f
+use Rattle.lfm_table.proofs.shared_table.off_trail.OffTrail.with_poll.Statement as stated
+use Rattle.lfm_table.proofs.shared_table.off_trail.OffTrail.with_poll.Code as code
 use Rattle.lfm_table.specs.contracts.shared_table.off_trail.OffTrail as off_trail
 
 abbrev stayed : Stays (f.ended).signature.params (f.ended).kept
@@ -49,7 +49,7 @@ module _ {M : Type 1} {𝓤 : Ura M} (𝓛 : Logic 𝓤) (mem : Memory → SProp
     made = vstruct (vcons vunit vnil)
 
     abbrev more : OffTrail
-    more = record { seal = tt; woken = a.0.now.woken; looks = a.0.now.looks + 1 }
+    more = record { seal = tt; woken = a.0.now.woken; polls = a.0.now.polls + 1 }
 
     abbrev bound : (walk_of 𝓛 f.ended stayed (f.clauses 𝓛 mem run)).Ghost
     bound = ((κs, qs, tt, a, (before ∷ [], tt)), tt)
@@ -79,9 +79,9 @@ meets {𝓤 = 𝓤} 𝓛 mem run 𝓣 =
     walk_Meets 𝓛 f.ended stayed (Goes-none_ref 𝓛 1 (0 ∷ []) tt (plain (λ _. off_trail.the_row)) yes, tt) (f.clauses 𝓛 mem run) (WpFn 𝓤 𝓛.H 𝓣.C 𝓣.Λ code.function)
     (WpFn-mono 𝓤 𝓛.H 𝓛.laws 𝓣 code.function) (walks 𝓛 mem run 𝓣.C 𝓣.Λ)
 
-pub with_look_spec : {M : Type 1} → stated.statement M
+pub with_poll_spec : {M : Type 1} → stated.statement M
 unfolding tables_of
-with_look_spec 𝓤 𝓛 𝓜 𝓡 wired =
+with_poll_spec 𝓤 𝓛 𝓜 𝓡 wired =
     entered 𝓤 𝓛.H (triple_of 𝓛 f.signature (f.spec 𝓛 𝓜.mem 𝓡.returns))
     (tables 𝓤 𝓛.H 𝓜 𝓡 𝓡.env).C (tables 𝓤 𝓛.H 𝓜 𝓡 𝓡.env).Λ key code.function (code.unfolded 𝓤 𝓛.H 𝓜 𝓡 wired)
     (meets 𝓛 𝓜.mem 𝓡.returns (tables_of 𝓤 𝓛.H 𝓜 (tables 𝓤 𝓛.H 𝓜 𝓡 𝓡.env)))

@@ -1,6 +1,6 @@
 //! The mutex: its words, its limits and its pace. Its calls are in the files `open` (`new`), `lock` (`lock`, `ask`), `barging`,
 //! `try_lock`, `unlock`, `receive`, `wait` (`start_wait`), `send` (`send_lock`), `wake`, `owner`, `sections` (`with`,
-//! `try_with`), `rounds` (`run`) and `close`.
+//! `with_in_order`, `try_with`), `rounds` (`run`) and `close`.
 ghost use Rattle.std.specs.Prelude.{◌≡◌, ◌+◌, ◌*◌, ◌<◌, ◌≤◌};
 ghost use Rattle.lfm_protocol.specs.Limits.{max_seats};
 

@@ -3,7 +3,7 @@ ghost use Rattle.std.specs.Prelude.{◌+◌, ◌<◌};
 ghost use Rattle.std.specs.Fn.{FnOnceReturnsAtMut};
 ghost use Rattle.lfm_mutex.specs.Belongs.{Beside, OfMutex, limits_of};
 ghost use Rattle.lfm_mutex.specs.calls.RunGoesOn.{RunGoesOnFrom};
-ghost use Rattle.lfm_mutex.specs.calls.Sections.{SectionEnds, SectionKeeps, StandsAs, Changes, BargesFrom, TriesFrom};
+ghost use Rattle.lfm_mutex.specs.calls.Sections.{SectionEnds, SectionKeeps, StandsAs, Changes, LocksFrom, BargesFrom, TriesFrom};
 ghost use Rattle.lfm_mutex.specs.calls.Sight.{sight};
 ghost use Rattle.lfm_mutex.specs.calls.Trails.{MakesAtMost};
 ghost use Rattle.lfm_mutex.specs.calls.Woken.{PollsAndWakesAsGranted, WakesNobody, WokenAsGranted};
@@ -46,6 +46,44 @@ impl<T: Kept> Mutex<T> {
         ensures same { StandsAs (sight seat.old) (sight seat.new) }
     {
         let _locked = self.lock_barging(rt, seat)?;
+        let answer = change(seat, f);
+        match self.unlock(seat) {
+            Ok(_) => Ok(answer),
+            Err(_) => unreachable!(),
+        }
+    }
+
+    /// `with` by `lock` in place of `lock_barging`: if the mutex is taken, the seat queues at once, without a try. Queued
+    /// seats are served in the order in which they queued. Returns what the closure returned, and the seat holds as often as
+    /// before. The value that the closure leaves has to follow the one that was found, and to suit the mutex, as in `with`.
+    ///
+    /// Refuses as `lock`: Asleep, DepthFull, Spent, in this order. Then the closure is not called, and nothing has changed.
+    /// It sleeps and wakes as `lock` and `unlock` do, and allocates nothing.
+    ///
+    /// ```
+    /// let ticket = mutex.with_in_order(&rt, &mut seat, |next| {
+    ///     let ticket = *next;
+    ///     *next = next.wrapping_add(1);
+    ///     ticket
+    /// })?;
+    /// ```
+    #[inline(always)]
+    pub fn with_in_order<U, R: Wait, F: FnOnce(&mut T) -> U>(
+        &self,
+        rt: &R,
+        seat: &mut Seat<T>,
+        f: F,
+    ) -> Result<U, Refusal>
+        requires belongs { OfMutex seat.old self.now }
+        requires callable { F.IsAlwaysCallable f }
+        requires keeps { SectionKeeps T.follows T.fits (limits_of self.now) (LocksFrom T.follows T.fits self.now seat.old) (FnOnceReturnsAtMut F.FnOnce f) }
+        ensures belongs { Beside seat.old seat.new }
+        ensures woken { PollsAndWakesAsGranted seat.old seat.new }
+        ensures run { RunGoesOnFrom seat.old seat.new }
+        ensures section { SectionEnds T.follows T.fits (limits_of self.now) (LocksFrom T.follows T.fits self.now seat.old) (FnOnceReturnsAtMut F.FnOnce f) (sight seat.new) result }
+        ensures same { StandsAs (sight seat.old) (sight seat.new) }
+    {
+        let _locked = self.lock(rt, seat)?;
         let answer = change(seat, f);
         match self.unlock(seat) {
             Ok(_) => Ok(answer),

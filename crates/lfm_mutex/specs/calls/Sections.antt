@@ -67,7 +67,10 @@ module _ {T : Type 0} (follows : ℕ → T → T → Type 0) (fits : T → ℕ �
     SectionEnds t (Ok u) = Section t u
     SectionEnds t (Err r) = locks t (Err r)
 
--- `BargesSo` and `TriesSo`, for a seat of a mutex
+-- `LocksSo`, `BargesSo` and `TriesSo`, for a seat of a mutex
+
+abbrev pub LocksFrom : {T : Type 0} → (ℕ → T → T → Type 0) → (T → ℕ → Type 0) → Mutex T → Seat T → Sight T → Result Locked Refusal → Type 0
+LocksFrom follows fits m s t r = LocksSo follows fits (limits_of m) (sight s) t r
 
 abbrev pub BargesFrom : {T : Type 0} → (ℕ → T → T → Type 0) → (T → ℕ → Type 0) → Mutex T → Seat T → Sight T → Result Locked Refusal → Type 0
 BargesFrom follows fits m s t r = BargesSo follows fits (limits_of m) (tries_of m) (sight s) t r

@@ -1,7 +1,7 @@
 //! Sections of one thread: what they answer and leave, early returns, refusals, and nested sections.
 use crate::running::seats::{alone, closed, closed_alone, pair};
 use crate::seeing::sees;
-use lfm_model::{How, Locked, Refusal, Unlocked};
+use lfm_model::{Asked, How, Locked, Refusal, Unlocked};
 use std::test::Fail;
 
 #[test]
@@ -80,6 +80,56 @@ fn section_of_a_holder_deepens_its_hold(rt: HostRuntime) -> Result<(), Fail> {
     sees(&rt, "the unlock", &unlocked, &Ok(Unlocked::Free));
     let value = closed_alone(mutex, seat, Vec::new(rt.alloc()));
     sees(&rt, "the value", &value, &Some(6));
+    Ok(())
+}
+
+#[test]
+fn section_in_order_answers_and_leaves(rt: HostRuntime) -> Result<(), Fail> {
+    let (mutex, mut first, mut second) = pair(rt.alloc())?;
+    let sum = mutex.with_in_order(&rt, &mut first, |total| {
+        *total = total.wrapping_add(5);
+        *total
+    });
+    sees(&rt, "the answer", &sum, &Ok(5));
+    sees(&rt, "the depth", &first.depth(), &0);
+    sees(&rt, "the takes", &first.takes(), &1);
+    let found = mutex.with_in_order(&rt, &mut second, |total| *total);
+    sees(&rt, "what the other seat found", &found, &Ok(5));
+    sees(&rt, "the other seat's depth", &second.depth(), &0);
+    let value = closed(mutex, first, second, Vec::new(rt.alloc()));
+    sees(&rt, "the value", &value, &Some(5));
+    Ok(())
+}
+
+#[test]
+fn section_in_order_of_a_sleeper_calls_nothing(rt: HostRuntime) -> Result<(), Fail> {
+    let (mutex, mut first, mut second) = pair(rt.alloc())?;
+    let lock = mutex.lock(&rt, &mut first);
+    sees(&rt, "the lock", &lock, &Ok(Locked::Held(How::Free)));
+    let asked = mutex.ask(&mut second);
+    sees(&rt, "the ask", &asked, &Ok(Asked::Asleep));
+    let section = mutex.with_in_order(&rt, &mut second, |value| *value = 4);
+    sees(&rt, "the section", &section, &Err(Refusal::Asleep));
+    sees(&rt, "the depth", &second.depth(), &0);
+    sees(&rt, "the takes", &second.takes(), &1);
+    sees(&rt, "the value", &first.value().copied(), &Some(0));
+    Ok(())
+}
+
+#[test]
+fn section_in_order_of_a_holder_deepens_its_hold(rt: HostRuntime) -> Result<(), Fail> {
+    let (mutex, mut seat) = alone(rt.alloc(), 1)?;
+    let lock = mutex.lock(&rt, &mut seat);
+    sees(&rt, "the lock", &lock, &Ok(Locked::Held(How::Free)));
+    let inner = mutex.with_in_order(&rt, &mut seat, |value| *value = 2);
+    sees(&rt, "the section", &inner, &Ok(()));
+    sees(&rt, "the depth", &seat.depth(), &1);
+    let unlocked = mutex.unlock(&mut seat);
+    sees(&rt, "the unlock", &unlocked, &Ok(Unlocked::Free));
+    let spent = mutex.with_in_order(&rt, &mut seat, |value| *value = 3);
+    sees(&rt, "without a take", &spent, &Err(Refusal::Spent));
+    let value = closed_alone(mutex, seat, Vec::new(rt.alloc()));
+    sees(&rt, "the value", &value, &Some(2));
     Ok(())
 }
 

@@ -5,7 +5,7 @@ use lib.ListN.{get_elem?}
 use Rattle.lfm_table.specs.Table.{State, stepped}
 use Rattle.lfm_protocol.specs.declared.limits.Limits.{Limits}
 use Rattle.lfm_protocol.specs.Core.{Core, put}
-use Rattle.lfm_protocol.specs.Limits.{are_in_limits, max_budget}
+use Rattle.lfm_protocol.specs.Limits.{are_in_limits, max_budget, max_seats}
 use Rattle.lfm_protocol.specs.Queue.{chain, chain_of, queue_of, unwalked}
 use Rattle.lfm_protocol.specs.Seats.{absent, seat}
 use Rattle.lfm_protocol.specs.Step.{made, start}
@@ -31,6 +31,7 @@ use Rattle.lfm_table.specs.declared.rule.Moving.{Moving}
 use Rattle.lfm_table.specs.declared.seat_view.Action.{Action}
 use Rattle.lfm_table.specs.declared.seat_view.Action.TheVariants.{LoadsOwner}
 use Rattle.lfm_table.specs.declared.seat_view.View.{View}
+use Rattle.lfm_table.specs.Rule.{HeldWithin}
 use Rattle.lfm_table.specs.Actions.{HasRun, told, events_of, part_of, begins_and_step}
 use Rattle.lfm_table.proofs.tables.Actions.{known_once, led_join, no_part, part_join}
 use Rattle.lfm_table.proofs.tables.RuleKept.{led_on}
@@ -40,7 +41,7 @@ use Rattle.lfm_mutex.proofs.ends.OwnerLoads.{owner_keeps, owner_tells}
 use Rattle.lfm_table.proofs.tables.SplitsAndJoins.{joins, joins_keep, splits, splits_keep}
 use Rattle.lfm_table.proofs.tables.Starts.{starts, starts_at}
 use Rattle.lfm_mutex.specs.Laws.{IsCore}
-use Rattle.lfm_mutex.specs.TableRuns.{HoldsAfter, OtherStepsKeepTheCore, SeatsKnowUpToTheirLastStep, TablesEndCalls, TablesGoOnAsTheCore, TablesGoThroughReachedStates, TablesRunAsTheAbstractMutex, TablesHaveARun, TablesOpenAtTheStart, TablesOvertakeOnce, TablesPushInRounds, TablesServeInPushOrder, TablesServeInRounds, TrailsTellThePushes, TrailsTellTheAnswers, answers_noted, late_part, pushes_noted, popped_since, pushed_since, state_after}
+use Rattle.lfm_mutex.specs.TableRuns.{HoldsAfter, OtherStepsKeepTheCore, SeatsKnowUpToTheirLastStep, TablesEndCalls, TablesGoOnAsTheCore, TablesGoThroughReachedStates, TablesRunAsTheAbstractMutex, TablesHaveARun, TablesOpenAtTheStart, TablesOvertakeOnce, TablesPushInRounds, TablesServeInPushOrder, TablesServeInRounds, TrailsTellThePushes, TrailsTellTheAnswers, EndsCalls, OvertakesOnce, PushesInRounds, RunsAsTheAbstractMutex, ServesInPushOrder, ServesInRounds, answers_noted, late_part, pushes_noted, popped_since, pushed_since, state_after}
 
 -- at each moment of a run within the limits, the state is one that a schedule reaches
 reached_after : (l : Limits) (actions : List Action) → are_in_limits l.seats l.budget ≡ true → IsReached (state_after l actions)
@@ -69,6 +70,85 @@ start_queue : (l : Limits) → queue_of (start l) ≡ []
 start_queue l =
     (λ i. reverse (chain (start l).links (none_unwalked l.seats i)) ++ reverse (chain (start l).links 0))
     ∙ (λ i. reverse (none_linked (length (start l).links) (start l).links i) ++ reverse (none_linked (length (start l).links) (start l).links i))
+
+-- What the laws of schedules say of a run with this number of seats
+
+module _ (l : Limits) (few : l.seats ≤ max_seats) where
+  -- at each moment of such a run, the state is one that a schedule reaches
+  reached_at : (actions : List Action) → IsReached (state_after l actions)
+  reached_at actions = record { limits = l; events = events_of actions; few = few; here = refl }
+
+  pub runs_as_the_abstract_mutex : (actions : List Action) → RunsAsTheAbstractMutex l actions
+  runs_as_the_abstract_mutex actions = runs_are_abstract_runs l (events_of actions) few
+
+  order : (early late : List Action) → queue_of (state_after l early) ++ pushed_since l early late ≡ popped_since l early late ++ queue_of (state_after l (early ++ late))
+  order early late =
+      queue_is_in_push_order_in_schedules (state_after l early) (events_of late) (reached_at early)
+      ∙ ap (λ (c : Core). popped_since l early late ++ queue_of c) (sym (led_join (start l) early late))
+
+  pub serves_in_push_order : (actions : List Action) → ServesInPushOrder l actions
+  serves_in_push_order actions = (
+    (λ early late is. order early late ∙ ap (λ (d : List Action). popped_since l early late ++ queue_of (state_after l d)) (sym is)),
+    ap (λ (q : List Record). q ++ pushed_since l [] actions) (sym (start_queue l)) ∙ order [] actions,
+    (λ k d low. stamps_are_consecutive_in_schedules (start l) (events_of actions) (reached_at []) k d low ∙ none_before (k + 1)),
+    answers_are_the_records l (events_of actions) few,
+  )
+
+  pub overtakes_once : (early late : List Action) (k : ℕ) → OvertakesOnce l early late k
+  overtakes_once early late k low still =
+      let reached = reached_at early in (
+        queued_seats_are_overtaken_once_in_schedules (state_after l early) (events_of late) k reached low still,
+        queued_seats_wait_for_few_releases_in_schedules (state_after l early) (events_of late) k reached low still,
+        (λ t.
+            let once = no_seat_overtakes_twice_in_schedules (state_after l early) t (events_of late) k reached low still in
+            (once, subst (λ (n : ℕ). n ≤ 1) (entries_of_part (state_after l early) t late) once)),
+      )
+
+  pub serves_in_rounds : (early late : List Action) (k : ℕ) → ServesInRounds l early late k
+  serves_in_rounds early late k queued =
+      let c = state_after l early in
+      let reached = reached_at early in
+      let seats : length c.seats ≡ l.seats = ap (λ (m : Limits). m.seats) (limits_stay l (events_of early)) in (
+        (λ has.
+            queued_seats_are_served_in_rounds c (events_of late) k reached queued
+            (subst (λ (n : ℕ). HasUnownedRounds (n + 8 * k + 7) c (events_of late)) (sym seats) has)),
+        (λ rests release has.
+            queued_seats_are_served_in_fair_rounds c (events_of late) k reached rests release queued
+            (subst (λ (n : ℕ). HasFairRounds (n + 10 * k + 9 + rounds_to_release c) c (events_of late)) (sym seats) has)),
+        (λ has.
+            queued_seats_are_served_whatever_owners_begin c (events_of late) k reached queued
+            (subst (λ (n : ℕ). HasFullRounds (3 * n + 10 * k + 12 + (seat c.seats c.owner).depth + 5 * calls_of_owners c (events_of late)) c (events_of late)) (sym seats) has)),
+      )
+
+  pub pushes_in_rounds : (early late : List Action) (t : ℕ) → PushesInRounds l early late t
+  pushes_in_rounds early late t asks =
+      let c = state_after l early in
+      let reached = reached_at early in
+      let size : length c.seats * c.budget ≡ l.seats * l.budget = ap (λ (m : Limits). m.seats * m.budget) (limits_stay l (events_of early)) in (
+        (λ has. counted_seats_are_pushed_in_rounds c (events_of late) t reached asks has),
+        (λ has.
+            counted_seats_are_pushed_within_budgets c (events_of late) t reached asks
+            (subst (λ (n : ℕ). HasRounds (4 * n + 2) c (events_of late)) (sym size) has)),
+      )
+
+  -- if only these seats have a part in the late actions
+  pub ends_calls : (early late : List Action) → ((t : ℕ) → (t ≡ 0) ⊎ (l.seats < t) → late_part l early late t ≡ []) → EndsCalls l early late
+  ends_calls early late only =
+      let seats : length (state_after l early).seats ≡ l.seats = ap (λ (k : Limits). k.seats) (limits_stay l (events_of early)) in (
+        subst (λ (n : ℕ). steps_of_run (state_after l early) (events_of late) ≤ (5 * n + 5) * (n + ended_in_run (state_after l early) (events_of late))) seats
+            (some_call_ends_in_schedules (state_after l early) (events_of late) (reached_at early)),
+        steps_of_parts l.seats (state_after l early) late seats only,
+      )
+
+-- only the seats of a table have a part in the late actions of its run
+pub only_seats : {Allowed : Limits → Type 0} {T : Type 0} (follows : ℕ → T → T → Type 0) (fits : T → ℕ → Type 0) (s : State (Option (Moving T)) (View T)) (l : Limits) (early late : List Action) (h : HeldWithin follows fits Allowed s)
+    → h.opened ≡ l → h.actions ≡ early ++ late → (t : ℕ) → (t ≡ 0) ⊎ (l.seats < t) → late_part l early late t ≡ []
+only_seats follows fits s l early late h opened actions t out =
+    let many : length h.core.seats ≡ l.seats =
+    ap (λ (c : Core). length c.seats) h.run.here ∙ (ap (λ (k : Limits). k.seats) (limits_stay h.opened (events_of h.actions)) ∙ ap (λ (k : Limits). k.seats) opened) in
+    let most : length s.views ≤ length h.core.seats = h.few in
+    let all = no_part (start h.opened) t h.actions (h.run.others t (⊎_elim (λ (none : t ≡ 0). inl none) (λ (far : l.seats < t). inr (omega (arith, far, most, many))) out)) in
+    rest_is_nil (part_of (start l) t early) (late_part l early late t) (sym (part_join (start l) t early late) ∙ ((λ i. part_of (start (sym opened i)) t (sym actions i)) ∙ all))
 
 module _ {T : Type 0} (follows : ℕ → T → T → Type 0) (fits : T → ℕ → Type 0) where
   abbrev St : Type 0
@@ -141,81 +221,26 @@ module _ {T : Type 0} (follows : ℕ → T → T → Type 0) (fits : T → ℕ �
       let allowed = in_limits s l (early ++ late) holds in
       (reached_after l early allowed, budget_after l early allowed, led_join (start l) early late, (λ j v at. trail_parts s l early late j v holds at))
 
-  pub tables_run_as_the_abstract_mutex : TablesRunAsTheAbstractMutex follows fits
-  tables_run_as_the_abstract_mutex s l actions holds = runs_are_abstract_runs l (events_of actions) (few_seats l.seats l.budget (in_limits s l actions holds))
+  few : (s : St) (l : Limits) (actions : List Action) → HoldsAfter follows fits l actions s → l.seats ≤ max_seats
+  few s l actions holds = few_seats l.seats l.budget (in_limits s l actions holds)
 
-  order : (l : Limits) (early late : List Action) → are_in_limits l.seats l.budget ≡ true
-      → queue_of (state_after l early) ++ pushed_since l early late ≡ popped_since l early late ++ queue_of (state_after l (early ++ late))
-  order l early late allowed =
-      queue_is_in_push_order_in_schedules (state_after l early) (events_of late) (reached_after l early allowed)
-      ∙ ap (λ (c : Core). popped_since l early late ++ queue_of c) (sym (led_join (start l) early late))
+  pub tables_run_as_the_abstract_mutex : TablesRunAsTheAbstractMutex follows fits
+  tables_run_as_the_abstract_mutex s l actions holds = runs_as_the_abstract_mutex l (few s l actions holds) actions
 
   pub tables_serve_in_push_order : TablesServeInPushOrder follows fits
-  tables_serve_in_push_order s l actions holds =
-      let allowed = in_limits s l actions holds in (
-        (λ early late is. order l early late allowed ∙ ap (λ (d : List Action). popped_since l early late ++ queue_of (state_after l d)) (sym is)),
-        ap (λ (q : List Record). q ++ pushed_since l [] actions) (sym (start_queue l)) ∙ order l [] actions allowed,
-        (λ k d low. stamps_are_consecutive_in_schedules (start l) (events_of actions) (reached_after l [] allowed) k d low ∙ none_before (k + 1)),
-        answers_are_the_records l (events_of actions) (few_seats l.seats l.budget allowed),
-      )
+  tables_serve_in_push_order s l actions holds = serves_in_push_order l (few s l actions holds) actions
 
   pub tables_overtake_once : TablesOvertakeOnce follows fits
-  tables_overtake_once s l early late k holds low few =
-      let reached = reached_after l early (in_limits s l (early ++ late) holds) in (
-        queued_seats_are_overtaken_once_in_schedules (state_after l early) (events_of late) k reached low few,
-        queued_seats_wait_for_few_releases_in_schedules (state_after l early) (events_of late) k reached low few,
-        (λ t.
-            let once = no_seat_overtakes_twice_in_schedules (state_after l early) t (events_of late) k reached low few in
-            (once, subst (λ (n : ℕ). n ≤ 1) (entries_of_part (state_after l early) t late) once)),
-      )
+  tables_overtake_once s l early late k holds = overtakes_once l (few s l (early ++ late) holds) early late k
 
   pub tables_serve_in_rounds : TablesServeInRounds follows fits
-  tables_serve_in_rounds s l early late k holds queued =
-      let c = state_after l early in
-      let allowed = in_limits s l (early ++ late) holds in
-      let reached = reached_after l early allowed in
-      let seats : length c.seats ≡ l.seats = ap (λ (m : Limits). m.seats) (limits_stay l (events_of early)) in (
-        (λ has.
-            queued_seats_are_served_in_rounds c (events_of late) k reached queued
-            (subst (λ (n : ℕ). HasUnownedRounds (n + 8 * k + 7) c (events_of late)) (sym seats) has)),
-        (λ rests release has.
-            queued_seats_are_served_in_fair_rounds c (events_of late) k reached rests release queued
-            (subst (λ (n : ℕ). HasFairRounds (n + 10 * k + 9 + rounds_to_release c) c (events_of late)) (sym seats) has)),
-        (λ has.
-            queued_seats_are_served_whatever_owners_begin c (events_of late) k reached queued
-            (subst (λ (n : ℕ). HasFullRounds (3 * n + 10 * k + 12 + (seat c.seats c.owner).depth + 5 * calls_of_owners c (events_of late)) c (events_of late)) (sym seats) has)),
-      )
+  tables_serve_in_rounds s l early late k holds = serves_in_rounds l (few s l (early ++ late) holds) early late k
 
   pub tables_push_in_rounds : TablesPushInRounds follows fits
-  tables_push_in_rounds s l early late t holds asks =
-      let c = state_after l early in
-      let allowed = in_limits s l (early ++ late) holds in
-      let reached = reached_after l early allowed in
-      let size : length c.seats * c.budget ≡ l.seats * l.budget = ap (λ (m : Limits). m.seats * m.budget) (limits_stay l (events_of early)) in (
-        (λ has. counted_seats_are_pushed_in_rounds c (events_of late) t reached asks has),
-        (λ has.
-            counted_seats_are_pushed_within_budgets c (events_of late) t reached asks
-            (subst (λ (n : ℕ). HasRounds (4 * n + 2) c (events_of late)) (sym size) has)),
-      )
-
-  -- only the seats of the mutex have a part in the late actions
-  only_seats : (s : St) (l : Limits) (early late : List Action) → HoldsAfter follows fits l (early ++ late) s → (t : ℕ) → (t ≡ 0) ⊎ (l.seats < t) → late_part l early late t ≡ []
-  only_seats s l early late holds t out =
-      let h = holds.0 in
-      let many : length h.core.seats ≡ l.seats =
-      ap (λ (c : Core). length c.seats) h.run.here ∙ (ap (λ (k : Limits). k.seats) (limits_stay h.opened (events_of h.actions)) ∙ ap (λ (k : Limits). k.seats) holds.1) in
-      let most : length s.views ≤ length h.core.seats = h.few in
-      let all = no_part (start h.opened) t h.actions (h.run.others t (⊎_elim (λ (none : t ≡ 0). inl none) (λ (far : l.seats < t). inr (omega (arith, far, most, many))) out)) in
-      rest_is_nil (part_of (start l) t early) (late_part l early late t) (sym (part_join (start l) t early late) ∙ ((λ i. part_of (start (sym holds.1 i)) t (sym holds.2 i)) ∙ all))
+  tables_push_in_rounds s l early late t holds = pushes_in_rounds l (few s l (early ++ late) holds) early late t
 
   pub tables_end_calls : TablesEndCalls follows fits
-  tables_end_calls s l early late holds =
-      let allowed = in_limits s l (early ++ late) holds in
-      let seats : length (state_after l early).seats ≡ l.seats = ap (λ (k : Limits). k.seats) (limits_stay l (events_of early)) in (
-        subst (λ (n : ℕ). steps_of_run (state_after l early) (events_of late) ≤ (5 * n + 5) * (n + ended_in_run (state_after l early) (events_of late))) seats
-            (some_call_ends_in_schedules (state_after l early) (events_of late) (reached_after l early allowed)),
-        steps_of_parts l.seats (state_after l early) late seats (only_seats s l early late holds),
-      )
+  tables_end_calls s l early late holds = ends_calls l (few s l (early ++ late) holds) early late (only_seats follows fits s l early late holds.0 holds.1 holds.2)
 
   pub trails_tell_the_pushes : TrailsTellThePushes follows fits
   trails_tell_the_pushes s l actions j v holds at =

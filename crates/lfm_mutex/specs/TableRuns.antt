@@ -104,6 +104,55 @@ answer_noted t _ = []
 abbrev pub answers_noted : ℕ → List Seen → List Record
 answers_noted t trail = flat_map (λ (x : Seen). answer_noted t x.point) trail
 
+-- What the laws of schedules say of a run with these limits: for short what the laws of tables below say in full
+
+-- the run, read state by state, is a run of the abstract mutex
+abbrev pub RunsAsTheAbstractMutex : Limits → List Action → Type 0
+RunsAsTheAbstractMutex l actions =
+    Reads (start l) all_free × ((later : List AbstractMutex) × ReadsRun (start l) (events_of actions) later × IsRun (all_free ∷ later))
+
+-- the records leave the queue in the order of their stamps, which are 1, 2, 3 and so on, each once
+abbrev pub ServesInPushOrder : Limits → List Action → Type 0
+ServesInPushOrder l actions =
+    ((early late : List Action) → actions ≡ early ++ late → queue_of (state_after l early) ++ pushed_since l early late ≡ popped_since l early late ++ queue_of (state_after l actions))
+    × (pushed_since l [] actions ≡ popped_since l [] actions ++ queue_of (state_after l actions))
+    × ((k : ℕ) (d : Record) → k < length (pushed_since l [] actions) → (slice_index_or (pushed_since l [] actions) k d).stamp ≡ k + 1)
+    × ((popped_since l [] actions ≡ answered_since l [] actions) ⊎ ((last : Record) × (popped_since l [] actions ≡ answered_since l [] actions ++ last ∷ [])))
+
+-- a record that was queued with k before it, and still is, was overtaken by at most one seat, and by none twice
+abbrev pub OvertakesOnce : Limits → List Action → List Action → ℕ → Type 0
+OvertakesOnce l early late k =
+    k < length (queue_of (state_after l early)) → length (popped_since l early late) ≤ k
+    → (entries_of_run (state_after l early) (events_of late) ≤ length (popped_since l early late) + 1)
+    × (releases_of_run (state_after l early) (events_of late) ≤ length (popped_since l early late) + 1)
+    × ((t : ℕ) → (entries_of_seat (state_after l early) t (events_of late) ≤ 1) × (entries_told (late_part l early late t) ≤ 1))
+
+-- a record that was queued with k before it has left the queue after enough rounds
+abbrev pub ServesInRounds : Limits → List Action → List Action → ℕ → Type 0
+ServesInRounds l early late k =
+    k < length (queue_of (state_after l early))
+    → (HasUnownedRounds (l.seats + 8 * k + 7) (state_after l early) (events_of late) → k < length (popped_since l early late))
+    × (OwnerRestsOrReleases (state_after l early) → OwnersOnlyRelease (state_after l early) (events_of late)
+    → HasFairRounds (l.seats + 10 * k + 9 + rounds_to_release (state_after l early)) (state_after l early) (events_of late)
+    → k < length (popped_since l early late))
+    × (HasFullRounds
+    (3 * l.seats + 10 * k + 12 + (seat (state_after l early).seats (state_after l early).owner).depth + 5 * calls_of_owners (state_after l early) (events_of late))
+    (state_after l early) (events_of late)
+    → k < length (popped_since l early late))
+
+-- a call that had counted seat t has pushed it after enough rounds
+abbrev pub PushesInRounds : Limits → List Action → List Action → ℕ → Type 0
+PushesInRounds l early late t =
+    0 < asks_for (seat (state_after l early).seats t) t
+    → (HasRounds (4 * length (pushed_since l early late) + 6) (state_after l early) (events_of late) → PushesIn (state_after l early) t (events_of late))
+    × (HasRounds (4 * (l.seats * l.budget) + 2) (state_after l early) (events_of late) → PushesIn (state_after l early) t (events_of late))
+
+-- calls have ended after enough steps, and the trails have these steps
+abbrev pub EndsCalls : Limits → List Action → List Action → Type 0
+EndsCalls l early late =
+    (steps_of_run (state_after l early) (events_of late) ≤ (5 * l.seats + 5) * (l.seats + ended_in_run (state_after l early) (events_of late)))
+    × (sum_to (λ (t : ℕ). steps_told (late_part l early late t)) l.seats ≡ steps_of_run (state_after l early) (events_of late) + owner_loads late)
+
 module _ {T : Type 0} (follows : ℕ → T → T → Type 0) (fits : T → ℕ → Type 0) where
   -- the rule holds of this table, which was opened with these limits, and these actions are its run
   abbrev pub HoldsAfter : Limits → List Action → State (Option (Moving T)) (View T) → Type 0
@@ -172,7 +221,7 @@ module _ {T : Type 0} (follows : ℕ → T → T → Type 0) (fits : T → ℕ �
   abbrev pub TablesRunAsTheAbstractMutex : Type 0
   TablesRunAsTheAbstractMutex =
       (s : State (Option (Moving T)) (View T)) (l : Limits) (actions : List Action) → HoldsAfter l actions s
-      → Reads (start l) all_free × ((later : List AbstractMutex) × ReadsRun (start l) (events_of actions) later × IsRun (all_free ∷ later))
+      → RunsAsTheAbstractMutex l actions
 
   -- First come, first served. From each earlier moment on, the records that were queued and those pushed since then are, in the
   -- same order, those that have left the queue since and those that are queued now. Over the whole run, the stamps are 1, 2, 3
@@ -180,10 +229,7 @@ module _ {T : Type 0} (follows : ℕ → T → T → Type 0) (fits : T → ℕ �
   abbrev pub TablesServeInPushOrder : Type 0
   TablesServeInPushOrder =
       (s : State (Option (Moving T)) (View T)) (l : Limits) (actions : List Action) → HoldsAfter l actions s
-      → ((early late : List Action) → actions ≡ early ++ late → queue_of (state_after l early) ++ pushed_since l early late ≡ popped_since l early late ++ queue_of (state_after l actions))
-      × (pushed_since l [] actions ≡ popped_since l [] actions ++ queue_of (state_after l actions))
-      × ((k : ℕ) (d : Record) → k < length (pushed_since l [] actions) → (slice_index_or (pushed_since l [] actions) k d).stamp ≡ k + 1)
-      × ((popped_since l [] actions ≡ answered_since l [] actions) ⊎ ((last : Record) × (popped_since l [] actions ≡ answered_since l [] actions ++ last ∷ [])))
+      → ServesInPushOrder l actions
 
   -- Overtaking. Take a record that was queued at an earlier moment and has not left the queue. Since then seats have become
   -- owner, and have stopped being owner, at most once more than records have left the queue. No seat has become owner twice,
@@ -191,10 +237,7 @@ module _ {T : Type 0} (follows : ℕ → T → T → Type 0) (fits : T → ℕ �
   abbrev pub TablesOvertakeOnce : Type 0
   TablesOvertakeOnce =
       (s : State (Option (Moving T)) (View T)) (l : Limits) (early late : List Action) (k : ℕ) → HoldsAfter l (early ++ late) s
-      → k < length (queue_of (state_after l early)) → length (popped_since l early late) ≤ k
-      → (entries_of_run (state_after l early) (events_of late) ≤ length (popped_since l early late) + 1)
-      × (releases_of_run (state_after l early) (events_of late) ≤ length (popped_since l early late) + 1)
-      × ((t : ℕ) → (entries_of_seat (state_after l early) t (events_of late) ≤ 1) × (entries_told (late_part l early late t) ≤ 1))
+      → OvertakesOnce l early late k
 
   -- Starvation freedom. Take a record that was queued at an earlier moment, with k before it. It has left the queue if the
   -- actions since then have N + 8k + 7 rounds that begin while no seat owns. If the owner of that moment rested or released,
@@ -204,32 +247,21 @@ module _ {T : Type 0} (follows : ℕ → T → T → Type 0) (fits : T → ℕ �
   abbrev pub TablesServeInRounds : Type 0
   TablesServeInRounds =
       (s : State (Option (Moving T)) (View T)) (l : Limits) (early late : List Action) (k : ℕ) → HoldsAfter l (early ++ late) s
-      → k < length (queue_of (state_after l early))
-      → (HasUnownedRounds (l.seats + 8 * k + 7) (state_after l early) (events_of late) → k < length (popped_since l early late))
-      × (OwnerRestsOrReleases (state_after l early) → OwnersOnlyRelease (state_after l early) (events_of late)
-      → HasFairRounds (l.seats + 10 * k + 9 + rounds_to_release (state_after l early)) (state_after l early) (events_of late)
-      → k < length (popped_since l early late))
-      × (HasFullRounds
-      (3 * l.seats + 10 * k + 12 + (seat (state_after l early).seats (state_after l early).owner).depth + 5 * calls_of_owners (state_after l early) (events_of late))
-      (state_after l early) (events_of late)
-      → k < length (popped_since l early late))
+      → ServesInRounds l early late k
 
   -- Before the push. A call that at an earlier moment had counted a seat, and had yet to push it, has pushed it if the
   -- actions since then have 4p + 6 rounds, p being the number of records that were pushed since, or 4NB + 2 rounds.
   abbrev pub TablesPushInRounds : Type 0
   TablesPushInRounds =
       (s : State (Option (Moving T)) (View T)) (l : Limits) (early late : List Action) (t : ℕ) → HoldsAfter l (early ++ late) s
-      → 0 < asks_for (seat (state_after l early).seats t) t
-      → (HasRounds (4 * length (pushed_since l early late) + 6) (state_after l early) (events_of late) → PushesIn (state_after l early) t (events_of late))
-      × (HasRounds (4 * (l.seats * l.budget) + 2) (state_after l early) (events_of late) → PushesIn (state_after l early) t (events_of late))
+      → PushesInRounds l early late t
 
   -- Lock freedom. Since an earlier moment calls have made at most (5N + 5)(N + k) steps, k being the number of calls that have
   -- ended since. The trails of the N seats have grown by exactly these steps and the loads for `owner`.
   abbrev pub TablesEndCalls : Type 0
   TablesEndCalls =
       (s : State (Option (Moving T)) (View T)) (l : Limits) (early late : List Action) → HoldsAfter l (early ++ late) s
-      → (steps_of_run (state_after l early) (events_of late) ≤ (5 * l.seats + 5) * (l.seats + ended_in_run (state_after l early) (events_of late)))
-      × (sum_to (λ (t : ℕ). steps_told (late_part l early late t)) l.seats ≡ steps_of_run (state_after l early) (events_of late) + owner_loads late)
+      → EndsCalls l early late
 
   -- the records that a seat has pushed in the run are those that its trail records
   abbrev pub TrailsTellThePushes : Type 0

@@ -26,7 +26,7 @@ use lfm_model::{Asked, How, Locked, Refusal};
 use lfm_protocol::points::{Entrant, Point, Pusher, Sleeper};
 use lfm_protocol::{Answer, Call, MAX_DEPTH, SeatState, Turn, Why};
 use lfm_table::operations::{CountAdd, CountSubtract, OwnerLoad, OwnerStore};
-use lfm_table::steps::{gain, keep_held, load_other_owner};
+use lfm_table::table_steps::{gain, keep_held, load_other_owner};
 use lfm_table::{Kept, WakeUp};
 use std::sync::Wait;
 

@@ -9,7 +9,7 @@ use crate::stops::PushStop;
 use lfm_protocol::SeatState;
 use lfm_protocol::points::{Point, Pusher};
 use lfm_table::shared_table::SharedTable;
-use lfm_table::steps::keep;
+use lfm_table::table_steps::keep;
 use lfm_table::{Kept, TableSeat, operations};
 use lfm_words::{Handoff, unpack_link};
 

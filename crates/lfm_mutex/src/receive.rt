@@ -23,7 +23,7 @@ use lfm_protocol::{Answer, Call, SeatState, Turn, how_granted};
 use lfm_table::layout::wake_at;
 use lfm_table::operations::{OwnerStore, WakeStore};
 use lfm_table::parking::park;
-use lfm_table::steps::{gain_by_grant, keep, keep_held};
+use lfm_table::table_steps::{gain_by_grant, keep, keep_held};
 use lfm_table::{Kept, OffTrail, WakeUp};
 use lfm_words::Wake;
 use std::sync::Wait;

@@ -26,7 +26,7 @@ use lfm_model::{Refusal, SeatNo};
 use lfm_protocol::points::{Point, Pusher};
 use lfm_protocol::{Answer, Call, SeatState, Turn, Why};
 use lfm_table::operations::{CountAdd, WakeExchange};
-use lfm_table::steps::{gain, keep, keep_held, store_grant};
+use lfm_table::table_steps::{gain, keep, keep_held, store_grant};
 use lfm_table::{Kept, WakeUp};
 use lfm_words::Wake;
 

@@ -17,7 +17,7 @@ use lfm_protocol::points::{Carrier, Point, Releaser, Sleeper};
 use lfm_protocol::{Answer, SeatState, Turn};
 use lfm_table::moving_box::MovingBox;
 use lfm_table::operations::{ClearHead, WakeStore};
-use lfm_table::steps::{collect, keep, keep_held, store_grant};
+use lfm_table::table_steps::{collect, keep, keep_held, store_grant};
 use lfm_table::transition::oldest_of;
 use lfm_table::{Kept, WakeUp};
 use lfm_words::{Record, unpack_link};

@@ -21,7 +21,7 @@ use lfm_model::{How, Locked, Refusal};
 use lfm_protocol::points::{Entrant, Point};
 use lfm_protocol::{Answer, Call, MAX_DEPTH, SeatState, Turn, Why};
 use lfm_table::operations::{CountExchange, HandoffLoad, OwnerLoad, OwnerStore};
-use lfm_table::steps::{gain, keep, keep_held, load_other_owner};
+use lfm_table::table_steps::{gain, keep, keep_held, load_other_owner};
 use lfm_table::{Kept, WakeUp};
 use lfm_words::Handoff;
 

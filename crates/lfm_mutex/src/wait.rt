@@ -22,7 +22,7 @@ use lfm_model::{Refusal, Unlocked};
 use lfm_protocol::points::{Point, Releaser, Sleeper};
 use lfm_protocol::{Answer, Call, SeatState, Turn, Why};
 use lfm_table::operations::{OwnerStore, WakeStore};
-use lfm_table::steps::{keep, keep_held, retake};
+use lfm_table::table_steps::{keep, keep_held, retake};
 use lfm_table::{Kept, WakeUp};
 
 impl<T: Kept> Mutex<T> {

@@ -7,7 +7,7 @@ use Rattle.lfm_table.specs.Rule.{value_in, Advanced}
 use Rattle.lfm_table.specs.Steps.{CanMake}
 use Rattle.lfm_table.proofs.tables.ServingSteps.{granting_place, can_grant, granted}
 use Rattle.lfm_table.proofs.tables.FastPathSteps.{leaves_by, told_after, same_then}
-use Rattle.lfm_table.proofs.steps.store_grant.Goals as goal
+use Rattle.lfm_table.proofs.table_steps.store_grant.Goals as goal
 
 pub put_out-requires-clause-slot : goal.put_out-requires-clause-slot
 put_out-requires-clause-slot g c κs within = let s = c.args.seat.now in

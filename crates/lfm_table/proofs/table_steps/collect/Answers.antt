@@ -3,7 +3,7 @@ use Rattle.lfm_table.specs.Rule.{value_in}
 use Rattle.lfm_table.specs.Steps.{CanMake, with_record}
 use Rattle.lfm_table.proofs.tables.ServingSteps.{can_load, loaded}
 use Rattle.lfm_table.proofs.tables.FastPathSteps.{told_after}
-use Rattle.lfm_table.proofs.steps.collect.Goals as goal
+use Rattle.lfm_table.proofs.table_steps.collect.Goals as goal
 
 pub operate-found-requires-clause-can : goal.operate-found-requires-clause-can
 operate-found-requires-clause-can g c κs within = let s = c.args.seat.now in

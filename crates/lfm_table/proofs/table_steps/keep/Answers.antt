@@ -2,7 +2,7 @@ use Rattle.std.proofs.Common.{ℕ, ap, subst}
 use Rattle.lfm_table.specs.Rule.{value_in}
 use Rattle.lfm_table.specs.Steps.{CanMake}
 use Rattle.lfm_table.proofs.tables.FastPathSteps.{adds_none, can_keep, stayed, told_after}
-use Rattle.lfm_table.proofs.steps.keep.Goals as goal
+use Rattle.lfm_table.proofs.table_steps.keep.Goals as goal
 
 pub operate-requires-clause-can : goal.operate-requires-clause-can
 operate-requires-clause-can g c κs within =

@@ -5,7 +5,7 @@ use Rattle.lfm_table.specs.declared.rule.Moving.{Moving}
 use Rattle.lfm_table.specs.Rule.{value_in, Advanced}
 use Rattle.lfm_table.specs.Steps.{CanMake}
 use Rattle.lfm_table.proofs.tables.FastPathSteps.{drops_by, leaves_by, can_give, given_slot, given, taken_back, told_after, same_then}
-use Rattle.lfm_table.proofs.steps.retake.Goals as goal
+use Rattle.lfm_table.proofs.table_steps.retake.Goals as goal
 
 pub operate-found-requires-clause-can : goal.operate-found-requires-clause-can
 operate-found-requires-clause-can g c κs within =

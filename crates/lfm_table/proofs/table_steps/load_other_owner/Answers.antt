@@ -1,7 +1,7 @@
 use Rattle.std.proofs.Common.{◌≢◌, refl, sym, ap, ◌∙◌, arith}
 use Rattle.lfm_protocol.specs.declared.kinds.Kind.{Kind}
 use Rattle.lfm_table.proofs.tables.FastPathSteps.{drops_by, gives_by, idled, told_after}
-use Rattle.lfm_table.proofs.steps.load_other_owner.Goals as goal
+use Rattle.lfm_table.proofs.table_steps.load_other_owner.Goals as goal
 
 pub returns-clause-other : goal.returns-clause-other
 returns-clause-other g c = let f = c.operate in

@@ -2,7 +2,7 @@ use Rattle.std.proofs.Common.{refl, ap, sym, ◌∙◌, arith}
 use Rattle.std.proofs.lemmas.Bool.{leb-true, leb-false}
 use Rattle.lfm_protocol.specs.declared.kinds.Kind.{Kind}
 use Rattle.lfm_table.proofs.tables.FastPathSteps.{drops_by, gives_by, gained_slot, gained, idled, told_after, same_then}
-use Rattle.lfm_table.proofs.steps.gain_by_grant.Goals as goal
+use Rattle.lfm_table.proofs.table_steps.gain_by_grant.Goals as goal
 
 pub returns-then-not-is_grant_word-clause-step : goal.returns-then-not-is_grant_word-clause-step
 returns-then-not-is_grant_word-clause-step g c = let f = c.operate-found in

@@ -1,5 +1,5 @@
 use Rattle.lfm_table.specs.Rule.{value_in}
-use Rattle.lfm_table.proofs.steps.store_grant.Given as goal
+use Rattle.lfm_table.proofs.table_steps.collect.Given as goal
 
 abbrev pub ghosts-operate : goal.ghosts-operate
 ghosts-operate g a = record { state = a.state.now; hand = value_in a.seat.now.moving }

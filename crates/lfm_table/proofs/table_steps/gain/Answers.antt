@@ -5,7 +5,7 @@ use Rattle.lfm_laws.specs.table.Words.{stepped_by}
 use Rattle.lfm_table.specs.Rule.{value_in, Advanced}
 use Rattle.lfm_table.specs.Steps.{CanMake}
 use Rattle.lfm_table.proofs.tables.FastPathSteps.{adds_none, leaves_by, can_keep, gained_slot, gained, idled, told_after, same_then}
-use Rattle.lfm_table.proofs.steps.gain.Goals as goal
+use Rattle.lfm_table.proofs.table_steps.gain.Goals as goal
 
 pub operate-found-requires-clause-can : goal.operate-found-requires-clause-can
 operate-found-requires-clause-can g c κs within =

@@ -1,6 +1,6 @@
 -- The calls of a seat of any depth: what holds of the seat before and after them.
-use Rattle.std.proofs.Common.{◌≡◌, ◌≢◌, ℕ, ◌+◌, ◌-◌, ◌*◌, ◌<◌, ◌≤◌, List, [], ◌++◌, length, Option, Some, None, refl, sym, ap, ◌∙◌, subst, inl, inr, arith, append-nil, length-append}
-use Rattle.std.specs.Prelude.{⊤, Bool, IfOk, true, false, Result, Ok, Err}
+use Rattle.std.proofs.Common.{◌≡◌, ◌≢◌, ℕ, ◌+◌, ◌-◌, ◌*◌, ◌<◌, ◌≤◌, List, [], ◌++◌, length, Option, Some, None, refl, sym, ap, ◌∙◌, subst, inl, inr, arith, tests, append-nil, length-append}
+use Rattle.std.specs.Prelude.{⊤, Bool, IfOk, true, false, nat_lt, Result, Ok, Err}
 use Rattle.std.proofs.lemmas.Bool.{cases_eq}
 use Rattle.atomic_table.specs.Table.{Me}
 use Rattle.lfm_model.specs.declared.answers.Asked.{Asked}
@@ -23,10 +23,11 @@ use Rattle.lfm_pool.specs.declared.unlock.Released.{Released}
 use Rattle.lfm_pool.specs.declared.unlock.Unlocking.{Unlocking}
 use Rattle.lfm_pool.specs.declared.view.Note.{Note}
 use Rattle.lfm_pool.specs.declared.view.PoolView.{PoolView}
+use Rattle.lfm_pool.specs.Admissions.{IsAdmittedIn, after_load, most_stamps, stamp_in, with_admission}
 use Rattle.lfm_pool.specs.Ask.{AskSteps, AsksIn, MakesBesideFailuresIn, asked, failed_pushes}
 use Rattle.lfm_pool.specs.AskAll.{AsksAllIn, IsReadyAsked, TakesOverAllIn}
 use Rattle.lfm_pool.specs.Belongs.{IsMutex, OfPool, SameSeat}
-use Rattle.lfm_pool.specs.AnyDepth.{AsksAtAnyDepth, IsAtRest, IsAwayIn, IsPlacedBy, TriesAtAnyDepth, UnlocksAtAnyDepth}
+use Rattle.lfm_pool.specs.AnyDepth.{AsksAtAnyDepth, FindsNoStamp, IsAtRest, IsAwayIn, IsPlacedBy, TriesAtAnyDepth, UnlocksAtAnyDepth}
 use Rattle.lfm_pool.specs.SeatWords.{Sleeps}
 use Rattle.lfm_pool.specs.declared.any_depth.Release.{Release}
 use Rattle.lfm_pool.specs.Chain.{deep, first_seat, note_since, rested}
@@ -41,9 +42,10 @@ use Rattle.lfm_pool.specs.Steps.{Sits, state_at, state_in}
 use Rattle.lfm_pool.specs.Tables.{note, part, rests_at, with_part}
 use Rattle.lfm_pool.specs.TryLock.{AcceptSteps, StepsIfPosted, TriesIn, TrySteps, tried}
 use Rattle.lfm_pool.specs.Unlock.{Hands, PassesOn, PassesOnIn, ReleasesIn, UnlocksIn}
+use Rattle.lfm_pool.proofs.Admitted.{admitted_loaded, belongs_loaded, depth_loaded, length_admission, loaded_part, loaded_state}
 use Rattle.lfm_pool.proofs.FastPaths.{note_now, part_now}
 use Rattle.lfm_pool.proofs.LoneTables.{note_other, part_other}
-use Rattle.lfm_pool.proofs.SeveralSteps.{inside, state_after}
+use Rattle.lfm_pool.proofs.SeveralSteps.{inside, same_then, state_after}
 
 -- Of a seat that holds the mutex once, or not at all
 
@@ -303,6 +305,62 @@ module _ (s t : TableSeat) (p : Pool) (m : ℕ) (rest : IsAtRest s p) (less : Is
 pub depth_then_at : (s t : TableSeat) (p : Pool) (m depth : ℕ) → SameSeat s t → t.place.me ≡ s.place.me → HasDepthIn s p m depth → HasDepthIn t p m depth
 depth_then_at s t p m depth same knows has = subst (λ (z : ℕ × ℕ × Me ℕ PoolView). DepthFrom z p m depth) (sym (same_from s t same knows)) has
 
+-- A seat that has loaded the owner word, and then the push word
+
+less_same : (a b c : ℕ) → a ≡ b → b < c → a < c
+less_same a b c is less = omega (arith, is, less)
+
+pub is_below : (n most : ℕ) → nat_lt n most ≡ true → n < most
+is_below n most is = search (tests, arith, is)
+
+not_below : (n most : ℕ) → nat_lt n most ≡ false → most ≤ n
+not_below n most is = search (tests, arith, is)
+
+module _ (s t u : TableSeat) (m found : ℕ) (same : SameSeat s t) (knows : t.place.me ≡ s.place.me) (same' : SameSeat t u) (loads : u.place.me ≡ (after_load t m found).place.me) where
+  pub knows_loaded : u.place.me ≡ (after_load s m found).place.me
+  knows_loaded = loads ∙ ap (λ (z : Me ℕ PoolView). (with_admission z.0 m found, z.1)) knows
+
+  pub same_both : SameSeat s u
+  same_both = same_then s t u same same'
+
+  same_from_load : SameSeat (after_load s m found) u
+  same_from_load = record { table = same_both.table; id = same_both.id; number = same_both.number; parts = same_both.parts ∙ sym (length_admission s.place.me.0 m found) }
+
+  -- it rests in every mutex as before
+  pub rest_from_load : (p : Pool) → IsAtRest s p → IsAtRest u p
+  rest_from_load p rest = record {
+    belongs = belongs_loaded s u m found knows_loaded p same_both rest.belongs;
+    depths = λ n inner. let d = rest.depths n inner in (d.0, depth_loaded s u m found knows_loaded p same_both n d.0 d.1);
+  }
+
+  -- it may ask, if it has a take left and did not hold the mutex
+  pub may_try_from_load : (p : Pool) → HasDepthIn s p m 0 → (state_of s m).takes < p.limits.budget → MayTryIn u p m
+  may_try_from_load p has charged =
+      may_try_flat u p m (depth_loaded s u m found knows_loaded p same_both m 0 has)
+      (less_same (state_of u m).takes (state_of s m).takes p.limits.budget (ap (λ (x : SeatState). x.takes) (loaded_state s u m found knows_loaded m)) charged)
+
+  -- a stamp was left, or none was
+  pub admits_from_load : (p : Pool) → OfPool s p → IsMutex m p → nat_lt (stamp_in found) most_stamps ≡ true → IsAdmittedIn u m
+  admits_from_load p belongs less left = admitted_loaded s u m found knows_loaded (let parts = belongs.parts in omega (arith, parts, less)) left
+
+  pub finds_none : nat_lt (stamp_in found) most_stamps ≡ false → FindsNoStamp s u m
+  finds_none many = (found, knows_loaded, not_below (stamp_in found) most_stamps many)
+
+  -- what its ask has done since counts from the load on
+  pub asks_from_load : (v : TableSeat) (p : Pool) (asked : Asked) (granted : Option Record) → AsksAllIn asked granted u v p m → AsksAllIn asked granted (after_load s m found) v p m
+  asks_from_load v p asked granted did = asks_all_then (after_load s m found) u v p m same_from_load knows_loaded asked granted did
+
+  trail_from_load : (part u.place.me.0 m).trail ≡ (part s.place.me.0 m).trail
+  trail_from_load = ap (λ (y : View ⊤). y.trail) (loaded_part s u m found knows_loaded m)
+
+  pub beside_from_load : (v : TableSeat) (most : ℕ) → MakesBesideFailuresIn most u v m → MakesBesideFailuresIn most s v m
+  beside_from_load v most less =
+      subst (λ (l : List Seen). (new : List Seen) × ((part v.place.me.0 m).trail ≡ l ++ new) × (length new ≤ most + 2 * failed_pushes new)) trail_from_load less
+
+  -- the load is no step
+  pub loads_beside : (most : ℕ) → MakesBesideFailuresIn most s u m
+  loads_beside most = ([], trail_from_load ∙ sym (append-nil (part s.place.me.0 m).trail), omega arith)
+
 -- The answers
 
 -- an answer that a try_lock of a seat gives which does not hold the mutex
@@ -351,15 +409,16 @@ module _ (s u : TableSeat) (p : Pool) (m : ℕ) where
     subst (λ (d : ℕ). DeepensBy AskAgainSteps s u p m d) (sym is) did,
   )
 
-  pub asked_first : (asked : Asked) (granted : Option Record) → HasDepthIn s p m 0 → AsksAllIn asked granted s u p m → IsReadyAsked asked u p m → AsksAtAnyDepth (Ok asked) granted s u p m
-  asked_first (Asked.Held How.Free) None has did ready = (has, did, ready)
-  asked_first (Asked.Held (How.Queued stamp)) None has did ready = (has, did, ready)
-  asked_first (Asked.Held How.Free) (Some r) has did ready = absurd did
-  asked_first (Asked.Held (How.Queued stamp)) (Some r) has did ready = absurd did
-  asked_first Asked.Asleep None has did ready = (has, did, ready)
-  asked_first Asked.Asleep (Some r) has did ready = (has, did, ready)
-  asked_first (Asked.Again depth) None has did ready = absurd did
-  asked_first (Asked.Again depth) (Some r) has did ready = absurd did
+  -- an ask of a seat that has found this push word
+  pub asked_first : (found : ℕ) → stamp_in found < most_stamps → (asked : Asked) (granted : Option Record) → HasDepthIn s p m 0 → AsksAllIn asked granted (after_load s m found) u p m → IsReadyAsked asked u p m → AsksAtAnyDepth (Ok asked) granted s u p m
+  asked_first found left (Asked.Held How.Free) None has did ready = (has, (found, left, did), ready)
+  asked_first found left (Asked.Held (How.Queued stamp)) None has did ready = (has, (found, left, did), ready)
+  asked_first found left (Asked.Held How.Free) (Some r) has did ready = absurd did
+  asked_first found left (Asked.Held (How.Queued stamp)) (Some r) has did ready = absurd did
+  asked_first found left Asked.Asleep None has did ready = (has, (found, left, did), ready)
+  asked_first found left Asked.Asleep (Some r) has did ready = (has, (found, left, did), ready)
+  asked_first found left (Asked.Again depth) None has did ready = absurd did
+  asked_first found left (Asked.Again depth) (Some r) has did ready = absurd did
 
   -- a hold that was given up
   pub still_told : (held fewer : ℕ) → fewer + 1 ≡ held → 1 < held → HasDepthIn s p m held → GivesUpIn s u p m (held - 1) → UnlocksAtAnyDepth (Ok (Release.Still fewer)) s u p m

@@ -36,6 +36,7 @@ use Rattle.lfm_pool.specs.declared.ask.Asking.{Asking}
 use Rattle.lfm_pool.specs.declared.pool.Pool.{Pool}
 use Rattle.lfm_pool.specs.declared.pool.TableSeat.{TableSeat}
 use Rattle.lfm_pool.specs.declared.view.PoolView.{PoolView}
+use Rattle.lfm_pool.specs.Admissions.{IsAdmittedIn, pushes}
 use Rattle.lfm_pool.specs.Ask.{AsksIn, AskSteps, FindsChanges, IsChanged, IsReadyAfter, MakesBesideFailuresIn, PushSteps, QueuesIn, QueueSteps, StepsIfPosted, TakeOverSteps, WaitsIn, asked, asked_point, attempt, attempts, failed_pushes}
 use Rattle.lfm_pool.specs.Belongs.{SameSeat}
 use Rattle.lfm_pool.specs.Chain.{note_since}
@@ -48,6 +49,7 @@ use Rattle.lfm_pool.specs.SeatWords.{StoresLink}
 use Rattle.lfm_pool.specs.Seats.{MayTryIn, MovesIn, note_of, state_of}
 use Rattle.lfm_pool.specs.Steps.{IsPlainAccessOf, begun_in}
 use Rattle.lfm_pool.specs.Tables.{part}
+use Rattle.lfm_pool.proofs.Admitted.{admitted_made}
 use Rattle.lfm_pool.proofs.FastPaths.{part_now}
 use Rattle.lfm_pool.proofs.Forgotten.{forgets_none, may_forgotten}
 use Rattle.lfm_pool.proofs.Keeping.{idle_at}
@@ -127,6 +129,15 @@ attempts_more : (first : ℕ) (finds : List ℕ) (last found : ℕ) → FindsCha
 attempts_more first [] last found same = ap (λ (w : ℕ). attempt w found) (sym same)
 attempts_more first (n ∷ finds) last found changes = ap (λ (l : List Seen). attempt first n ++ l) (attempts_more n finds last found changes.1)
 
+-- attempts that have failed have pushed no record
+attempts_push_none : (first : ℕ) (finds : List ℕ) (last : ℕ) → FindsChanges first finds last → pushes (attempts first finds) ≡ 0
+attempts_push_none first [] last changes = refl
+attempts_push_none first (n ∷ finds) last changes =
+    let rest = attempts_push_none n finds last changes.1 in
+    let h = links_differ first n (changed_differs first n changes.0) in
+    let failed : ◌≡◌ {A = ℕ} (if same_link (link_of n) (link_of first) then 1 else 0) 0 = rw h refl in
+    omega (arith, rest, failed)
+
 -- The push
 
 -- the seat s has loaded the push word and made attempts that failed, and is t now: the next attempt is after this word
@@ -166,6 +177,12 @@ module _ (s t : TableSeat) (p : Pool) (m word : ℕ) (may : MayStepIn s p m) (so
 
   pub stores_next : (link : Link) → link ≡ link_of word → StoresLink link (state_of t m)
   stores_next link e = ap (λ (z : SeatState). z.point) (state_after s t p m _ _ may so.made) ∙ ap (λ (l : Link). LinkStore Pusher.Locker l) (sym e)
+
+  -- the seat may still push its record
+  pub admitted_still : IsAdmittedIn s m → IsAdmittedIn t m
+  admitted_still is =
+      let none = attempts_push_none so.first so.finds word so.changes in
+      admitted_made s t m _ _ (inside s t p m may) so.made (omega (arith, none)) is
 
   module _ (u : TableSeat) (n : ℕ) (link : Link) (is : link ≡ link_of word) (did : PushesIn t u p m link n) where
     did_of : PushesIn t u p m (link_of word) n
@@ -444,6 +461,9 @@ module _ (s : TableSeat) (p : Pool) (m : ℕ) (may : MayStepIn s p m) (try : May
 
         pub at_push : LoadsPush (state_of u m)
         at_push = ap (λ (w : SeatState). w.point) (state_after s u p m _ _ may third)
+
+        pub admitted_to_push : IsAdmittedIn s m → IsAdmittedIn u m
+        admitted_to_push is = admitted_made s u m _ _ (inside s u p m may) third refl is
 
         module _ (v : TableSeat) (asking : Asking) (waits : WaitsIn u v m asking) (named : t.number ≡ s.number) (same : u.number ≡ s.number) where
           waited : MakesIn s v m (seen LockCountAdd count ∷ seen LockOwnerLoad owner ∷ waits.0) (made_of 0 (z.takes + 1) z.posts (asked_point asking s.number (part v.place.me.0 m).popped))

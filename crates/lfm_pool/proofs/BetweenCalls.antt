@@ -1,7 +1,7 @@
 -- What a seat keeps between two calls, after each call.
-use Rattle.std.proofs.Common.{◌≡◌, ◌≢◌, ℕ, ◌+◌, ◌-◌, ◌<◌, refl, sym, ap, ◌∙◌, subst, arith, tests, Option, Some, None}
-use Rattle.std.specs.Prelude.{Result, Ok, Err, Bool, true, false, nat_lt, is_some, IfSome}
-use Rattle.std.proofs.lemmas.Bool.{false≢true}
+use Rattle.std.proofs.Common.{◌≡◌, ◌≢◌, ℕ, ◌+◌, ◌-◌, ◌<◌, inl, inr, refl, sym, ap, ◌∙◌, subst, arith, tests, Option, Some, None}
+use Rattle.std.specs.Prelude.{Result, Ok, Err, Bool, true, false, ◌&&◌, nat_lt, is_some, IfSome}
+use Rattle.std.proofs.lemmas.Bool.{and_left, and_right, false≢true}
 use Rattle.atomic_table.specs.Table.{Me}
 use Rattle.lfm_model.specs.declared.answers.Asked.{Asked}
 use Rattle.lfm_model.specs.declared.answers.How.{How}
@@ -13,6 +13,7 @@ use Rattle.lfm_pool.specs.declared.pool.Pool.{Pool}
 use Rattle.lfm_pool.specs.declared.pool.TableSeat.{TableSeat}
 use Rattle.lfm_pool.specs.declared.seat.PoolSeat.{PoolSeat}
 use Rattle.lfm_pool.specs.declared.view.PoolView.{PoolView}
+use Rattle.lfm_pool.specs.Admissions.{after_load, most_posts}
 use Rattle.lfm_pool.specs.AnyDepth.{AsksAtAnyDepth, IsAtRest, IsAwayIn, IsPlacedBy, TriesAtAnyDepth, UnlocksAtAnyDepth}
 use Rattle.lfm_pool.specs.Belongs.{IsMutex, OfPool, SameSeat}
 use Rattle.lfm_pool.specs.Calls.{IsBetweenCalls}
@@ -24,20 +25,32 @@ use Rattle.lfm_pool.specs.Seats.{HoldsOnceIn, state_of}
 use Rattle.lfm_pool.specs.SeatWords.{Sleeps}
 use Rattle.lfm_pool.specs.Steps.{RestsElsewhere, Sits, state_in}
 use Rattle.lfm_pool.specs.Tables.{part}
+use Rattle.lfm_pool.proofs.Admitted.{belongs_loaded, same_loaded}
 use Rattle.lfm_pool.proofs.AnyDepth.{depth_then_at, receive_rests, receive_sleeps, rest_then, same_from}
-use Rattle.lfm_pool.proofs.CountedTakes.{counted_refused, counts_asked, counts_asleep, counts_busy, counts_deeper, counts_fewer, counts_received, counts_released, counts_tried, counts_waiting}
+use Rattle.lfm_pool.proofs.CountedTakes.{counted_refused, counts_asked, counts_asleep, counts_busy, counts_deeper, counts_fewer, counts_loaded, counts_received, counts_released, counts_tried, counts_waiting}
 
 some_injective : {A : Type 0} (x y : A) → Some x ≡ Some y → x ≡ y
 some_injective x y e = cc
 
--- Whether it has a take left
+-- Whether it has a take and a number for a post left
 
-left_by : (b : Bool) (takes budget : ℕ) → nat_lt takes budget ≡ b → (b ≡ false → ⊥) → takes < budget
-left_by true takes budget is some = search (tests, arith, is)
-left_by false takes budget is some = absurd (some refl)
+below_by : (b : Bool) (n most : ℕ) → nat_lt n most ≡ b → (b ≡ false → ⊥) → n < most
+below_by true n most is some = search (tests, arith, is)
+below_by false n most is some = absurd (some refl)
 
-pub has_left : (takes budget : ℕ) → (nat_lt takes budget ≡ false → ⊥) → takes < budget
-has_left takes budget some = left_by (nat_lt takes budget) takes budget refl some
+below : (n most : ℕ) → (nat_lt n most ≡ false → ⊥) → n < most
+below n most some = below_by (nat_lt n most) n most refl some
+
+-- this is the answer of `has_take`
+abbrev pub TellsTake : Bool → PoolSeat → Pool → Type 0
+TellsTake has_take s p = has_take ≡ (nat_lt s.takes p.limits.budget && nat_lt s.table_seat.posts most_posts)
+
+-- it has both, if it has not been refused
+has_left : (has_take : Bool) (s : PoolSeat) (p : Pool) → TellsTake has_take s p → (has_take ≡ false → ⊥) → (s.takes < p.limits.budget) × (s.table_seat.posts < most_posts)
+has_left has_take s p tells some = (
+  below s.takes p.limits.budget (λ e. some (tells ∙ and_left (nat_lt s.takes p.limits.budget) (nat_lt s.table_seat.posts most_posts) e)),
+  below s.table_seat.posts most_posts (λ e. some (tells ∙ and_right (nat_lt s.takes p.limits.budget) (nat_lt s.table_seat.posts most_posts) e)),
+)
 
 one_before : (depth : ℕ) → 1 < depth → 0 < depth - 1
 one_before depth more = omega (arith, more)
@@ -56,11 +69,14 @@ module _ (s t : TableSeat) (p : Pool) (m takes : ℕ) (rest : IsAtRest s p) (les
 
   counts_asked_again : (depth : ℕ) (granted : Option Record) → AsksAtAnyDepth (Ok (Asked.Again depth)) granted s t p m → CountsTakes takes 0 t p
   counts_asked_again depth None did = counts_deeper s t p m takes rest.belongs less counts AskAgainSteps (depth - 1) depth (one_before depth did.0) did.1 did.2
-  counts_asked_again depth (Some r) did = absurd did.1
+  counts_asked_again depth (Some r) did = absurd did.2
 
   counts_not_asked : (refusal : Refusal) (granted : Option Record) → AsksAtAnyDepth (Err refusal) granted s t p m → CountsTakes takes 0 t p
   counts_not_asked Refusal.DepthFull None did = counted_refused s t p takes 0 counts did.1
-  counts_not_asked Refusal.Spent None did = counted_refused s t p takes 0 counts did.1
+  counts_not_asked Refusal.Spent None did = elim did.1 [
+    | inl refused ↦ counted_refused s t p takes 0 counts refused
+    | inr none ↦ counts_loaded s t m none.0 none.1 p takes 0 counts
+  ]
   counts_not_asked _ _ did = absurd did
 
   counts_unlocked : (result : Result Release Refusal) → UnlocksAtAnyDepth result s t p m → CountsTakes takes 0 t p
@@ -83,12 +99,12 @@ module _ (s : PoolSeat) (t : TableSeat) (p : Pool) (m : ℕ) (between : IsBetwee
 
   -- a try_lock
   pub tried_held : (result : Result Locked Refusal) (how : How) → result ≡ Ok (Locked.Held how) → IsAtRest t p → TriesAtAnyDepth result s.table_seat t p m
-      → (HasDepthIn s.table_seat p m 0 → nat_lt s.takes p.limits.budget ≡ false → result ≡ Err Refusal.Spent)
+      → (has_take : Bool) → TellsTake has_take s p → (HasDepthIn s.table_seat p m 0 → has_take ≡ false → result ≡ Err Refusal.Spent)
       → IsBetweenCalls (record { table_seat = t; takes = s.takes + 1; asleep_in = s.asleep_in }) p
-  tried_held result how is later did refuses =
+  tried_held result how is later did has_take tells refuses =
       let done = subst (λ (r : Result Locked Refusal). TriesAtAnyDepth r s.table_seat t p m) is did in
-      let left = has_left s.takes p.limits.budget (λ e. let spent = refuses done.0 e in absurd (cc)) in
-      stays (s.takes + 1) later (counts_tried s.table_seat t p m s.takes rest.belongs less counts left (Locked.Held how) done.1)
+      let left = has_left has_take s p tells (λ e. let spent = refuses done.0 e in absurd (cc)) in
+      stays (s.takes + 1) later (counts_tried s.table_seat t p m s.takes rest.belongs less counts left.0 left.1 (Locked.Held how) done.1)
 
   pub tried_again : (result : Result Locked Refusal) (depth : ℕ) → result ≡ Ok (Locked.Again depth) → IsAtRest t p → TriesAtAnyDepth result s.table_seat t p m
       → IsBetweenCalls (record { table_seat = t; takes = s.takes; asleep_in = s.asleep_in }) p
@@ -100,23 +116,33 @@ module _ (s : PoolSeat) (t : TableSeat) (p : Pool) (m : ℕ) (between : IsBetwee
   try_refused result refusal is later did =
       stays s.takes later (counts_refused_try s.table_seat t p m s.takes rest less counts refusal (subst (λ (r : Result Locked Refusal). TriesAtAnyDepth r s.table_seat t p m) is did))
 
-  -- an ask
+  -- an ask, before whose steps it has loaded the push word
+  abbrev loaded : ℕ → TableSeat
+  loaded found = after_load s.table_seat m found
+
+  loaded_belongs : (found : ℕ) → OfPool (loaded found) p
+  loaded_belongs found = belongs_loaded s.table_seat (loaded found) m found refl p (same_loaded s.table_seat (loaded found) m found refl (refl, refl, refl)) rest.belongs
+
+  loaded_counts : (found : ℕ) → CountsTakes s.takes 0 (loaded found) p
+  loaded_counts found = counts_loaded s.table_seat (loaded found) m found refl p s.takes 0 counts
+
   pub asked_held : (result : Result Asked Refusal) (granted : Option Record) (how : How) → result ≡ Ok (Asked.Held how) → IsPlacedBy result t p m → AsksAtAnyDepth result granted s.table_seat t p m
-      → (HasDepthIn s.table_seat p m 0 → nat_lt s.takes p.limits.budget ≡ false → result ≡ Err Refusal.Spent)
+      → (has_take : Bool) → TellsTake has_take s p → (HasDepthIn s.table_seat p m 0 → has_take ≡ false → result ≡ Err Refusal.Spent)
       → IsBetweenCalls (record { table_seat = t; takes = s.takes + 1; asleep_in = s.asleep_in }) p
-  asked_held result granted how is placed did refuses =
+  asked_held result granted how is placed did has_take tells refuses =
       let done = subst (λ (r : Result Asked Refusal). AsksAtAnyDepth r granted s.table_seat t p m) is did in
-      let left = has_left s.takes p.limits.budget (λ e. let spent = refuses done.0 e in absurd (cc)) in
-      stays (s.takes + 1) (subst (λ (r : Result Asked Refusal). IsPlacedBy r t p m) is placed) (counts_asked s.table_seat t p m s.takes rest.belongs less counts left how granted done.1)
+      let left = has_left has_take s p tells (λ e. let spent = refuses done.0 e in absurd (cc)) in
+      stays (s.takes + 1) (subst (λ (r : Result Asked Refusal). IsPlacedBy r t p m) is placed)
+      (counts_asked (loaded done.1.0) t p m s.takes (loaded_belongs done.1.0) less (loaded_counts done.1.0) left.0 left.1 how granted done.1.2)
 
   pub asked_asleep : (result : Result Asked Refusal) (granted : Option Record) → result ≡ Ok Asked.Asleep → IsPlacedBy result t p m → AsksAtAnyDepth result granted s.table_seat t p m
-      → (HasDepthIn s.table_seat p m 0 → nat_lt s.takes p.limits.budget ≡ false → result ≡ Err Refusal.Spent)
+      → (has_take : Bool) → TellsTake has_take s p → (HasDepthIn s.table_seat p m 0 → has_take ≡ false → result ≡ Err Refusal.Spent)
       → IsBetweenCalls (record { table_seat = t; takes = s.takes + 1; asleep_in = Some m }) p
-  asked_asleep result granted is placed did refuses =
+  asked_asleep result granted is placed did has_take tells refuses =
       let done = subst (λ (r : Result Asked Refusal). AsksAtAnyDepth r granted s.table_seat t p m) is did in
-      let left = has_left s.takes p.limits.budget (λ e. let spent = refuses done.0 e in absurd (cc)) in
+      let left = has_left has_take s p tells (λ e. let spent = refuses done.0 e in absurd (cc)) in
       let away = subst (λ (r : Result Asked Refusal). IsPlacedBy r t p m) is placed in
-      let counted = counts_waiting s.table_seat t p m s.takes rest.belongs less counts left granted done.1 in record {
+      let counted = counts_waiting (loaded done.1.0) t p m s.takes (loaded_belongs done.1.0) less (loaded_counts done.1.0) left.0 left.1 granted done.1.2 in record {
         awake = λ e. absurd (cc);
         sleeps = λ n e. subst (λ (i : ℕ). IsAwayIn t p i × Sleeps (state_of t i) × CountsTakes (s.takes + 1) 1 t p) (some_injective m n e) (away.0, away.1, counted);
       }

@@ -21,17 +21,20 @@ use Rattle.lfm_pool.specs.declared.view.PoolView.{PoolView}
 use Rattle.lfm_pool.specs.Belongs.{IsMutex, OfPool, SameSeat}
 use Rattle.lfm_pool.specs.Carrying.{CarriesIn, MayAccess, NotesIn}
 use Rattle.lfm_pool.specs.Seats.{note_of, popped_of}
+use Rattle.lfm_pool.specs.declared.view.Admission.{Admission}
+use Rattle.lfm_pool.specs.Admissions.{admitted_in, stamp_in}
 use Rattle.lfm_pool.specs.Chain.{AreWithin, HasRecord, IsChain, first_link, first_seat}
 use Rattle.lfm_pool.specs.Posts.{KeepsPost, KeepsPosts}
 use Rattle.lfm_pool.specs.Rule.{own_at, link_at, wake_at, HeldPool, NobodyCarries}
-use Rattle.lfm_pool.specs.Tables.{IsUncollected, note, part, with_part, rests, has_link}
+use Rattle.lfm_pool.specs.Tables.{IsUncollected, known, note, part, with_part, rests, has_link}
 use Rattle.lfm_pool.proofs.Chains.{chain_on, has_dropped}
 use Rattle.lfm_pool.proofs.Links.{linked_busy}
-use Rattle.lfm_pool.proofs.LoneTables.{changed_same, changed_other, note_same, note_other, part_same, part_other, seats_of}
+use Rattle.lfm_pool.proofs.LoneTables.{admission_same, changed_same, changed_other, note_same, note_other, part_same, part_other, seats_of}
 use Rattle.lfm_pool.proofs.PoppedRecords.{first_alone}
 use Rattle.lfm_pool.proofs.PoppedViews.{HasLinkAt, popped_view}
 use Rattle.lfm_pool.proofs.PostStates.{keeps_same}
-use Rattle.lfm_pool.proofs.PostsKept.{allows_posts}
+use Rattle.lfm_pool.proofs.PostsKept.{LeavesStamps, allows_posts}
+use Rattle.lfm_pool.proofs.Stamps.{admitted_elsewhere, admitted_same, stamps_kept}
 use Rattle.lfm_pool.proofs.Steps.{one_carries}
 
 -- What a write of x into the word at this index needs, if the seat that carries mutex m has the note k of it then, and
@@ -76,7 +79,7 @@ module _ (id m : ℕ) (v : PoolView) (here : m < length v.parts) (carries : carr
 
     wide_now : (j : ℕ) (z : PoolView) → get_elem? (set s.views id (with_part v m (part v m) k)) j ≡ some z → length z.parts ≡ h.mutexes
     wide_now j z e = ⊎_elim
-        (λ (c : (j ≡ id) × (with_part v m (part v m) k ≡ z)). ap (λ (y : PoolView). length y.parts) (sym c.1) ∙ length-set v.parts m (record { view = part v m; note = k }) ∙ h.wide id v at)
+        (λ (c : (j ≡ id) × (with_part v m (part v m) k ≡ z)). ap (λ (y : PoolView). length y.parts) (sym c.1) ∙ length-set v.parts m _ ∙ h.wide id v at)
         (λ (c : (j ≢ id) × (get_elem? s.views j ≡ some z)). h.wide j z c.1)
         (at_set s.views id j (with_part v m (part v m) k) z e)
 
@@ -288,7 +291,7 @@ mutexes_are p t belongs s h at = sym (h.wide t.place.id t.place.me.0 at) ∙ bel
 -- a view in which only a note has changed says the same of posts
 notes_keep : (v : PoolView) (m : ℕ) (k : Note) → m < length v.parts → KeepsPosts v (with_part v m (part v m) k)
 notes_keep v m k here = record {
-  parts = length-set v.parts m (record { view = part v m; note = k });
+  parts = length-set v.parts m _;
   posts = refl;
   found = refl;
   each = λ i. elim (cases_eq i m) [
@@ -299,21 +302,38 @@ notes_keep v m k here = record {
   ];
 }
 
+-- a seat whose note alone changes may push as often as before
+notes_calm : (v : PoolView) (m : ℕ) (k : Note) → m < length v.parts → (i : ℕ) → admitted_in i (with_part v m (part v m) k) ≡ admitted_in i v
+notes_calm v m k here i = elim (cases_eq i m) [
+  | inl same ↦ rw same (admitted_same v m (part v m) k here refl)
+  | inr other ↦ admitted_elsewhere v m (part v m) k here i other
+]
+
 module _ (p : Pool) (t : TableSeat) (m : ℕ) (belongs : OfPool t p) (mutex : IsMutex m p) (carries : CarriesIn t m) where
   here : m < length t.place.me.0.parts
   here = let n = belongs.parts in omega (arith, n, mutex)
 
-  -- the word at this index is no handoff word
+  -- the word at this index is neither a handoff word nor a push word
   abbrev IsOff : ℕ → Type 0
-  IsOff index = (s : State ℕ PoolView) (h : HeldPool s) → get_elem? s.views t.place.id ≡ some t.place.me.0 → (i : ℕ) → i < h.mutexes → index ≢ own_at i 2
+  IsOff index = (s : State ℕ PoolView) (h : HeldPool s) → get_elem? s.views t.place.id ≡ some t.place.me.0 → (i : ℕ) → i < h.mutexes → (index ≢ own_at i 2) × (index ≢ own_at i 3)
 
   -- an access that keeps the rule of the words with the handoff words of the tables, and says nothing of posts
-  may_access : (index : ℕ) (f : ℕ → ℕ) (number : ℕ) (after : PoolView) (within : List Record) → IsOff index → KeepsPosts t.place.me.0 after
+  may_access : (index : ℕ) (f : ℕ → ℕ) (number : ℕ) (after : PoolView) (within : List Record) → IsOff index → KeepsPosts t.place.me.0 after → ((i : ℕ) → (known after i).admission ≡ (known t.place.me.0 i).admission) → ((i : ℕ) → admitted_in i after ≡ admitted_in i t.place.me.0)
       → Allows HeldPool p.table.shared.table_id.slots t.place.id t.place.me index f (λ n me'. (f n ≡ number) × (me' ≡ (after, t.place.me.1)) × AreWithin max_seats within)
       → MayAccess p.table.shared.table_id.slots t.place.id t.place.me index f number after within
-  may_access index f number after within off kept allowed =
-      allows_posts p.table.shared.table_id.slots t.place.id index t.place.me f (λ n me'. (f n ≡ number) × (me' ≡ (after, t.place.me.1)) × AreWithin max_seats within) allowed off
+  may_access index f number after within off kept same calm allowed =
+      allows_posts p.table.shared.table_id.slots t.place.id index t.place.me f (λ n me'. (f n ≡ number) × (me' ≡ (after, t.place.me.1)) × AreWithin max_seats within) allowed (λ s h at i less. (off s h at i less).0)
       (λ n me' told. subst (λ (z : Me ℕ PoolView). KeepsPosts t.place.me.0 z.0) (sym told.1) kept)
+      (λ s h at me' told i less.
+      let word = ap stamp_in (get_or-set_other s.words index (own_at i 3) (f (slice_index h.own index)) 0 (λ e. (off (record { words = h.own; homes = s.homes; views = s.views }) h.held at i less).1 (sym e))) in
+      let unit = calm i in
+      let found = ap (λ (a : Admission). stamp_in a.found) (same i) in
+      let before = h.seen i t.place.id t.place.me.0 less at in
+      subst (λ (z : Me ℕ PoolView). LeavesStamps i s.words (set s.words index (f (slice_index h.own index))) (set s.views t.place.id z.0) z.0) (sym told.1) (
+        stamps_kept i s.words (set s.words index (f (slice_index h.own index))) s.views t.place.id t.place.me.0 after at (h.stamps i less) (omega (arith, word, unit)),
+        omega (arith, word, found, before),
+        omega (arith, word),
+      ))
 
   same_view : KeepsPosts t.place.me.0 t.place.me.0
   same_view = record { parts = refl; posts = refl; found = refl; each = λ i. keeps_same (part t.place.me.0 i).state }
@@ -321,7 +341,7 @@ module _ (p : Pool) (t : TableSeat) (m : ℕ) (belongs : OfPool t p) (mutex : Is
   -- a load of a word whose number is known
   loads : (index x : ℕ) (within : List Record) → IsOff index → ((s : State ℕ PoolView) (h : HeldPool s) → get_elem? s.views t.place.id ≡ some t.place.me.0 → (slice_index s.words index ≡ x) × AreWithin max_seats within)
       → MayAccess p.table.shared.table_id.slots t.place.id t.place.me index (λ n. n) x t.place.me.0 within
-  loads index x within off is = may_access index (λ n. n) x t.place.me.0 within off same_view (λ s h none at small. (
+  loads index x within off is = may_access index (λ n. n) x t.place.me.0 within off same_view (λ i. refl) (λ i. refl) (λ s h none at small. (
     t.place.me.0,
     keeps,
     tt,
@@ -333,17 +353,17 @@ module _ (p : Pool) (t : TableSeat) (m : ℕ) (belongs : OfPool t p) (mutex : Is
   writes : (index number x : ℕ) (k : Note) → number ≡ x → IsOff index
       → ((s : State ℕ PoolView) (h : HeldPool s) → get_elem? s.views t.place.id ≡ some t.place.me.0 → HeldPool (record { words = set s.words index number; homes = s.homes; views = set s.views t.place.id (with_part t.place.me.0 m (part t.place.me.0 m) k) }))
       → MayAccess p.table.shared.table_id.slots t.place.id t.place.me index (λ n. number) x (with_part t.place.me.0 m (part t.place.me.0 m) k) []
-  writes index number x k same off held = may_access index (λ n. number) x (with_part t.place.me.0 m (part t.place.me.0 m) k) [] off (notes_keep t.place.me.0 m k here) (λ s h none at small. (with_part t.place.me.0 m (part t.place.me.0 m) k, keeps, tt, held s h at, (same, refl, λ r has. absurd has)))
+  writes index number x k same off held = may_access index (λ n. number) x (with_part t.place.me.0 m (part t.place.me.0 m) k) [] off (notes_keep t.place.me.0 m k here) (λ i. admission_same t.place.me.0 m i (part t.place.me.0 m) k) (notes_calm t.place.me.0 m k here) (λ s h none at small. (with_part t.place.me.0 m (part t.place.me.0 m) k, keeps, tt, held s h at, (same, refl, λ r has. absurd has)))
 
   pub loads_carried : (index : ℕ) → index ≡ own_at m 4 → MayAccess p.table.shared.table_id.slots t.place.id t.place.me index (λ n. n) (note_of t m).carried t.place.me.0 (popped_of t m)
-  loads_carried index e = loads index (note_of t m).carried (popped_of t m) (λ s h at i less hit. omega (arith, e, hit)) (λ s h at. (
+  loads_carried index e = loads index (note_of t m).carried (popped_of t m) (λ s h at i less. ((λ hit. omega (arith, e, hit)), (λ hit. omega (arith, e, hit)))) (λ s h at. (
     ap (λ (i : ℕ). slice_index s.words i) e ∙ carried_is t.place.id m t.place.me.0 here carries s h at,
     are_within t.place.id m t.place.me.0 here carries s h at,
   ))
 
   pub writes_carried : (index number : ℕ) → index ≡ own_at m 4
       → MayAccess p.table.shared.table_id.slots t.place.id t.place.me index (λ n. number) number (with_part t.place.me.0 m (part t.place.me.0 m) (record (note_of t m) { carried = number })) []
-  writes_carried index number e = writes index number number (record (note_of t m) { carried = number }) refl (λ s h at i less hit. omega (arith, e, hit)) (λ s h at.
+  writes_carried index number e = writes index number number (record (note_of t m) { carried = number }) refl (λ s h at i less. ((λ hit. omega (arith, e, hit)), (λ hit. omega (arith, e, hit)))) (λ s h at.
       subst (λ (i : ℕ). HeldPool (record { words = set s.words i number; homes = s.homes; views = set s.views t.place.id (with_part t.place.me.0 m (part t.place.me.0 m) (record (note t.place.me.0 m) { carried = number })) })) (sym e)
       (carried_written t.place.id m t.place.me.0 here carries s h at number))
 
@@ -357,7 +377,8 @@ module _ (p : Pool) (t : TableSeat) (m : ℕ) (belongs : OfPool t p) (mutex : Is
 
   -- nor is a link word
   off_chain : (index target : ℕ) → 0 < target → index + 2 ≡ p.mutexes * 8 + target * 2 → IsOff index
-  off_chain index target above there s h at i less hit = let many = mutexes_are p t belongs s h at in omega (arith, many, above, there, less, hit)
+  off_chain index target above there s h at i less =
+      let many = mutexes_are p t belongs s h at in ((λ hit. omega (arith, many, above, there, less, hit)), (λ hit. omega (arith, many, above, there, less, hit)))
 
   pub loads_chain : (index target : ℕ) → target ≡ first_seat (popped_of t m) → 0 < target → index + 2 ≡ p.mutexes * 8 + target * 2 → (note_of t m).due ≡ 0
       → MayAccess p.table.shared.table_id.slots t.place.id t.place.me index (λ n. n) (first_link (popped_of t m)) t.place.me.0 (popped_of t m)
@@ -385,7 +406,7 @@ same_noted s t m k same notes = record {
   table = same.0;
   id = same.1;
   number = same.2;
-  parts = ap (λ (z : Me ℕ PoolView). length z.0.parts) notes ∙ length-set s.place.me.0.parts m (record { view = part s.place.me.0 m; note = k });
+  parts = ap (λ (z : Me ℕ PoolView). length z.0.parts) notes ∙ length-set s.place.me.0.parts m _;
 }
 
 pub same_known : (s t : TableSeat) → (t.place.table_id ≡ s.place.table_id) × (t.place.id ≡ s.place.id) × (t.number ≡ s.number) → t.place.me ≡ s.place.me → SameSeat s t

@@ -1,5 +1,5 @@
 -- The fast paths of a pool's calls, each as its two steps.
-use Rattle.std.proofs.Common.{◌≡◌, ◌≢◌, ℕ, ◌+◌, ◌*◌, ◌<◌, List, [], ◌∷◌, ◌++◌, length, nat_lt, refl, sym, ap, ◌∙◌, subst, arith, tests, length-set, append_assoc, Option}
+use Rattle.std.proofs.Common.{◌≡◌, ◌≢◌, ℕ, ◌+◌, ◌*◌, ◌<◌, List, [], ◌∷◌, ◌++◌, length, nat_lt, set, refl, sym, ap, ◌∙◌, subst, arith, tests, length-set, append_assoc, Option}
 use Rattle.std.specs.Prelude.{⊤, Bool, true}
 use Rattle.std.proofs.lemmas.Bool.{ne_eqb}
 use Rattle.std.proofs.lemmas.List.{set-set}
@@ -27,22 +27,26 @@ use Rattle.lfm_table.specs.Rule.{in_hand}
 use Rattle.lfm_table.proofs.tables.Actions.{run_by, run_next, step_last}
 use Rattle.lfm_table.proofs.tables.Started as Started
 use Rattle.lfm_table.proofs.tables.StepFacts.{begin_keeps, made_of}
+use Rattle.lfm_pool.specs.declared.view.Admission.{Admission}
 use Rattle.lfm_pool.specs.declared.view.Note.{Note}
 use Rattle.lfm_pool.specs.declared.view.PoolView.{PoolView}
 use Rattle.lfm_pool.specs.Chain.{note_after, note_by, rested}
-use Rattle.lfm_pool.specs.Tables.{note, part, with_part}
+use Rattle.lfm_pool.specs.Tables.{known, note, part, with_part}
 use Rattle.lfm_words.specs.Popped.{oldest}
 use Rattle.lfm_pool.specs.Steps.{hand_if, hand_of, IsOwnAccessOf, RestsElsewhere, Sits, Stepped, StepsIn}
 use Rattle.lfm_pool.specs.FastPaths.{MayTry, HoldsOnce, Enters, FindsTaken, Leaves, KnowsMoreOf, Serves}
-use Rattle.lfm_pool.proofs.LoneTables.{note_same, part_same, part_other}
+use Rattle.lfm_pool.proofs.LoneTables.{admission_same, note_same, part_same, part_other}
 
 -- Views
 
 pub length_with : (v : PoolView) (m : ℕ) (w : View ⊤) (n : Note) → length (with_part v m w n).parts ≡ length v.parts
-length_with v m w n = length-set v.parts m (record { view = w; note = n })
+length_with v m w n = length-set v.parts m _
 
 pub twice_with : (v : PoolView) (m : ℕ) (w x : View ⊤) (n k : Note) → with_part (with_part v m w n) m x k ≡ with_part v m x k
-twice_with v m w x n k = λ i. record v { parts = set-set v.parts m (record { view = w; note = n }) (record { view = x; note = k }) i }
+twice_with v m w x n k =
+    let twice = set-set v.parts m (record (known v m) { view = w; note = n }) (record (known (with_part v m w n) m) { view = x; note = k }) in
+    let same = ap (λ (a : Admission). set v.parts m (record { view = x; note = k; admission = a })) (admission_same v m m w n) in
+    λ i. record v { parts = (twice ∙ same) i }
 
 pub elsewhere_with : (v : PoolView) (m : ℕ) (w : View ⊤) (n : Note) → RestsElsewhere v m → RestsElsewhere (with_part v m w n) m
 elsewhere_with v m w n rest i less other = rw (part_other v m i w n other) (rest i (let l = length_with v m w n in omega (arith, l, less)) other)

@@ -34,7 +34,7 @@ use Rattle.lfm_pool.specs.declared.view.Note.{Note}
 use Rattle.lfm_pool.specs.declared.view.PoolView.{PoolView}
 use Rattle.lfm_pool.specs.Belongs.{SameSeat}
 use Rattle.lfm_pool.specs.Carrying.{CarriesIn, NotesIn}
-use Rattle.lfm_pool.specs.Chain.{AreWithin, KeepsChain, HasRecord, first_link, first_seat, note_after, rested}
+use Rattle.lfm_pool.specs.Chain.{AreWithin, HasRecord, first_link, first_seat, note_after, rested}
 use Rattle.lfm_pool.specs.Collecting.{CollectsIn, loads_of, walk_head}
 use Rattle.lfm_pool.specs.FastPaths.{KnowsMoreOf}
 use Rattle.lfm_pool.specs.FinishAsk.{ClearsForLock, EntersByOwn, FinishesIn, FinishSteps, IsReadyFinished, NotesFinished, TakesOldest, finished}
@@ -43,11 +43,11 @@ use Rattle.lfm_pool.specs.Releasing.{AreQueued, collecting}
 use Rattle.lfm_pool.specs.Seats.{MovesIn, note_of, popped_of, state_of}
 use Rattle.lfm_pool.specs.SeatWords.{Grants, LoadsLink}
 use Rattle.lfm_pool.specs.Serving.{GrantsIn, IsOldest, ServesOldest}
-use Rattle.lfm_pool.specs.Steps.{IsOwnAccessOf, RestsElsewhere, Sits, StepsIn}
-use Rattle.lfm_pool.specs.Tables.{note, part, with_part}
+use Rattle.lfm_pool.specs.Steps.{IsOwnAccessOf, KeepsChainIn, RestsElsewhere, Sits, StepsIn}
+use Rattle.lfm_pool.specs.Tables.{known, note, part, with_part}
 use Rattle.lfm_pool.proofs.CarrierWords.{first_record}
 use Rattle.lfm_pool.proofs.FastPaths.{both, elsewhere_with, goes_on, note_now, part_now, twice_with}
-use Rattle.lfm_pool.proofs.Keeping.{carried_on, is_link_load, keeps_at}
+use Rattle.lfm_pool.proofs.Keeping.{carried_on, is_link_load, keeps_at, may_push}
 use Rattle.lfm_pool.proofs.LoneTables.{note_same, part_same}
 use Rattle.lfm_pool.proofs.ServingRecords.{first_within}
 use Rattle.lfm_pool.proofs.SeveralSteps.{at_point, inside, made_by, may_after, may_then}
@@ -301,8 +301,12 @@ module _ (s : TableSeat) (p : Pool) (m : ℕ) (may : MayStepIn s p m) (own : Ent
     enter_access number e =
         subst (λ (y : SeatState × ℕ). IsOwnAccessOf p.limits.seats s2.number y.0 (Access.Store 1 y.1)) (λ i. (sym state2 i, (same_both.number ∙ sym e) i)) ((Kind.OwnerStore, refl, refl, (λ n. refl), refl), omega arith, λ e. omega (arith, e))
 
-    pub enter_keeps : KeepsChain (state_of s2 m) s2.number (part s2.place.me.0 m) (note_of s2 m)
-    enter_keeps = keeps_at (state_of s2 m) s2.number (part s2.place.me.0 m) (note_of s2 m) (EnterOwnerStore Entrant.Locker (How.Queued own.0.stamp)) (ap (λ (y : SeatState). y.point) state2) refl refl
+    pub enter_keeps : KeepsChainIn s2.number m (state_of s2 m) s2.place.me.0
+    enter_keeps =
+        let at = ap (λ (y : SeatState). y.point) state2 in (
+          keeps_at (state_of s2 m) s2.number (part s2.place.me.0 m) (note_of s2 m) (EnterOwnerStore Entrant.Locker (How.Queued own.0.stamp)) at refl refl,
+          may_push (EnterOwnerStore Entrant.Locker (How.Queued own.0.stamp)) (known s2.place.me.0 m) (state_of s2 m).point at tt,
+        )
 
     pub entered : (stamp : ℕ) → own.0.stamp ≡ stamp → (z : TableSeat) (n : ℕ) → MovesIn s2 z p m n → n ≡ s.number → FinishesIn (Finished.Held stamp) s z p m
     entered stamp stamp_is z n moved told =
@@ -434,8 +438,12 @@ module _ (s : TableSeat) (p : Pool) (m : ℕ) (may : MayStepIn s p m) (clears : 
       own_access number e =
           subst (λ (y : SeatState × ℕ). IsOwnAccessOf p.limits.seats u.number y.0 (Access.Store 1 y.1)) (λ i. (sym state_own i, (same_all.number ∙ sym e) i)) ((Kind.OwnerStore, refl, refl, (λ n. refl), refl), omega arith, λ e. omega (arith, e))
 
-      pub own_keeps : KeepsChain (state_of u m) u.number (part u.place.me.0 m) (note_of u m)
-      own_keeps = keeps_at (state_of u m) u.number (part u.place.me.0 m) (note_of u m) (EnterOwnerStore Entrant.Locker (How.Queued r.stamp)) (ap (λ (y : SeatState). y.point) state_own) refl refl
+      pub own_keeps : KeepsChainIn u.number m (state_of u m) u.place.me.0
+      own_keeps =
+          let at = ap (λ (y : SeatState). y.point) state_own in (
+            keeps_at (state_of u m) u.number (part u.place.me.0 m) (note_of u m) (EnterOwnerStore Entrant.Locker (How.Queued r.stamp)) at refl refl,
+            may_push (EnterOwnerStore Entrant.Locker (How.Queued r.stamp)) (known u.place.me.0 m) (state_of u m).point at tt,
+          )
 
       pub finished_own : (stamp : ℕ) → r.stamp ≡ stamp → (z : TableSeat) (k : ℕ) → MovesIn u z p m k → k ≡ s.number → FinishesIn (Finished.Held stamp) s z p m
       finished_own stamp stamp_is z k moved told =

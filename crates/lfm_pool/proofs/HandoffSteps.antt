@@ -1,7 +1,8 @@
 -- The steps on the handoff word keep the rule of the pool's table, and tell of the word of the mutex's table.
-use Rattle.std.proofs.Common.{◌≡◌, ◌≢◌, ℕ, ◌+◌, ◌-◌, ◌*◌, ◌<◌, ◌≤◌, List, length, nat_eq, set, refl, sym, ap, ◌∙◌, subst, inl, inr, arith, length-set, Option, Some, None}
+use Rattle.std.proofs.Common.{◌≡◌, ◌≢◌, ℕ, ◌+◌, ◌-◌, ◌*◌, ◌^◌, ◌<◌, ◌≤◌, List, [], ◌∷◌, ◌++◌, length, nat_eq, set, refl, sym, ap, ◌∙◌, subst, inl, inr, arith, length-set, Option, Some, None}
 use Rattle.std.specs.Prelude.{⊤, Bool, true, false, slice_index}
 use Rattle.std.proofs.lemmas.Bool.{cases_eq, eq-eqb, false≢true, ne_eqb}
+use Rattle.std.proofs.lemmas.List.{get_or-set_other}
 use prog.Atomic.{either}
 use mathlib.Core.Option.{some}
 use lib.ListN.{get_elem?}
@@ -13,7 +14,7 @@ use Rattle.lfm_words.specs.Words.{handoff_of, handoff_word}
 use Rattle.lfm_protocol.specs.declared.kinds.Kind.{Kind}
 use Rattle.lfm_protocol.specs.declared.points.Carrier.{Carrier}
 use Rattle.lfm_protocol.specs.declared.points.Point.{Point}
-use Rattle.lfm_protocol.specs.declared.points.Point.TheVariants.{Rest, TryHandoffLoad, TryHandoffExchange, PushedHandoffLoad, PushedHandoffExchange, ReleaseHandoffStore, ReleaseHandoffExchange}
+use Rattle.lfm_protocol.specs.declared.points.Point.TheVariants.{Rest, TryHandoffLoad, TryHandoffExchange, PushExchange, PushedHandoffLoad, PushedHandoffExchange, ReleaseHandoffStore, ReleaseHandoffExchange}
 use Rattle.lfm_protocol.specs.declared.points.Pusher.{Pusher}
 use Rattle.lfm_protocol.specs.declared.points.Releaser.TheVariants.{Unlocker}
 use Rattle.lfm_protocol.specs.declared.seats.SeatState.{SeatState}
@@ -26,15 +27,22 @@ use Rattle.lfm_laws.specs.table.Words.{stepped_by}
 use Rattle.lfm_laws.proofs.steady.queue.Pushers.{fits_at}
 use Rattle.lfm_table.specs.declared.operations.Access.{Access}
 use Rattle.lfm_laws.specs.steady.Steady.{DepthAt}
+use Rattle.lfm_table.specs.declared.seat_view.Seen.{Seen}
 use Rattle.lfm_table.specs.declared.seat_view.View.{View}
+use Rattle.lfm_table.specs.Accesses.{word_at, becomes, is_store}
+use Rattle.lfm_table.specs.Actions.{seen, told_of}
 use Rattle.lfm_table.specs.Rule.{Advanced}
 use Rattle.lfm_table.specs.Steps.{CanMake}
 use Rattle.lfm_table.proofs.tables.RuleKept.{length_at}
 use Rattle.lfm_table.proofs.tables.StepFacts.{made_of}
 use Rattle.lfm_pool.specs.declared.pool.Pool.{Pool}
 use Rattle.lfm_pool.specs.declared.pool.TableSeat.{TableSeat}
+use Rattle.lfm_pool.specs.declared.accesses.PoolAccess.{PoolAccess}
+use Rattle.lfm_pool.specs.declared.view.Admission.{Admission}
+use Rattle.lfm_pool.specs.declared.view.Known.{Known}
 use Rattle.lfm_pool.specs.declared.view.Note.{Note}
 use Rattle.lfm_pool.specs.declared.view.PoolView.{PoolView}
+use Rattle.lfm_pool.specs.Admissions.{MayPush, admitted_in, pushed_at, pushes, stamp_in}
 use Rattle.lfm_pool.specs.Chain.{needs_chain, note_after, rested}
 use Rattle.lfm_pool.specs.Belongs.{SameSeat}
 use Rattle.lfm_pool.specs.Handoff.{LoadsWordIn, MakesPostIn, TellsOfLoad, TellsOfPost, TellsOfTry, TriesPostIn, forgetting, forgotten, loads_handoff, makes_post, recounted, tried_post, tries_post}
@@ -42,19 +50,21 @@ use Rattle.lfm_pool.specs.Moves.{MayStepIn}
 use Rattle.lfm_pool.specs.Posts.{HeldPosts, has_posted, loaded_post, named}
 use Rattle.lfm_pool.specs.Rule.{HeldPool, own_at}
 use Rattle.lfm_pool.specs.Seats.{MovesIn, note_of, state_of}
-use Rattle.lfm_pool.specs.Steps.{IsAccessOf, IsStepOf, RestsElsewhere, Stepped, StepsIn, hand_out, slots_out, state_in}
-use Rattle.lfm_pool.specs.Tables.{Slot, any_follows, any_fits, note, part, rests_at, with_part}
+use Rattle.lfm_pool.specs.Steps.{IsAccessOf, IsStepOf, KeepsChainIn, RestsElsewhere, Stepped, StepsIn, hand_out, slots_out, state_in}
+use Rattle.lfm_pool.specs.Tables.{Slot, any_follows, any_fits, known, note, part, rests_at, with_part}
 use Rattle.lfm_pool.proofs.Forgotten.{forgotten_same, may_forgotten, may_recounted, may_remember, recounted_same, same_forgotten}
 use Rattle.lfm_pool.proofs.Keeping.{keeps_by_post, keeps_plain}
 use Rattle.lfm_pool.proofs.Lifting.{within}
-use Rattle.lfm_pool.proofs.LoneTables.{part_other, part_same}
+use Rattle.lfm_pool.proofs.LoneTables.{admission_same, part_other, part_same}
+use Rattle.lfm_pool.proofs.Numbers.{not_handoff, numbers_of, own_posts}
 use Rattle.lfm_pool.proofs.PostNumbers.{after_first, after_here, after_mutex, after_old, after_other, after_rises, named_empty, named_none, named_number, named_seat, named_word, names_after, renumbered_new, same_named}
 use Rattle.lfm_pool.proofs.PostStates.{PostState, at_take, post_state}
 use Rattle.lfm_pool.proofs.PostsKept.{Renames, held_posts}
 use Rattle.lfm_pool.proofs.Parts.{sits_after, stepped}
 use Rattle.lfm_pool.proofs.SameParts.{held_same}
 use Rattle.lfm_pool.proofs.SeveralSteps.{may_after}
-use Rattle.lfm_pool.proofs.Steps.{step_lone}
+use Rattle.lfm_pool.proofs.Stamps.{admitted_elsewhere, admitted_same, pushes_more, stamps_kept}
+use Rattle.lfm_pool.proofs.Steps.{Numbered, here as step_here, step_lone}
 
 -- The points
 
@@ -76,6 +86,20 @@ tries_kind _ e = absurd (false≢true e)
 makes_is : (q : Point) → makes_post q ≡ true → q ≡ ReleaseHandoffStore Unlocker
 makes_is (ReleaseHandoffStore Unlocker) e = refl
 makes_is _ e = absurd (false≢true e)
+
+-- none of these steps pushes
+
+calm_loads : (q : Point) (k : Known) → loads_handoff q ≡ true → MayPush q k × ((n : ℕ) → pushed_at q n ≡ 0)
+calm_loads (PushExchange pusher old) k e = absurd (false≢true e)
+calm_loads _ k e = (tt, λ n. refl)
+
+calm_tries : (q : Point) (k : Known) → tries_post q ≡ true → MayPush q k × ((n : ℕ) → pushed_at q n ≡ 0)
+calm_tries (PushExchange pusher old) k e = absurd (false≢true e)
+calm_tries _ k e = (tt, λ n. refl)
+
+calm_makes : (q : Point) (k : Known) → makes_post q ≡ true → MayPush q k × ((n : ℕ) → pushed_at q n ≡ 0)
+calm_makes (PushExchange pusher old) k e = absurd (false≢true e)
+calm_makes _ k e = (tt, λ n. refl)
 
 -- what the seat has loaded and posted after each step
 loads_after : (d t ps s n : ℕ) (o : Option Record) (q : Point) → loads_handoff q ≡ true
@@ -111,6 +135,10 @@ makes_after : (d t ps s n : ℕ) (o : Option Record) (q : Point) → makes_post 
 makes_after d t ps s n o (ReleaseHandoffStore Unlocker) e = refl
 makes_after d t ps s n o _ e = absurd (false≢true e)
 
+-- a step that pushes nothing leaves the number of pushes
+still_after : (q : Point) (n : ℕ) (w : View ⊤) (trail : List Seen) → w.trail ≡ trail ++ seen q n ∷ [] → pushed_at q n ≡ 0 → pushes w.trail ≡ pushes trail
+still_after q n w trail grown none = let more = ap pushes grown ∙ pushes_more trail (seen q n) in omega (arith, more, none)
+
 -- The accesses to the word of the table
 
 loads_access : (seats number : ℕ) (p : SeatState) → loads_handoff p.point ≡ true → IsAccessOf seats number p (Access.Load 2)
@@ -134,8 +162,8 @@ module _ (id m number mutexes seats : ℕ) (me : Me ℕ PoolView) (p : SeatState
     abbrev l : ℕ
     l = slice_index h.own (own_at m 2)
 
-    inner : m < h.held.mutexes
-    inner = within id m me.0 here elsewhere own h.held at
+    abbrev inner : m < h.held.mutexes
+    inner = within id m me.0 here elsewhere (record { words = h.own; homes = s.homes; views = s.views }) h.held at
 
     id_inside : id < length s.views
     id_inside = length_at s.views id me.0 at
@@ -154,6 +182,23 @@ module _ (id m number mutexes seats : ℕ) (me : Me ℕ PoolView) (p : SeatState
 
     away : (i : ℕ) → i < h.held.mutexes → i ≢ m → (loaded_post (part me.0 i).state.point ≡ None) × (has_posted (part me.0 i).state.point ≡ false)
     away i less other = resting (part me.0 i).state.point (elsewhere i (let w = h.held.wide id me.0 at in omega (arith, w, less)) other)
+
+    -- the numbers fit before a step that pushes nothing, and after it
+    fits_for : (a : PoolAccess) (is : IsStepOf mutexes seats m number p a) (keeps_chain : KeepsChainIn number m p me.0) → ((n : ℕ) → pushed_at p.point n ≡ 0) → ((n : ℕ) (o : Option Record) → (stepped_by p number n o).seat.posts + 1 < 2 ^ 48)
+        → Numbered id m number mutexes seats me p hand slots inside can elsewhere a is keeps_chain own h.held at
+    fits_for a is keeps_chain none posts =
+        let numbers = numbers_of s h m (within id m me.0 (step_here id m number mutexes seats me p hand slots inside can elsewhere a is keeps_chain) elsewhere own h.held at) in (
+          numbers,
+          (let stamp = numbers.stamp in let calm = none (told_of (is_store a.access) (becomes a.access (slice_index (h.held.tables m).words (word_at a.access))) (slice_index (h.held.tables m).words (word_at a.access))) in omega (arith, stamp, calm)),
+          posts,
+        )
+
+    posts_few : p.posts + 1 < 2 ^ 48
+    posts_few =
+        let most = own_posts s h m inner id me.0 at in
+        let few = h.few id me.0 at in
+        let same = ap (λ (x : SeatState). x.posts) now in
+        omega (arith, most, few, same)
 
     -- a seat that has loaded no post in the mutex remembers no number
     none_found : loaded_post p.point ≡ None → me.0.found ≡ 0
@@ -184,13 +229,14 @@ module _ (id m number mutexes seats : ℕ) (me : Me ℕ PoolView) (p : SeatState
       state_away i other = ap (λ (y : View ⊤). y.state) (part_away i other)
 
       long : length u.parts ≡ length me.0.parts
-      long = length-set me.0.parts m (record { view = w; note = k })
+      long = length-set me.0.parts m _
 
       module _ (x y : ℕ) (names : ℕ → ℕ → ℕ → ℕ) (word : x ≡ named (names m) y) (others : (i : ℕ) → i ≢ m → names i ≡ h.names i) (seats_same : (t a : ℕ) → t ≢ number → names m t a ≡ h.names m t a)
           (old : (seen : Handoff) → (seen.seat ≡ number → seen.post ≤ p.posts) → names m seen.seat seen.post ≡ h.names m seen.seat seen.post)
           (rising : (i t a b : ℕ) → a < b → names i t a < names i t b) (first : (i t : ℕ) → names i t 0 ≡ 0)
           (more : me.0.posts ≤ posts) (counted : names m number w.state.posts ≤ posts) (loaded : (seen : Handoff) → loaded_post w.state.point ≡ Some seen → found ≡ names m seen.seat seen.post)
-          (posted : has_posted w.state.point ≡ true → posts ≡ names m number w.state.posts) (unfound : loaded_post w.state.point ≡ None → found ≡ 0) where
+          (posted : has_posted w.state.point ≡ true → posts ≡ names m number w.state.posts) (unfound : loaded_post w.state.point ≡ None → found ≡ 0)
+          (calm : pushes w.trail ≡ pushes (part me.0 m).trail) (few : posts + 1 < 2 ^ 48) where
         -- a post that another seat has loaded is no later one
         loaded_old : (j : ℕ) (z : PoolView) (seen : Handoff) → get_elem? s.views j ≡ some z → loaded_post (part z m).state.point ≡ Some seen → seen.seat ≡ number → seen.post ≤ p.posts
         loaded_old j z seen e has same =
@@ -250,13 +296,28 @@ module _ (id m number mutexes seats : ℕ) (me : Me ℕ PoolView) (p : SeatState
             | inr apart ↦ absurd (false≢true (sym (away i less apart).1 ∙ ap (λ (y : SeatState). has_posted y.point) (sym (state_away i apart)) ∙ has))
           ];
           unfound = λ none. unfound (ap (λ (y : SeatState). loaded_post y.point) (sym (state_here m refl)) ∙ none m inner);
-        }
+          stamps = λ i less. stamps_kept i s.words (set s.words (own_at m 2) x) s.views id me.0 u at (h.stamps i less)
+              (let word = push_kept i in let unit = admitted_still i in omega (arith, word, unit));
+          seen = λ i less. let before = h.seen i id me.0 less at in let same = ap (λ (a : Admission). stamp_in a.found) (admission_same me.0 m i w k) in let word = push_kept i in omega (arith, before, same, word);
+          grows = λ i less. let word = push_kept i in omega (arith, word);
+          few = few;
+        } where
+          -- the handoff word is no push word
+          push_kept : (i : ℕ) → stamp_in (slice_index (set s.words (own_at m 2) x) (own_at i 3)) ≡ stamp_in (slice_index s.words (own_at i 3))
+          push_kept i = ap stamp_in (get_or-set_other s.words (own_at m 2) (own_at i 3) x 0 (not_handoff i m))
+
+          -- the seat may push as often as before
+          admitted_still : (i : ℕ) → admitted_in i (record (with_part me.0 m w k) { posts = posts; found = found }) ≡ admitted_in i me.0
+          admitted_still i = elim (cases_eq i m) [
+            | inl same ↦ rw same (admitted_same me.0 m w k here calm)
+            | inr apart ↦ admitted_elsewhere me.0 m w k here i apart
+          ]
 
         pub after_handoff : HeldPool (record { words = set h.own (own_at m 2) y; homes = s.homes; views = set s.views id (with_part me.0 m w k) })
             → HeldPosts (record { words = set s.words (own_at m 2) x; homes = s.homes; views = set s.views id (record (with_part me.0 m w k) { posts = posts; found = found }) })
         after_handoff held =
             held_posts s h id me.0 at (own_at m 2) x y s.homes u names renames
-            (held_same (set h.own (own_at m 2) y) s.homes s.views id u (with_part me.0 m w k) refl id_inside held)
+            (held_same (set h.own (own_at m 2) y) s.homes s.views id u (with_part me.0 m w k) (λ i. (refl, refl)) refl id_inside held)
 
   -- The load
 
@@ -267,8 +328,18 @@ module _ (id m number mutexes seats : ℕ) (me : Me ℕ PoolView) (p : SeatState
     pub load_allowed : Allows HeldPosts 0 id me (own_at m 2) (λ n. n) (λ n me'. TellsOfLoad m p (λ x. Advanced any_follows any_fits p hand (part me.0 m, slots) x) me n me')
     load_allowed s h none at small =
         let lone : State ℕ PoolView = record { words = h.own; homes = s.homes; views = s.views } in
-        let done = step_lone id m number mutexes seats me p hand slots inside can elsewhere (record { index = own_at m 2; access = Access.Load 2 }) load_step
-        (keeps_plain p number (part me.0 m) (note me.0 m) (loads_kind p.point at_load).1) lone h.held at
+        let calm = calm_loads p.point (known me.0 m) at_load in
+        let keeps_chain : KeepsChainIn number m p me.0 = (keeps_plain p number (part me.0 m) (note me.0 m) (loads_kind p.point at_load).1, calm.0) in
+        let done = step_lone id m number mutexes seats me p hand slots inside can elsewhere (record { index = own_at m 2; access = Access.Load 2 }) load_step keeps_chain lone h.held at
+        (fits_for s h at (record { index = own_at m 2; access = Access.Load 2 }) load_step keeps_chain calm.1 (λ n o.
+        let few = posts_few s h at in
+        let leads = loads_after p.depth p.takes p.posts number n o p.point at_load in
+        let same : (stepped_by p number n o).seat.posts ≡ p.posts = elim (cases_eq (handoff_of n).seat 0) [
+          | inl empty ↦ ap (λ (z : PostState). z.0) (leads.0 empty)
+          | inr full ↦ ap (λ (z : PostState). z.0) (leads.1 full)
+        ]
+        in
+        omega (arith, few, same)))
         in
         let n : ℕ = slice_index s.words (own_at m 2) in
         let there : ℕ = slice_index h.own (own_at m 2) in
@@ -308,7 +379,7 @@ module _ (id m number mutexes seats : ℕ) (me : Me ℕ PoolView) (p : SeatState
           keeps,
           tt,
           after_handoff s h at w (note_after p w (note me.0 m)) me.0.posts (handoff_of n).post n there h.names is (λ i other. refl) (λ t a other. refl) (λ seen old. refl) h.rising h.first
-              (omega arith) counted now_loaded (λ has. absurd (false≢true (sym not_posted ∙ has))) now_unfound done.2,
+              (omega arith) counted now_loaded (λ has. absurd (false≢true (sym not_posted ∙ has))) now_unfound (still_after p.point there w (part me.0 m).trail done.3.trail (calm.1 there)) (h.few id me.0 at) done.2,
           (
             w,
             done.1,
@@ -403,8 +474,13 @@ module _ (id m number mutexes seats : ℕ) (me : Me ℕ PoolView) (p : SeatState
     pub try_allowed : Allows HeldPosts 0 id me (own_at m 2) (λ n. either (nat_eq n expected) 0 n) (λ n me'. TellsOfTry m number p expected (λ x. Advanced any_follows any_fits p hand (part me.0 m, slots) x) me n me')
     try_allowed s h none at below =
         let lone : State ℕ PoolView = record { words = h.own; homes = s.homes; views = s.views } in
-        let done = step_lone id m number mutexes seats me p hand slots inside can elsewhere (record { index = own_at m 2; access = Access.CompareExchange 2 (handoff_word post) 0 }) try_step
-        (keeps_plain p number (part me.0 m) (note me.0 m) (tries_kind p.point at_try).1) lone h.held at
+        let calm = calm_tries p.point (known me.0 m) at_try in
+        let keeps_chain : KeepsChainIn number m p me.0 = (keeps_plain p number (part me.0 m) (note me.0 m) (tries_kind p.point at_try).1, calm.0) in
+        let done = step_lone id m number mutexes seats me p hand slots inside can elsewhere (record { index = own_at m 2; access = Access.CompareExchange 2 (handoff_word post) 0 }) try_step keeps_chain lone h.held at
+        (fits_for s h at (record { index = own_at m 2; access = Access.CompareExchange 2 (handoff_word post) 0 }) try_step keeps_chain calm.1 (λ n o.
+        let few = posts_few s h at in
+        let same : (stepped_by p number n o).seat.posts ≡ p.posts = ap (λ (z : PostState). z.0) (tries_after p.depth p.takes p.posts number n o p.point at_try) in
+        omega (arith, few, same)))
         in
         let n : ℕ = slice_index s.words (own_at m 2) in
         let there : ℕ = slice_index h.own (own_at m 2) in
@@ -418,13 +494,13 @@ module _ (id m number mutexes seats : ℕ) (me : Me ℕ PoolView) (p : SeatState
           keeps,
           tt,
           after_handoff s h at w (note_after p w (note me.0 m)) me.0.posts 0 (either (nat_eq n expected) 0 n) (either (nat_eq there (handoff_word post)) 0 there) h.names (written s h at) (λ i other. refl) (λ t a other. refl) (λ seen old. refl) h.rising h.first
-              (omega arith) counted (λ seen has. let gone : ◌≡◌ {A = Option Handoff} None (Some seen) = sym (ap (λ (z : PostState). z.1) leads) ∙ has in absurd (cc)) (λ has. absurd (false≢true (sym (ap (λ (z : PostState). z.2) leads) ∙ has))) (λ gone. refl) done.2,
+              (omega arith) counted (λ seen has. let gone : ◌≡◌ {A = Option Handoff} None (Some seen) = sym (ap (λ (z : PostState). z.1) leads) ∙ has in absurd (cc)) (λ has. absurd (false≢true (sym (ap (λ (z : PostState). z.2) leads) ∙ has))) (λ gone. refl) (still_after p.point there w (part me.0 m).trail done.3.trail (calm.1 there)) (h.few id me.0 at) done.2,
           (w, done.1, there, done.3, refl, record { hits = hits s h at; misses = misses s h at; unfound = none_found s h at }, done.4),
         )
 
   -- The store of a post
 
-  module _ (at_post : makes_post p.point ≡ true) (whole : note me.0 m ≡ rested (part me.0 m).popped) (stored : ℕ) (is_stored : stored ≡ handoff_word (record { seat = number; post = me.0.posts + 1 })) where
+  module _ (at_post : makes_post p.point ≡ true) (whole : note me.0 m ≡ rested (part me.0 m).popped) (stored : ℕ) (is_stored : stored ≡ handoff_word (record { seat = number; post = me.0.posts + 1 })) (left : me.0.posts + 2 < 2 ^ 48) where
     abbrev next : Handoff
     next = stored_handoff p number
 
@@ -440,8 +516,14 @@ module _ (id m number mutexes seats : ℕ) (me : Me ℕ PoolView) (p : SeatState
     pub store_allowed : Allows HeldPosts 0 id me (own_at m 2) (λ n. stored) (λ n me'. TellsOfPost m number p (λ x. Advanced any_follows any_fits p hand (part me.0 m, slots) x) me me')
     store_allowed s h none at below =
         let lone : State ℕ PoolView = record { words = h.own; homes = s.homes; views = s.views } in
-        let done = step_lone id m number mutexes seats me p hand slots inside can elsewhere (record { index = own_at m 2; access = Access.Store 2 (handoff_word next) }) store_step
-        (keeps_by_post p number (part me.0 m) (note me.0 m) Unlocker (makes_is p.point at_post) whole) lone h.held at
+        let calm = calm_makes p.point (known me.0 m) at_post in
+        let keeps_chain : KeepsChainIn number m p me.0 = (keeps_by_post p number (part me.0 m) (note me.0 m) Unlocker (makes_is p.point at_post) whole, calm.0) in
+        let done = step_lone id m number mutexes seats me p hand slots inside can elsewhere (record { index = own_at m 2; access = Access.Store 2 (handoff_word next) }) store_step keeps_chain lone h.held at
+        (fits_for s h at (record { index = own_at m 2; access = Access.Store 2 (handoff_word next) }) store_step keeps_chain calm.1 (λ n o.
+        let most = own_posts s h m (inner s h at) id me.0 at in
+        let same = ap (λ (x : SeatState). x.posts) now in
+        let one : (stepped_by p number n o).seat.posts ≡ p.posts + 1 = ap (λ (z : PostState). z.0) (makes_after p.depth p.takes p.posts number n o p.point at_post) in
+        omega (arith, most, same, one, left)))
         in
         let w = done.0 in
         let number_at = number_is s h at in
@@ -467,7 +549,7 @@ module _ (id m number mutexes seats : ℕ) (me : Me ℕ PoolView) (p : SeatState
               (after_rises h.names m number p.posts me.0.posts h.rising most) (after_first h.names m number p.posts me.0.posts h.first)
               (omega arith) (omega (arith, numbered))
               (λ seen has. let gone : ◌≡◌ {A = Option Handoff} None (Some seen) = sym (ap (λ (z : PostState). z.1) leads) ∙ has in absurd (cc))
-              (λ has. sym numbered) (λ gone. none_found s h at none_loaded) done.2,
+              (λ has. sym numbered) (λ gone. none_found s h at none_loaded) (still_after p.point (handoff_word next) w (part me.0 m).trail done.3.trail (calm.1 (handoff_word next))) (omega (arith, left)) done.2,
           (w, done.1, done.3, refl, none_found s h at none_loaded, done.4),
         ) where
           after_seat_here : (t a : ℕ) → t ≢ number → names_after h.names m number p.posts me.0.posts m t a ≡ h.names m t a
@@ -512,16 +594,16 @@ module _ (f : Pool) (s : TableSeat) (m picked_m : ℕ) (p : SeatState) (hand : O
         (λ i. (sym same_number i, sym same_expected i)) (try_allowed s.place.id m s.number f.mutexes f.limits.seats s.place.me p hand slots inside can elsewhere now at expected is)),
   )
 
-  pub store_required : (stored picked_number : ℕ) → picked_number ≡ s.number → makes_post p.point ≡ true → note s.place.me.0 m ≡ rested (part s.place.me.0 m).popped → stored ≡ handoff_word (record { seat = s.number; post = s.place.me.0.posts + 1 })
+  pub store_required : (stored picked_number : ℕ) → picked_number ≡ s.number → makes_post p.point ≡ true → note s.place.me.0 m ≡ rested (part s.place.me.0 m).popped → stored ≡ handoff_word (record { seat = s.number; post = s.place.me.0.posts + 1 }) → s.place.me.0.posts + 2 < 2 ^ 48
       → (s.place.table_id ≡ f.table.shared.table_id) × (index < f.table.shared.table_id.words)
       × Allows HeldPosts f.table.shared.table_id.slots s.place.id s.place.me index (λ n. stored)
       (λ n me'. TellsOfPost picked_m picked_number p (λ x. Advanced any_follows any_fits p hand (part s.place.me.0 picked_m, slots) x) s.place.me me')
-  store_required stored picked_number same_number at whole is = (
+  store_required stored picked_number same_number at whole is left = (
     table,
     low,
     named_so (λ n. stored) (λ j n me'. TellsOfPost j picked_number p (λ x. Advanced any_follows any_fits p hand (part s.place.me.0 j, slots) x) s.place.me me')
         (subst (λ (z : ℕ). Permits (λ n. stored) (λ j n me'. TellsOfPost j z p (λ x. Advanced any_follows any_fits p hand (part s.place.me.0 j, slots) x) s.place.me me') (0, own_at m 2, m))
-        (sym same_number) (store_allowed s.place.id m s.number f.mutexes f.limits.seats s.place.me p hand slots inside can elsewhere now at whole stored is)),
+        (sym same_number) (store_allowed s.place.id m s.number f.mutexes f.limits.seats s.place.me p hand slots inside can elsewhere now at whole stored is left)),
   )
 
 -- The seat after such a step
@@ -543,7 +625,7 @@ module _ (p : Pool) (s t : TableSeat) (m : ℕ) where
     table = same.0;
     id = same.1;
     number = same.2;
-    parts = ap (λ l. length l) is ∙ length-set v.parts m (record { view = w; note = k }) ∙ long;
+    parts = ap (λ l. length l) is ∙ length-set v.parts m _ ∙ long;
   }
 
   module _ (may : MayStepIn s p m) (same : Same) where

@@ -1,12 +1,12 @@
--- What each step needs of the chain: most need nothing, a step that gives the mutex away and the load of a link do. And what
--- the seat notes after it.
-use Rattle.std.proofs.Common.{◌≡◌, ℕ, List, drop, refl, sym, ap, ◌∙◌}
+-- What each step needs of the chain: most need nothing, a step that gives the mutex away and the load of a link do. That none
+-- but the exchange that pushes needs an admission. And what the seat notes after a step.
+use Rattle.std.proofs.Common.{◌≡◌, ℕ, List, drop, refl, sym, ap, ◌∙◌, subst}
 use Rattle.std.specs.Prelude.{⊤, Bool, true, false}
 use Rattle.std.proofs.lemmas.Bool.{false≢true}
 use Rattle.lfm_words.specs.declared.pop_lists.Record.{Record}
 use Rattle.lfm_protocol.specs.declared.points.Carrier.{Carrier}
 use Rattle.lfm_protocol.specs.declared.points.Point.{Point}
-use Rattle.lfm_protocol.specs.declared.points.Point.TheVariants.{TakeLinkLoad, ReleaseCountSubtract, ReleaseHandoffStore, GrantWakeStore}
+use Rattle.lfm_protocol.specs.declared.points.Point.TheVariants.{PushExchange, TakeLinkLoad, ReleaseCountSubtract, ReleaseHandoffStore, GrantWakeStore}
 use Rattle.lfm_protocol.specs.declared.points.Releaser.{Releaser}
 use Rattle.lfm_protocol.specs.declared.seats.SeatState.{SeatState}
 use Rattle.lfm_protocol.specs.Place.{carries}
@@ -15,7 +15,9 @@ use Rattle.lfm_laws.specs.table.Words.{popped_by_step}
 use Rattle.lfm_table.specs.declared.seat_view.View.{View}
 use Rattle.lfm_table.specs.Steps.{gives_at}
 use Rattle.lfm_table.proofs.tables.StepFacts.{keeps_value, made_of}
+use Rattle.lfm_pool.specs.declared.view.Known.{Known}
 use Rattle.lfm_pool.specs.declared.view.Note.{Note}
+use Rattle.lfm_pool.specs.Admissions.{MayPush}
 use Rattle.lfm_pool.specs.Chain.{KeepsChain, due_after, needs_chain, note_after, note_by, note_if, note_since, rested}
 
 -- the step at this point loads a link
@@ -25,11 +27,21 @@ is_link_load _ = false
 
 plain_gives : (q : Point) → needs_chain q ≡ false → gives_at q ≡ false
 plain_gives (TakeLinkLoad carrier next) plain = refl
+plain_gives (PushExchange pusher seen) plain = refl
 plain_gives _ plain = plain
 
 plain_loads : (q : Point) → needs_chain q ≡ false → is_link_load q ≡ false
 plain_loads (TakeLinkLoad carrier next) plain = absurd (false≢true (sym plain))
 plain_loads _ plain = refl
+
+-- a step that needs nothing of the chain needs no admission either
+pub plain_push : (q : Point) (k : Known) → needs_chain q ≡ false → MayPush q k
+plain_push (PushExchange pusher seen) k plain = absurd (false≢true (sym plain))
+plain_push _ k plain = tt
+
+-- what a step at this point needs, by what its point is
+pub may_push : (q : Point) (k : Known) (p : Point) → p ≡ q → MayPush q k → MayPush p k
+may_push q k p e may = subst (λ (x : Point). MayPush x k) (sym e) may
 
 module _ (p : SeatState) (number : ℕ) (v : View ⊤) (note : Note) where
   loads_none : is_link_load p.point ≡ false → (carrier : Carrier) (next : ℕ) → p.point ≡ TakeLinkLoad carrier next → note.due ≡ 0

@@ -1,5 +1,6 @@
 -- That steps, the opening and the splitting off of a seat keep the rule of a pool, and what a seat knows after them.
 pub use Rattle.atomic_table.proofs.Lists
+pub mod Admitted
 pub mod AllAsked
 pub mod AnyDepth
 pub mod Asking
@@ -20,6 +21,7 @@ pub mod Lifting
 pub mod Links
 pub mod LoneTables
 pub mod NewSeats
+pub mod Numbers
 pub mod Opening
 pub mod Owners
 pub mod Parts
@@ -30,6 +32,7 @@ pub mod PostNumbers
 pub mod PostStates
 pub mod Posting
 pub mod PostsKept
+pub mod PushLoads
 pub mod Pushing
 pub mod Receiving
 pub mod Resting
@@ -38,6 +41,8 @@ pub mod SeatWords
 pub mod ServingRecords
 pub mod SeveralSteps
 pub mod Splitting
+pub mod Stamps
+pub mod StepNumbers
 pub mod Steps
 pub mod Targets
 pub mod Trying

@@ -130,7 +130,7 @@ module _ (id m : ℕ) (v : PoolView) (here : m < length v.parts) (elsewhere : Re
 
     wide_after : (j : ℕ) (z : PoolView) → get_elem? t.views j ≡ some z → length z.parts ≡ h.mutexes
     wide_after j z e = ⊎_elim
-        (λ (c : (j ≡ id) × (u ≡ z)). ap (λ (y : PoolView). length y.parts) (sym c.1) ∙ length-set v.parts m (record { view = w; note = n }) ∙ h.wide id v at)
+        (λ (c : (j ≡ id) × (u ≡ z)). ap (λ (y : PoolView). length y.parts) (sym c.1) ∙ length-set v.parts m _ ∙ h.wide id v at)
         (λ (c : (j ≢ id) × (get_elem? s.views j ≡ some z)). h.wide j z c.1)
         (at_set s.views id j u z e)
 

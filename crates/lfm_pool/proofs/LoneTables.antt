@@ -1,5 +1,5 @@
 -- The table of one mutex of a pool by itself, and the parts of a view.
-use Rattle.std.proofs.Common.{◌≡◌, ◌≢◌, ℕ, ◌+◌, ◌*◌, ◌<◌, length, get_or, map, refl, ap, ◌∙◌, arith}
+use Rattle.std.proofs.Common.{◌≡◌, ◌≢◌, ℕ, zero, suc, ◌+◌, ◌*◌, ◌<◌, List, [], ◌∷◌, length, get_or, set, map, refl, ap, ◌∙◌, arith}
 use Rattle.std.specs.Prelude.{⊤, true, slice_index}
 use Rattle.std.proofs.lemmas.Bool.{eq-eqb, ne_eqb}
 use Rattle.std.proofs.lemmas.List.{get_or-set_other, get_or-set_same, length-map, length-append}
@@ -61,11 +61,23 @@ quiet_wake p h seats j v sized at rest =
 
 -- Views
 
-pub known_same : (v : PoolView) (m : ℕ) (w : View ⊤) (n : Note) → m < length v.parts → known (with_part v m w n) m ≡ record { view = w; note = n }
-known_same v m w n here = get_or-set_same v.parts m (record { view = w; note = n }) (unnoted no_view) here
+pub known_same : (v : PoolView) (m : ℕ) (w : View ⊤) (n : Note) → m < length v.parts → known (with_part v m w n) m ≡ record (known v m) { view = w; note = n }
+known_same v m w n here = get_or-set_same v.parts m (record (known v m) { view = w; note = n }) (unnoted no_view) here
 
 pub known_other : (v : PoolView) (m i : ℕ) (w : View ⊤) (n : Note) → i ≢ m → known (with_part v m w n) i ≡ known v i
-known_other v m i w n other = get_or-set_other v.parts m i (record { view = w; note = n }) (unnoted no_view) other
+known_other v m i w n other = get_or-set_other v.parts m i (record (known v m) { view = w; note = n }) (unnoted no_view) other
+
+-- the admissions stay
+
+kept_at : (l : List Known) (m i : ℕ) (d : Known) (w : View ⊤) (n : Note) → (get_or (set l m (record (get_or l m d) { view = w; note = n })) i d).admission ≡ (get_or l i d).admission
+kept_at [] m i d w n = refl
+kept_at (k ∷ l) zero zero d w n = refl
+kept_at (k ∷ l) zero (suc i) d w n = refl
+kept_at (k ∷ l) (suc m) zero d w n = refl
+kept_at (k ∷ l) (suc m) (suc i) d w n = kept_at l m i d w n
+
+pub admission_same : (v : PoolView) (m i : ℕ) (w : View ⊤) (n : Note) → (known (with_part v m w n) i).admission ≡ (known v i).admission
+admission_same v m i w n = kept_at v.parts m i (unnoted no_view) w n
 
 pub part_same : (v : PoolView) (m : ℕ) (w : View ⊤) (n : Note) → m < length v.parts → part (with_part v m w n) m ≡ w
 part_same v m w n here = ap (λ (k : Known). k.view) (known_same v m w n here)

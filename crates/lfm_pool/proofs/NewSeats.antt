@@ -1,6 +1,6 @@
 -- What the first seat of a pool and the seats that are split off it know while the pool opens, and that each may try every
 -- mutex.
-use Rattle.std.proofs.Common.{◌≡◌, ℕ, zero, suc, true, ◌+◌, ◌*◌, ◌<◌, ◌≤◌, List, [], ◌∷◌, length, map, replicate, get_or, refl, sym, ap, ◌∙◌, subst, arith, tests, Some, None}
+use Rattle.std.proofs.Common.{◌≡◌, ℕ, zero, suc, true, ◌+◌, ◌*◌, ◌<◌, ◌≤◌, List, [], ◌∷◌, length, map, replicate, get_or, refl, sym, ap, ◌∙◌, subst, arith, Some, None}
 use mathlib.Core.Option.{some}
 use lib.ListN.{get_elem?}
 use Rattle.std.specs.Prelude.{⊤, All}
@@ -8,7 +8,7 @@ use Rattle.std.specs.List.{insert}
 use Rattle.std.proofs.lemmas.List.{length-replicate}
 use Rattle.lfm_protocol.specs.declared.limits.Limits.{Limits}
 use Rattle.lfm_protocol.specs.declared.seats.SeatState.{SeatState}
-use Rattle.lfm_protocol.specs.Limits.{are_in_limits, max_depth}
+use Rattle.lfm_protocol.specs.Limits.{max_depth, max_seats}
 use Rattle.lfm_protocol.specs.Seats.{absent}
 use Rattle.lfm_table.specs.declared.seat_view.Role.TheVariants.{User}
 use Rattle.lfm_table.specs.declared.seat_view.View.{View}
@@ -17,7 +17,6 @@ use Rattle.lfm_table.specs.Rule.{first_view, no_view, split_view, with_split}
 use Rattle.lfm_table.proofs.tables.FreshSeats.{fresh_became, fresh_ready, fresh_seated}
 use Rattle.lfm_table.proofs.tables.OneMore.{and_first}
 use Rattle.lfm_table.proofs.tables.RuleKept.{length_at}
-use Rattle.lfm_table.proofs.tables.Starts.{limit_facts}
 use Rattle.lfm_pool.specs.declared.pool.Pool.{Pool}
 use Rattle.lfm_pool.specs.declared.pool.TableSeat.{TableSeat}
 use Rattle.lfm_pool.specs.declared.view.Known.{Known}
@@ -27,6 +26,7 @@ use Rattle.lfm_pool.specs.Rule.{MaySplit, left_view, right_view}
 use Rattle.lfm_pool.specs.Steps.{RestsElsewhere, Sits}
 use Rattle.lfm_pool.specs.FastPaths.{MayTry}
 use Rattle.lfm_pool.specs.declared.seat.PoolSeat.{PoolSeat}
+use Rattle.lfm_pool.specs.Admissions.{most_posts}
 use Rattle.lfm_pool.specs.Belongs.{IsMutex, IsNew, OfPool}
 use Rattle.lfm_pool.specs.Calls.{IsBetweenCalls}
 use Rattle.lfm_pool.specs.Counts.{CountsTakes, held_mutexes, one_hold}
@@ -53,35 +53,34 @@ first_after l k = record (first_view l tt) { made = k }
 abbrev pub split_after : Limits → ℕ → View ⊤
 split_after l k = split_view (first_after l k)
 
-positive_budget : (seats budget : ℕ) → are_in_limits seats budget ≡ true → 0 < budget
-positive_budget seats budget allowed = search (tests, arith, allowed)
+none_taken : (takes budget : ℕ) → takes ≡ 0 → 0 < budget → takes < budget
+none_taken takes budget none positive = omega (arith, none, positive)
 
 -- a seat that has made no call may try
-new_may_try : (number id : ℕ) (l : Limits) (v : View ⊤) → are_in_limits l.seats l.budget ≡ true → v.role ≡ User → v.number ≡ number → v.limits ≡ l → v.state ≡ absent → 0 < number → number ≤ l.seats
+new_may_try : (number id : ℕ) (l : Limits) (v : View ⊤) → l.seats ≤ max_seats → 0 < l.budget → v.role ≡ User → v.number ≡ number → v.limits ≡ l → v.state ≡ absent → 0 < number → number ≤ l.seats
     → (number ≡ 1 → id ≡ 0) → (number ≡ 1 → v.made + 1 ≡ l.seats) → (number ≡ 1 → length v.joined ≡ 0) → MayTry number id l v
-new_may_try number id l v allowed user named limits_are stands above within first made back =
-    let facts = limit_facts l.seats l.budget allowed in
+new_may_try number id l v few positive user named limits_are stands above within first made back =
     let words : ℕ = 4 + 2 * l.seats in
     let sits : Sits number id l absent v = record {
       seated = fresh_seated words id number l absent (v, []) refl user named limits_are refl stands;
       became = fresh_became words id number l absent (v, []) refl user named limits_are refl stands;
       ready = fresh_ready words id number l absent (v, []) refl user named limits_are refl stands above within;
-      rooted = record { low = above; high = within; few = facts.1; wide = refl; first = first; made = made; back = back };
+      rooted = record { low = above; high = within; few = few; wide = refl; first = first; made = made; back = back };
     } in
     record {
       sits = subst (λ (x : SeatState). Sits number id l x v) (sym stands) sits;
       rests = ap (λ x. x.point) stands;
       flat = ap (λ x. x.depth) stands;
-      charged = (let positive = positive_budget l.seats l.budget allowed in let none : v.state.takes ≡ 0 = ap (λ x. x.takes) stands in omega (arith, positive, none));
+      charged = none_taken v.state.takes l.budget (ap (λ x. x.takes) stands) positive;
     }
 
-pub first_may_try : (l : Limits) (k : ℕ) → are_in_limits l.seats l.budget ≡ true → k + 1 ≡ l.seats → MayTry 1 0 l (first_after l k)
-first_may_try l k allowed last =
-    new_may_try 1 0 l (first_after l k) allowed refl refl refl refl (omega arith) (omega (arith, last)) (λ e. refl) (λ e. last) (λ e. refl)
+pub first_may_try : (l : Limits) (k : ℕ) → l.seats ≤ max_seats → 0 < l.budget → k + 1 ≡ l.seats → MayTry 1 0 l (first_after l k)
+first_may_try l k few positive last =
+    new_may_try 1 0 l (first_after l k) few positive refl refl refl refl (omega arith) (omega (arith, last)) (λ e. refl) (λ e. last) (λ e. refl)
 
-pub split_may_try : (id : ℕ) (l : Limits) (k : ℕ) → are_in_limits l.seats l.budget ≡ true → k + 2 ≤ l.seats → MayTry (k + 2) id l (split_after l k)
-split_may_try id l k allowed most =
-    new_may_try (k + 2) id l (split_after l k) allowed refl refl refl refl (omega arith) most (λ e. absurd (omega (arith, e))) (λ e. absurd (omega (arith, e))) (λ e. absurd (omega (arith, e)))
+pub split_may_try : (id : ℕ) (l : Limits) (k : ℕ) → l.seats ≤ max_seats → 0 < l.budget → k + 2 ≤ l.seats → MayTry (k + 2) id l (split_after l k)
+split_may_try id l k few positive most =
+    new_may_try (k + 2) id l (split_after l k) few positive refl refl refl refl (omega arith) most (λ e. absurd (omega (arith, e))) (λ e. absurd (omega (arith, e))) (λ e. absurd (omega (arith, e)))
 
 -- All mutexes
 
@@ -134,15 +133,15 @@ is_new s p number l v table limits_are named me none rest may =
       },
     )
 
-pub first_is_new : (s : TableSeat) (p : Pool) (l : Limits) (k : ℕ) → are_in_limits l.seats l.budget ≡ true → k + 1 ≡ l.seats → s.place.table_id ≡ p.table.shared.table_id → s.place.id ≡ 0 → p.limits ≡ l
+pub first_is_new : (s : TableSeat) (p : Pool) (l : Limits) (k : ℕ) → l.seats ≤ max_seats → 0 < l.budget → k + 1 ≡ l.seats → s.place.table_id ≡ p.table.shared.table_id → s.place.id ≡ 0 → p.limits ≡ l
     → s.number ≡ 1 → s.place.me ≡ (same_of_each p.mutexes (first_after l k), []) → OfPool s p × IsNew 1 p s
-first_is_new s p l k allowed last table id limits_are named me =
-    is_new s p 1 l (first_after l k) table limits_are named me refl refl (subst (λ (i : ℕ). MayTry 1 i l (first_after l k)) (sym id) (first_may_try l k allowed last))
+first_is_new s p l k few positive last table id limits_are named me =
+    is_new s p 1 l (first_after l k) table limits_are named me refl refl (subst (λ (i : ℕ). MayTry 1 i l (first_after l k)) (sym id) (first_may_try l k few positive last))
 
-pub split_is_new : (s : TableSeat) (p : Pool) (l : Limits) (k : ℕ) → are_in_limits l.seats l.budget ≡ true → k + 2 ≤ l.seats → s.place.table_id ≡ p.table.shared.table_id → p.limits ≡ l
+pub split_is_new : (s : TableSeat) (p : Pool) (l : Limits) (k : ℕ) → l.seats ≤ max_seats → 0 < l.budget → k + 2 ≤ l.seats → s.place.table_id ≡ p.table.shared.table_id → p.limits ≡ l
     → s.number ≡ k + 2 → s.place.me ≡ (same_of_each p.mutexes (split_after l k), []) → OfPool s p × IsNew (k + 2) p s
-split_is_new s p l k allowed most table limits_are named me =
-    is_new s p (k + 2) l (split_after l k) table limits_are named me refl refl (split_may_try s.place.id l k allowed most)
+split_is_new s p l k few positive most table limits_are named me =
+    is_new s p (k + 2) l (split_after l k) table limits_are named me refl refl (split_may_try s.place.id l k few positive most)
 
 -- The seats of a new pool
 
@@ -168,13 +167,13 @@ held_none (suc n) v flat = λ i. one_hold (flat i) + held_none n v flat i
 at_most_none : (n : ℕ) → n ≡ 0 → n ≤ 0
 at_most_none n is = omega (arith, is)
 
-none_at_all : (posts held : ℕ) → posts ≡ 0 → held ≡ 0 → posts + held + 0 ≤ 0
-none_at_all posts held no_post none = omega (arith, no_post, none)
+none_at_all : (posts held most : ℕ) → posts ≡ 0 → held ≡ 0 → posts + held + 0 ≤ most
+none_at_all posts held most no_post none = omega (arith, no_post, none)
 
 new_counts : (s : TableSeat) (p : Pool) (v : View ⊤) → s.place.me ≡ (same_of_each p.mutexes v, []) → v.state ≡ absent → CountsTakes 0 0 s p
 new_counts s p v me stands = record {
   each = λ m less. at_most_none (state_of s m).takes (ap (λ (z : Me ℕ PoolView). (part z.0 m).state.takes) me ∙ ap (λ (w : View ⊤). w.state.takes) (part_same_of_each p.mutexes m v less) ∙ ap (λ (x : SeatState). x.takes) stands);
-  own = none_at_all s.posts (held_mutexes s.place.me.0.parts) (sym s.counted ∙ ap (λ (z : Me ℕ PoolView). z.0.posts) me)
+  own = none_at_all s.posts (held_mutexes s.place.me.0.parts) (most_posts + p.mutexes + 1) (sym s.counted ∙ ap (λ (z : Me ℕ PoolView). z.0.posts) me)
       (ap (λ (z : Me ℕ PoolView). held_mutexes z.0.parts) me ∙ held_none p.mutexes v (ap (λ (x : SeatState). x.depth) stands));
   within = least p.limits.budget;
 }
@@ -208,7 +207,7 @@ abbrev same_me : ℕ → View ⊤ → Me ℕ PoolView
 same_me mutexes v = (same_of_each mutexes v, [])
 
 -- all seats, once the last one has been split off
-module _ (p : Pool) (mutexes : ℕ) (l : Limits) (first : PoolSeat) (later items : List PoolSeat) (allowed : are_in_limits l.seats l.budget ≡ true) (sized : p.mutexes ≡ mutexes) (limits_are : p.limits ≡ l) (last : length later + 1 ≡ l.seats)
+module _ (p : Pool) (mutexes : ℕ) (l : Limits) (first : PoolSeat) (later items : List PoolSeat) (few : l.seats ≤ max_seats) (positive : 0 < l.budget) (sized : p.mutexes ≡ mutexes) (limits_are : p.limits ≡ l) (last : length later + 1 ≡ l.seats)
     (table : first.table_seat.place.table_id ≡ p.table.shared.table_id) (id : first.table_seat.place.id ≡ 0) (number : first.table_seat.number ≡ 1) (me : first.table_seat.place.me ≡ (same_of_each mutexes (first_after l (length later)), []))
     (no_take : first.takes ≡ 0) (awake : first.asleep_in ≡ None) (seats : (j : ℕ) (s : PoolSeat) → get_elem? later j ≡ some s → IsSplitOff p mutexes l j s) (items_are : items ≡ insert later 0 first) where
   in_pool : (v : View ⊤) → same_me mutexes v ≡ same_me p.mutexes v
@@ -217,13 +216,13 @@ module _ (p : Pool) (mutexes : ℕ) (l : Limits) (first : PoolSeat) (later items
   first_new : IsNewSeat 1 p first × IsBetweenCalls first p
   first_new =
       let me' = me ∙ in_pool (first_after l (length later)) in
-      new_pool_seat first p 1 (first_after l (length later)) (first_is_new first.table_seat p l (length later) allowed last table id limits_are number me') no_take awake me' refl
+      new_pool_seat first p 1 (first_after l (length later)) (first_is_new first.table_seat p l (length later) few positive last table id limits_are number me') no_take awake me' refl
 
   later_new : (j : ℕ) (s : PoolSeat) → get_elem? later j ≡ some s → IsNewSeat (j + 1 + 1) p s × IsBetweenCalls s p
   later_new j s at =
       let k = seats j s at in let me' = k.me ∙ in_pool (split_after l j) in
       subst (λ (i : ℕ). IsNewSeat i p s × IsBetweenCalls s p) (next_number j)
-      (new_pool_seat s p (j + 2) (split_after l j) (split_is_new s.table_seat p l j allowed (below_all (length later) j l.seats last (length_at later j s at)) k.table limits_are k.number me') k.no_take k.awake me' refl)
+      (new_pool_seat s p (j + 2) (split_after l j) (split_is_new s.table_seat p l j few positive (below_all (length later) j l.seats last (length_at later j s at)) k.table limits_are k.number me') k.no_take k.awake me' refl)
 
   pub all_new : (j : ℕ) (s : PoolSeat) → get_elem? items j ≡ some s → IsNewSeat (j + 1) p s × IsBetweenCalls s p
   all_new = and_first (λ j s. IsNewSeat (j + 1) p s × IsBetweenCalls s p) later items first items_are first_new later_new

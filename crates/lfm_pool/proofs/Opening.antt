@@ -1,24 +1,26 @@
 -- A pool of free mutexes keeps the rule: each table of a mutex is as it is when it opens.
-use Rattle.std.proofs.Common.{◌≡◌, ℕ, zero, suc, ◌+◌, ◌*◌, ◌<◌, List, [], ◌∷◌, length, replicate, get_or, refl, sym, ap, ◌∙◌, arith, Option, Some, None}
-use Rattle.std.specs.Prelude.{⊤, true, slice_index}
+use Rattle.std.proofs.Common.{◌≡◌, ℕ, zero, suc, ◌+◌, ◌*◌, ◌<◌, ◌≤◌, List, [], ◌∷◌, length, replicate, get_or, refl, sym, ap, ◌∙◌, subst, arith, Option, Some, None}
+use Rattle.std.specs.Prelude.{⊤, true, slice_index, if◌then◌else◌}
 use Rattle.std.proofs.lemmas.Bool.{false≢true}
 use Rattle.std.proofs.lemmas.List.{length-replicate}
 use mathlib.Core.Option.{some, some-injective, some-ne-none}
 use lib.ListN.{get_elem?}
 use Rattle.atomic_table.specs.Table.{opening}
 use Rattle.lfm_protocol.specs.declared.limits.Limits.{Limits}
-use Rattle.lfm_protocol.specs.Limits.{are_in_limits}
+use Rattle.lfm_protocol.specs.Limits.{max_seats}
 use Rattle.lfm_table.specs.declared.rule.Moving.{Moving}
 use Rattle.lfm_table.specs.declared.seat_view.View.{View}
-use Rattle.lfm_table.specs.Rule.{first_view}
+use Rattle.lfm_table.specs.Rule.{first_view, no_view}
 use Rattle.lfm_protocol.specs.Core.{Core}
 use Rattle.lfm_laws.specs.laws.Schedules.{reached}
 use Rattle.lfm_laws.specs.table.Carried.{carries_value}
 use Rattle.lfm_table.specs.Actions.{events_of}
-use Rattle.lfm_table.proofs.tables.Starts.{starts, starts_at}
+use Rattle.lfm_table.proofs.tables.Starts.{starts_within, starts_within_at}
 use Rattle.lfm_pool.proofs.NewSeats.{part_same_of_each}
 use Rattle.lfm_pool.specs.declared.view.PoolView.{PoolView}
-use Rattle.lfm_pool.specs.Tables.{any_follows, any_fits, MutexTable, IsKept, part, rests, has_link, unnoted}
+use Rattle.lfm_pool.specs.declared.view.Known.{Known}
+use Rattle.lfm_pool.specs.Admissions.{HasSeen, admitted_in, is_admitted, stamp_in}
+use Rattle.lfm_pool.specs.Tables.{any_follows, any_fits, HasFewSeats, MutexTable, IsKept, known, part, rests, has_link, unnoted}
 use Rattle.lfm_words.specs.declared.handoffs.Handoff.{Handoff}
 use Rattle.lfm_pool.specs.Posts.{HeldPosts, has_posted, loaded_post, named}
 use Rattle.lfm_pool.specs.Rule.{own_at, wake_at, HeldPool, first_pool_view}
@@ -32,7 +34,12 @@ one_at : (v z : PoolView) (j : ℕ) → get_elem? (v ∷ []) j ≡ some z → (j
 one_at v z zero e = (refl, some-injective v z e)
 one_at v z (suc j) e = absurd (some-ne-none z (sym e))
 
-module _ (mutexes : ℕ) (l : Limits) (allowed : are_in_limits l.seats l.budget ≡ true) where
+known_of_each : (n m : ℕ) (x d : Known) → m < n → get_or (replicate n x) m d ≡ x
+known_of_each zero m x d less = absurd (omega (arith, less))
+known_of_each (suc n) zero x d less = refl
+known_of_each (suc n) (suc m) x d less = known_of_each n m x d (omega (arith, less))
+
+module _ (mutexes : ℕ) (l : Limits) (seats : (0 < l.seats) × (l.seats ≤ max_seats)) where
   abbrev moving : Moving ⊤
   moving = record { popped = record { records = []; room = l.seats }; value = tt }
 
@@ -40,13 +47,13 @@ module _ (mutexes : ℕ) (l : Limits) (allowed : are_in_limits l.seats l.budget 
   table = opening (replicate (4 + 2 * l.seats) 0) (Some moving ∷ []) (first_view l tt)
 
   table_opens : IsKept table
-  table_opens = starts any_follows any_fits l (replicate (4 + 2 * l.seats) 0) moving allowed refl refl refl tt
+  table_opens = starts_within any_follows any_fits HasFewSeats l (replicate (4 + 2 * l.seats) 0) moving seats.1 seats.0 seats.1 refl refl refl tt
 
   -- no record is popped
   none_popped : table_opens.core.popped ≡ []
   unfolding table_opens
   none_popped =
-      let at = starts_at any_follows any_fits l (replicate (4 + 2 * l.seats) 0) moving allowed refl refl refl tt in
+      let at = starts_within_at any_follows any_fits HasFewSeats l (replicate (4 + 2 * l.seats) 0) moving seats.1 seats.0 seats.1 refl refl refl tt in
       ap (λ (c : Core). c.popped) (table_opens.run.here ∙ (λ i. reached (at.0 i) (events_of (at.1 i))))
 
   part_is : (m : ℕ) → m < mutexes → part (first_pool_view mutexes l) m ≡ first_view l tt
@@ -100,4 +107,12 @@ module _ (mutexes : ℕ) (l : Limits) (allowed : are_in_limits l.seats l.budget 
             let none : ◌≡◌ {A = Option Handoff} None (Some seen) = ap (λ (y : View ⊤). loaded_post y.state.point) (sym (part_at j m z less e)) ∙ has in absurd (cc);
         posted = λ m j z less e has. absurd (false≢true (ap (λ (y : View ⊤). has_posted y.state.point) (sym (part_at j m z less e)) ∙ has));
         unfound = λ j z e none. ap (λ (y : PoolView). y.found) (sym (one_at (first_pool_view mutexes l) z j e).1);
+        stamps = λ m less.
+            let word = ap stamp_in (zero_word (own_at m 3)) in
+            let unit : admitted_in m (first_pool_view mutexes l) ≡ 0 = ap (λ (k : Known). if is_admitted k then 1 else 0) (known_of_each mutexes m (unnoted (first_view l tt)) (unnoted no_view) less) in
+            omega (arith, word, unit);
+        seen = λ m j z less e.
+            let none : stamp_in (known (first_pool_view mutexes l) m).admission.found ≡ 0 = ap (λ (k : Known). stamp_in k.admission.found) (known_of_each mutexes m (unnoted (first_view l tt)) (unnoted no_view) less) in
+            subst (λ (y : PoolView). HasSeen m ws y) (one_at (first_pool_view mutexes l) z j e).1 (omega (arith, none));
+        few = λ j z e. let none = ap (λ (y : PoolView). y.posts) (sym (one_at (first_pool_view mutexes l) z j e).1) in omega (arith, none);
       }

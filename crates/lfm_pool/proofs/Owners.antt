@@ -1,7 +1,7 @@
 -- A load of the owner word keeps the rule of the pool, and tells the seat whether it holds the mutex.
-use Rattle.std.proofs.Common.{◌≡◌, ℕ, ◌<◌, List, sym, refl, ap, ◌∙◌, subst, arith}
+use Rattle.std.proofs.Common.{◌≡◌, ℕ, ◌<◌, List, set, sym, refl, ap, ◌∙◌, subst, arith}
 use Rattle.std.specs.Prelude.{⊤, slice_index}
-use Rattle.std.proofs.lemmas.List.{set-get_or}
+use Rattle.std.proofs.lemmas.List.{get_or-set_other, set-get_or}
 use mathlib.Core.Option.{some}
 use lib.ListN.{get_elem?}
 use Rattle.atomic_table.specs.Table.{Me, State, keeps, Allows}
@@ -14,13 +14,15 @@ use Rattle.lfm_table.proofs.tables.RuleKept.{length_at}
 use Rattle.lfm_pool.specs.declared.pool.Pool.{Pool}
 use Rattle.lfm_pool.specs.declared.pool.TableSeat.{TableSeat}
 use Rattle.lfm_pool.specs.declared.view.PoolView.{PoolView}
+use Rattle.lfm_pool.specs.Admissions.{stamp_in}
 use Rattle.lfm_pool.specs.Belongs.{IsMutex, OfPool}
 use Rattle.lfm_pool.specs.Depths.{TellsOwner}
 use Rattle.lfm_pool.specs.Posts.{HeldPosts, KeepsPosts}
 use Rattle.lfm_pool.specs.Rule.{own_at, HeldPool}
 use Rattle.lfm_pool.specs.Tables.{part}
 use Rattle.lfm_pool.proofs.PostStates.{keeps_same}
-use Rattle.lfm_pool.proofs.PostsKept.{allows_posts}
+use Rattle.lfm_pool.proofs.PostsKept.{LeavesStamps, allows_posts}
+use Rattle.lfm_pool.proofs.Stamps.{stamps_kept}
 
 module _ (p : Pool) (t : TableSeat) (m : ℕ) (belongs : OfPool t p) (mutex : IsMutex m p) where
   abbrev v : View ⊤
@@ -64,3 +66,11 @@ module _ (p : Pool) (t : TableSeat) (m : ℕ) (belongs : OfPool t p) (mutex : Is
       allows_posts slots t.place.id index t.place.me (λ n. n) (λ n me'. (me' ≡ t.place.me) × TellsOwner (part t.place.me.0 picked) n) (keeps_pool slots index picked same e)
       (λ s h at i less hit. omega (arith, e, hit))
       (λ n me' told. subst (λ (z : Me ℕ PoolView). KeepsPosts t.place.me.0 z.0) (sym told.0) (record { parts = refl; posts = refl; found = refl; each = λ i. keeps_same (part t.place.me.0 i).state }))
+      (λ s h at me' told i less.
+      let word = ap stamp_in (get_or-set_other s.words index (own_at i 3) (slice_index h.own index) 0 (λ hit. omega (arith, e, hit))) in
+      let before = h.seen i t.place.id t.place.me.0 less at in
+      subst (λ (z : Me ℕ PoolView). LeavesStamps i s.words (set s.words index (slice_index h.own index)) (set s.views t.place.id z.0) z.0) (sym told.0) (
+        stamps_kept i s.words (set s.words index (slice_index h.own index)) s.views t.place.id t.place.me.0 t.place.me.0 at (h.stamps i less) (omega (arith, word)),
+        omega (arith, word, before),
+        omega (arith, word),
+      ))

@@ -1,22 +1,28 @@
 -- What keeps the rule of a pool's table: a step that keeps the rule of the words with the handoff words of the tables, if
 -- the numbers of posts go with it.
-use Rattle.std.proofs.Common.{◌≡◌, ◌≢◌, ◌⊎◌, ℕ, zero, suc, ◌+◌, ◌<◌, ◌≤◌, List, [], ◌∷◌, get_or, length, set, refl, sym, ap, ◌∙◌, subst, ⊎_elim, inl, inr, arith, length-set, Some, None}
+use Rattle.std.proofs.Common.{◌≡◌, ◌≢◌, ◌⊎◌, ℕ, zero, suc, ◌+◌, ◌^◌, ◌<◌, ◌≤◌, List, [], ◌∷◌, get_or, length, set, refl, sym, ap, ◌∙◌, subst, ⊎_elim, inl, inr, arith, length-set, Some, None}
 use Rattle.std.specs.Prelude.{true, slice_index}
 use Rattle.std.proofs.lemmas.Bool.{cases_eq}
 use Rattle.std.proofs.lemmas.List.{get_or-set_other, get_or-set_same}
 use mathlib.Core.Option.{some}
 use lib.ListN.{get_elem?}
-use Rattle.atomic_table.specs.Table.{State, Me, Allows, carried_after, homes_after}
+use Rattle.atomic_table.specs.Table.{State, Me, Act, Allows, Valid, carried_after, homes_after, stepped}
 use Rattle.atomic_table.proofs.Lists.{at_set, set_here}
 use Rattle.lfm_words.specs.declared.handoffs.Handoff.{Handoff}
 use Rattle.lfm_table.proofs.tables.RuleKept.{length_at}
 use Rattle.lfm_pool.specs.declared.view.PoolView.{PoolView}
+use Rattle.lfm_pool.specs.Admissions.{HasSeen, HasStamps, stamp_in}
 use Rattle.lfm_pool.specs.Posts.{HeldPosts, KeepsPosts, has_posted, loaded_post, named}
 use Rattle.lfm_pool.specs.Rule.{own_at, HeldPool}
 use Rattle.lfm_pool.specs.Tables.{part}
 
+-- what an access of a seat, which has the view u then, leaves of the stamps of mutex m: one for each seat that may push, and
+-- none is lower than before
+abbrev pub LeavesStamps : ℕ → List ℕ → List ℕ → List PoolView → PoolView → Type 0
+LeavesStamps m words after views u = HasStamps m after views × HasSeen m after u × (stamp_in (slice_index words (own_at m 3)) ≤ stamp_in (slice_index after (own_at m 3)))
+
 -- two lists of one length that have the same at an index, after the same was written there
-set_both : (a b : List ℕ) (i x : ℕ) → length a ≡ length b → ◌≡◌ {A = ℕ} (get_or (set a i x) i 0) (get_or (set b i x) i 0)
+pub set_both : (a b : List ℕ) (i x : ℕ) → length a ≡ length b → ◌≡◌ {A = ℕ} (get_or (set a i x) i 0) (get_or (set b i x) i 0)
 set_both [] [] i x long = refl
 set_both [] (q ∷ qs) i x long = absurd (omega (arith, long))
 set_both (p ∷ ps) [] i x long = absurd (omega (arith, long))
@@ -40,6 +46,10 @@ module _ (s : State ℕ PoolView) (h : HeldPosts s) (id : ℕ) (v : PoolView) (a
     pub loaded : (m : ℕ) (seen : Handoff) → m < h.held.mutexes → loaded_post (part u m).state.point ≡ Some seen → u.found ≡ names m seen.seat seen.post
     pub posted : (m : ℕ) → m < h.held.mutexes → has_posted (part u m).state.point ≡ true → u.posts ≡ names m (id + 1) (part u m).state.posts
     pub unfound : ((m : ℕ) → m < h.held.mutexes → loaded_post (part u m).state.point ≡ None) → u.found ≡ 0
+    pub stamps : (m : ℕ) → m < h.held.mutexes → HasStamps m (set s.words index x) (set s.views id u)
+    pub seen : (m : ℕ) → m < h.held.mutexes → HasSeen m (set s.words index x) u
+    pub grows : (m : ℕ) → m < h.held.mutexes → stamp_in (slice_index s.words (own_at m 3)) ≤ stamp_in (slice_index (set s.words index x) (own_at m 3))
+    pub few : u.posts + 1 < 2 ^ 48
 
   module _ (index x y : ℕ) (homes : List (mathlib.Core.Option.Option ℕ)) (u : PoolView) (names : ℕ → ℕ → ℕ → ℕ) (kept : Renames index x y u names)
       (held : HeldPool (record { words = set h.own index y; homes = homes; views = set s.views id u })) where
@@ -119,6 +129,18 @@ module _ (s : State ℕ PoolView) (h : HeldPosts s) (id : ℕ) (v : PoolView) (a
         (λ (c : (j ≢ id) × (get_elem? s.views j ≡ some z)). h.unfound j z c.1 (λ m less. none m (outer m less)))
         (at_set s.views id j u z e)
 
+    seen_after : (m j : ℕ) (z : PoolView) → m < held.mutexes → get_elem? (set s.views id u) j ≡ some z → HasSeen m (set s.words index x) z
+    seen_after m j z less e = ⊎_elim
+        (λ (c : (j ≡ id) × (u ≡ z)). subst (λ (y : PoolView). HasSeen m (set s.words index x) y) c.1 (kept.seen m (inner m less)))
+        (λ (c : (j ≢ id) × (get_elem? s.views j ≡ some z)). let l = inner m less in let before = h.seen m j z l c.1 in let more = kept.grows m l in omega (arith, before, more))
+        (at_set s.views id j u z e)
+
+    few_after : (j : ℕ) (z : PoolView) → get_elem? (set s.views id u) j ≡ some z → z.posts + 1 < 2 ^ 48
+    few_after j z e = ⊎_elim
+        (λ (c : (j ≡ id) × (u ≡ z)). subst (λ (y : PoolView). y.posts + 1 < 2 ^ 48) c.1 kept.few)
+        (λ (c : (j ≢ id) × (get_elem? s.views j ≡ some z)). h.few j z c.1)
+        (at_set s.views id j u z e)
+
     pub held_posts : HeldPosts (record { words = set s.words index x; homes = homes; views = set s.views id u })
     held_posts = record {
       own = set h.own index y;
@@ -133,11 +155,15 @@ module _ (s : State ℕ PoolView) (h : HeldPosts s) (id : ℕ) (v : PoolView) (a
       loaded = loaded_after;
       posted = posted_after;
       unfound = unfound_after;
+      stamps = λ m less. kept.stamps m (inner m less);
+      seen = seen_after;
+      few = few_after;
     }
 
   -- an access to another word than a handoff word, after which the seat knows the same of posts
-  pub renames_none : (index x : ℕ) (u : PoolView) → ((m : ℕ) → m < h.held.mutexes → index ≢ own_at m 2) → KeepsPosts v u → Renames index x x u h.names
-  renames_none index x u off kept = record {
+  pub renames_none : (index x : ℕ) (u : PoolView) → ((m : ℕ) → m < h.held.mutexes → index ≢ own_at m 2) → KeepsPosts v u
+      → ((m : ℕ) → m < h.held.mutexes → LeavesStamps m s.words (set s.words index x) (set s.views id u) u) → Renames index x x u h.names
+  renames_none index x u off kept left = record {
     parts = kept.parts;
     plain = λ out. refl;
     handed = λ m less e. absurd (off m less e);
@@ -151,20 +177,30 @@ module _ (s : State ℕ PoolView) (h : HeldPosts s) (id : ℕ) (v : PoolView) (a
     loaded = λ m seen less has. kept.found ∙ h.loaded m id v seen less at (sym (kept.each m).loaded ∙ has);
     posted = λ m less has. kept.posts ∙ h.posted m id v less at ((kept.each m).posted has) ∙ ap (h.names m (id + 1)) (sym (kept.each m).posts);
     unfound = λ none. kept.found ∙ h.unfound id v at (λ m less. sym (kept.each m).loaded ∙ none m less);
+    stamps = λ m less. (left m less).0;
+    seen = λ m less. (left m less).1;
+    grows = λ m less. (left m less).2;
+    few = subst (λ (n : ℕ). n + 1 < 2 ^ 48) (sym kept.posts) (h.few id v at);
   }
 
 -- What the table allows
 
-pub allows_posts : (slots id index : ℕ) (me : Me ℕ PoolView) (f : ℕ → ℕ) (tells : ℕ → Me ℕ PoolView → Type 0)
-    → Allows HeldPool slots id me index f tells
-    → ((s : State ℕ PoolView) (h : HeldPool s) → get_elem? s.views id ≡ some me.0 → (m : ℕ) → m < h.mutexes → index ≢ own_at m 2)
+-- What an access does, in a state in which the word at this index is n: the seat knows w then, and takes or leaves what the
+-- act says. `Allows` says it of each state of which the rule holds.
+abbrev pub Does : (State ℕ PoolView → Type 0) → ℕ → Me ℕ PoolView → ℕ → (ℕ → ℕ) → (ℕ → Me ℕ PoolView → Type 0) → State ℕ PoolView → ℕ → Type 0
+Does R id me index f tells s n = (w : PoolView) × (a : Act ℕ) × Valid s.homes me.1 a × R (stepped s index (f n) id me.1 w a) × tells n (w, carried_after me.1 a)
+
+-- an access to another word than a handoff word, which keeps the rule of the words with the handoff words of the tables
+pub does_posts : (id index : ℕ) (me : Me ℕ PoolView) (f : ℕ → ℕ) (tells : ℕ → Me ℕ PoolView → Type 0) (s : State ℕ PoolView) (h : HeldPosts s) (at : get_elem? s.views id ≡ some me.0)
+    → ((m : ℕ) → m < h.held.mutexes → index ≢ own_at m 2)
     → ((n : ℕ) (me' : Me ℕ PoolView) → tells n me' → KeepsPosts me.0 me'.0)
-    → Allows HeldPosts slots id me index f tells
-allows_posts slots id index me f tells allowed off keeps s h none at small =
-    let same : slice_index s.words index ≡ slice_index h.own index = h.same index (off (record { words = h.own; homes = s.homes; views = s.views }) h.held at) in
-    let d = allowed (record { words = h.own; homes = s.homes; views = s.views }) h.held none at (subst (λ (n : ℕ). n < 18446744073709551616) same small) in
+    → (d : Does HeldPool id me index f tells (record { words = h.own; homes = s.homes; views = s.views }) (slice_index h.own index))
+    → ((m : ℕ) → m < h.held.mutexes → LeavesStamps m s.words (set s.words index (f (slice_index h.own index))) (set s.views id d.0) d.0)
+    → Does HeldPosts id me index f tells s (slice_index s.words index)
+does_posts id index me f tells s h at off keeps d stamps =
+    let same : slice_index s.words index ≡ slice_index h.own index = h.same index off in
     let kept = keeps (slice_index h.own index) (d.0, carried_after me.1 d.1) d.4 in
-    let renamed = renames_none s h id me.0 at index (f (slice_index h.own index)) d.0 (off (record { words = h.own; homes = s.homes; views = s.views }) h.held at) kept in (
+    let renamed = renames_none s h id me.0 at index (f (slice_index h.own index)) d.0 off kept stamps in (
       d.0,
       d.1,
       d.2,
@@ -172,3 +208,16 @@ allows_posts slots id index me f tells allowed off keeps s h none at small =
           (held_posts s h id me.0 at index (f (slice_index h.own index)) (f (slice_index h.own index)) (homes_after s.homes me.1 d.1) d.0 h.names renamed d.3),
       subst (λ (n : ℕ). tells n (d.0, carried_after me.1 d.1)) (sym same) d.4,
     )
+
+-- the same of an access that leaves a stamp for each seat that may push
+pub allows_posts : (slots id index : ℕ) (me : Me ℕ PoolView) (f : ℕ → ℕ) (tells : ℕ → Me ℕ PoolView → Type 0)
+    → Allows HeldPool slots id me index f tells
+    → ((s : State ℕ PoolView) (h : HeldPool s) → get_elem? s.views id ≡ some me.0 → (m : ℕ) → m < h.mutexes → index ≢ own_at m 2)
+    → ((n : ℕ) (me' : Me ℕ PoolView) → tells n me' → KeepsPosts me.0 me'.0)
+    → ((s : State ℕ PoolView) (h : HeldPosts s) → get_elem? s.views id ≡ some me.0 → (me' : Me ℕ PoolView) → tells (slice_index h.own index) me' → (m : ℕ) → m < h.held.mutexes
+    → LeavesStamps m s.words (set s.words index (f (slice_index h.own index))) (set s.views id me'.0) me'.0)
+    → Allows HeldPosts slots id me index f tells
+allows_posts slots id index me f tells allowed off keeps stamps s h none at small =
+    let same : slice_index s.words index ≡ slice_index h.own index = h.same index (off (record { words = h.own; homes = s.homes; views = s.views }) h.held at) in
+    let d = allowed (record { words = h.own; homes = s.homes; views = s.views }) h.held none at (subst (λ (n : ℕ). n < 18446744073709551616) same small) in
+    does_posts id index me f tells s h at (off (record { words = h.own; homes = s.homes; views = s.views }) h.held at) keeps d (stamps s h at (d.0, carried_after me.1 d.1) d.4)

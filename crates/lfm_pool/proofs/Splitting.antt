@@ -1,6 +1,6 @@
 -- A seat that is split off the first one keeps the rule: it is split off at each table of a mutex.
-use Rattle.std.proofs.Common.{◌≡◌, ◌≢◌, ◌⊎◌, ℕ, zero, suc, ◌+◌, ◌<◌, ◌≤◌, Option, Some, None, List, [], ◌∷◌, ◌++◌, length, set, refl, sym, ap, ◌∙◌, subst, ⊎_elim, inl, inr, arith, length-set}
-use Rattle.std.specs.Prelude.{⊤, true, slice_index}
+use Rattle.std.proofs.Common.{◌≡◌, ◌≢◌, ◌⊎◌, ℕ, zero, suc, ◌+◌, ◌^◌, ◌<◌, ◌≤◌, Option, Some, None, List, [], ◌∷◌, ◌++◌, length, set, refl, sym, ap, ◌∙◌, subst, ⊎_elim, inl, inr, arith, length-set}
+use Rattle.std.specs.Prelude.{⊤, true, slice_index, if◌then◌else◌}
 use Rattle.std.proofs.lemmas.Bool.{cases_eq, false≢true}
 use Rattle.std.proofs.lemmas.List.{get_or-map, length-map, length-append}
 use mathlib.Core.Option.{some, some-injective, some-ne-none}
@@ -11,7 +11,7 @@ use Rattle.lfm_words.specs.Words.{is_grant_word}
 use Rattle.lfm_table.specs.declared.seat_view.View.{View}
 use Rattle.lfm_pool.specs.Chain.{HasRecord}
 use Rattle.lfm_table.specs.Rule.{no_view, split_view, with_split}
-use Rattle.lfm_table.proofs.tables.RuleKept.{length_at}
+use Rattle.lfm_table.proofs.tables.RuleKept.{length_at, total_set}
 use Rattle.lfm_table.proofs.tables.OneView.{at_end}
 use Rattle.lfm_laws.specs.laws.Schedules.{reached}
 use Rattle.lfm_laws.specs.table.Carried.{carries_value}
@@ -23,7 +23,9 @@ use Rattle.lfm_pool.specs.declared.view.PoolView.{PoolView}
 use Rattle.lfm_pool.proofs.LoneTables.{seats_of}
 use Rattle.lfm_pool.specs.Tables.{any_follows, any_fits, MutexTable, IsKept, known, note, part, rests, has_link, unnoted}
 use Rattle.lfm_words.specs.declared.handoffs.Handoff.{Handoff}
+use Rattle.lfm_pool.specs.Admissions.{HasSeen, HasStamps, admitted_in, is_admitted, stamp_in}
 use Rattle.lfm_pool.specs.Posts.{HeldPosts, has_posted, loaded_post}
+use Rattle.lfm_pool.proofs.Stamps.{sum_join}
 use Rattle.lfm_pool.specs.Rule.{wake_at, HeldPool, NobodyCarries, left_view, right_view, MaySplit}
 
 -- Lists with one more element
@@ -244,6 +246,48 @@ module _ (v : PoolView) (may : MaySplit v) (s : State ℕ PoolView) (h : HeldPos
       (λ (u : (j ≡ length (set s.views 0 (left_view v))) × (right_view v ≡ z)). ap (λ (y : PoolView). y.found) (sym u.1)) t)
       (which v may own h.held at j z e)
 
+  -- a stamp is left for each seat that may push: the first may as often as before, and the new one may not
+
+  left_admitted : (m : ℕ) → m < h.held.mutexes → admitted_in m (left_view v) ≡ admitted_in m v
+  left_admitted m less = ap (λ (k : Known). if is_admitted k then 1 else 0) (left_known v m (within v may own h.held at m less))
+
+  right_admitted : (m : ℕ) → m < h.held.mutexes → admitted_in m (right_view v) ≡ 0
+  right_admitted m less =
+      ap (λ (k : Known). if is_admitted k then 1 else 0)
+      (get_or-map (λ (k : Known). unnoted (split_view k.view)) v.parts m (unnoted no_view) (unnoted no_view) (within v may own h.held at m less))
+
+  stamps_split : (m : ℕ) → m < h.held.mutexes → HasStamps m s.words (set s.views 0 (left_view v) ++ right_view v ∷ [])
+  stamps_split m less =
+      let has = h.stamps m less in
+      let both = sum_join (admitted_in m) (set s.views 0 (left_view v)) (right_view v) in
+      let total = total_set (admitted_in m) s.views 0 v (left_view v) at in
+      let left = left_admitted m less in
+      let right = right_admitted m less in
+      omega (arith, has, both, total, left, right)
+
+  seen_split : (m j : ℕ) (z : PoolView) → m < h.held.mutexes → In j z → HasSeen m s.words z
+  seen_split m j z less e = ⊎_elim
+      (λ (t : (j ≡ 0) × (left_view v ≡ z)).
+      let before = h.seen m 0 v less at in
+      let same = ap (λ (k : Known). stamp_in k.admission.found) (left_known v m (within v may own h.held at m less)) in
+      subst (λ (y : PoolView). HasSeen m s.words y) t.1 (omega (arith, before, same)))
+      (λ t. ⊎_elim
+      (λ (u : (j ≢ 0) × (get_elem? s.views j ≡ some z)). h.seen m j z less u.1)
+      (λ (u : (j ≡ length (set s.views 0 (left_view v))) × (right_view v ≡ z)).
+      let none : stamp_in (known (right_view v) m).admission.found ≡ 0 =
+      ap (λ (k : Known). stamp_in k.admission.found) (get_or-map (λ (k : Known). unnoted (split_view k.view)) v.parts m (unnoted no_view) (unnoted no_view) (within v may own h.held at m less))
+      in
+      subst (λ (y : PoolView). HasSeen m s.words y) u.1 (omega (arith, none))) t)
+      (which v may own h.held at j z e)
+
+  few_split : (j : ℕ) (z : PoolView) → In j z → z.posts + 1 < 2 ^ 48
+  few_split j z e = ⊎_elim
+      (λ (t : (j ≡ 0) × (left_view v ≡ z)). let same = ap (λ (y : PoolView). y.posts) t.1 in let few = h.few 0 v at in omega (arith, same, few))
+      (λ t. ⊎_elim
+      (λ (u : (j ≢ 0) × (get_elem? s.views j ≡ some z)). h.few j z u.1)
+      (λ (u : (j ≡ length (set s.views 0 (left_view v))) × (right_view v ≡ z)). let none = ap (λ (y : PoolView). y.posts) u.1 in omega (arith, none)) t)
+      (which v may own h.held at j z e)
+
   posts_after : HeldPosts (record { words = s.words; homes = s.homes; views = set s.views 0 (left_view v) ++ right_view v ∷ [] })
   unfolding held_after
   posts_after = record {
@@ -259,6 +303,9 @@ module _ (v : PoolView) (may : MaySplit v) (s : State ℕ PoolView) (h : HeldPos
     loaded = loaded_split;
     posted = posted_split;
     unfound = unfound_split;
+    stamps = stamps_split;
+    seen = seen_split;
+    few = few_split;
   }
 
 pub posts_split : (v : PoolView) → MaySplit v → Splits HeldPosts 0 v (left_view v) (right_view v)

@@ -1,5 +1,5 @@
 -- The next step of a seat in one mutex keeps the rule of the pool.
-use Rattle.std.proofs.Common.{◌≡◌, ◌≢◌, ◌⊎◌, ℕ, ◌+◌, ◌*◌, ◌<◌, ◌≤◌, List, drop, length, set, refl, sym, ap, ◌∙◌, subst, inl, inr, arith, tests, length-set, Option, Some}
+use Rattle.std.proofs.Common.{◌≡◌, ◌≢◌, ◌⊎◌, ℕ, ◌+◌, ◌*◌, ◌^◌, ◌<◌, ◌≤◌, List, drop, length, set, refl, sym, ap, ◌∙◌, subst, inl, inr, arith, tests, length-set, Option, Some}
 use Rattle.std.specs.Prelude.{⊤, Bool, true, false, slice_index}
 use Rattle.std.proofs.lemmas.List.{get_or-set_other, get_or-set_same}
 use Rattle.std.proofs.lemmas.Bool.{cases_eq, false≢true}
@@ -12,14 +12,14 @@ use Rattle.lfm_words.specs.declared.links.Link.{Link}
 use Rattle.lfm_words.specs.declared.pop_lists.Record.{Record}
 use Rattle.lfm_words.specs.declared.wakes.Wake.TheVariants.{Grant}
 use Rattle.lfm_words.specs.Popped.{oldest}
-use Rattle.lfm_words.specs.Words.{is_grant_word, wake_word}
+use Rattle.lfm_words.specs.Words.{is_grant_word, link_of as link_in, wake_word}
 use Rattle.lfm_protocol.specs.declared.kinds.Kind.{Kind}
 use Rattle.lfm_protocol.specs.declared.kinds.Word.{Word}
 use Rattle.lfm_protocol.specs.declared.limits.Limits.{Limits}
 use Rattle.lfm_protocol.specs.declared.points.Carrier.{Carrier}
 use Rattle.lfm_protocol.specs.declared.points.Point.{Point}
 use Rattle.lfm_protocol.specs.declared.points.Entrant.{Entrant}
-use Rattle.lfm_protocol.specs.declared.points.Point.TheVariants.{LinkStore, TakeLinkLoad, GrantWakeStore, EnterOwnerStore, ReceiveWakeLoad, ReceiveWakeStore}
+use Rattle.lfm_protocol.specs.declared.points.Point.TheVariants.{LinkStore, PushExchange, TakeLinkLoad, GrantWakeStore, EnterOwnerStore, ReceiveWakeLoad, ReceiveWakeStore}
 use Rattle.lfm_protocol.specs.declared.points.Pusher.{Pusher}
 use Rattle.lfm_protocol.specs.declared.points.Sleeper.{Sleeper}
 use Rattle.lfm_protocol.specs.declared.seats.SeatState.{SeatState}
@@ -29,7 +29,7 @@ use Rattle.lfm_protocol.specs.Place.{carries}
 use Rattle.lfm_protocol.specs.Seats.{seat, wake, with_entry, IsSeat}
 use Rattle.lfm_protocol.specs.Step.{made}
 use Rattle.lfm_laws.specs.steady.EventOutcome.{abstract}
-use Rattle.lfm_laws.specs.steady.Steady.{DepthAt, Fits}
+use Rattle.lfm_laws.specs.steady.Steady.{DepthAt, Fits, NumbersFit}
 use Rattle.lfm_laws.specs.table.Carried.{carries_value}
 use Rattle.lfm_laws.specs.table.Settles.{Settles}
 use Rattle.lfm_laws.specs.table.Words.{words, index, index_by, written_by, stepped_by, popped_by_step}
@@ -37,25 +37,26 @@ use Rattle.lfm_laws.proofs.steady.frames.Entries.{seat-with_same, seat-with_othe
 use Rattle.lfm_laws.proofs.steady.queue.Pushers.{fits_at}
 use Rattle.lfm_laws.proofs.table.Reads.{read_word}
 use Rattle.lfm_laws.proofs.table.Settled.{settles_keeps}
-use Rattle.lfm_laws.proofs.table.TableSteps.{found_at, table_step_in_limits}
+use Rattle.lfm_laws.proofs.table.TableSteps.{found_at, table_step}
 use Rattle.lfm_laws.proofs.table.Values.{carried_alone, tells_value}
 use Rattle.lfm_table.specs.declared.seat_view.View.{View}
 use Rattle.lfm_table.specs.declared.operations.Access.{Access}
 use Rattle.lfm_table.specs.Accesses.{word_at, becomes, is_store}
-use Rattle.lfm_table.specs.Actions.{told_of}
+use Rattle.lfm_table.specs.Actions.{seen, told_of}
 use Rattle.lfm_table.specs.Rule.{Advanced}
 use Rattle.lfm_table.specs.Settled.{Became}
 use Rattle.lfm_table.specs.Steps.{CanMake, gives_at, stores}
-use Rattle.lfm_table.proofs.tables.Actions.{run_budget}
-use Rattle.lfm_table.proofs.tables.CoreFacts.{carried_same}
-use Rattle.lfm_table.proofs.tables.RuleKept.{led_on, length_at}
+use Rattle.lfm_table.proofs.tables.CoreFacts.{carried_same, push_found}
+use Rattle.lfm_table.proofs.tables.RuleKept.{led_within, length_at}
 use Rattle.lfm_table.proofs.tables.SettledKept.{settles_of}
 use Rattle.lfm_table.proofs.tables.StepFacts.{carrying, keeps_value, list_stays, made_of, told_list}
 use Rattle.lfm_pool.specs.declared.accesses.PoolAccess.{PoolAccess}
 use Rattle.lfm_pool.specs.declared.pool.Pool.{Pool}
 use Rattle.lfm_pool.specs.declared.pool.TableSeat.{TableSeat}
+use Rattle.lfm_pool.specs.declared.view.Admission.{Admission}
 use Rattle.lfm_pool.specs.declared.view.Note.{Note}
 use Rattle.lfm_pool.specs.declared.view.PoolView.{PoolView}
+use Rattle.lfm_pool.specs.Admissions.{HasSeen, HasStamps, pushed_at, pushes, stamp_in}
 use Rattle.lfm_pool.specs.Chain.{HasRecord, IsChain, due_after, first_seat, note_after, note_by, rested}
 use Rattle.lfm_pool.specs.Tables.{any_follows, any_fits, Slot, MutexTable, IsKept, IsUncollected, note, part, with_part, has_link, has_link_at}
 use Rattle.lfm_pool.specs.Posts.{HeldPosts, KeepsPost, KeepsPosts}
@@ -64,11 +65,14 @@ use Rattle.lfm_pool.specs.Steps.{KeepsChainIn, RestsElsewhere, TellsOf, IsStepAt
 use Rattle.lfm_pool.proofs.Chains.{chain_less, first_or_rest}
 use Rattle.lfm_pool.proofs.Lifting.{Chained, IsBusyIn, held_after, mine, own_wake, within}
 use Rattle.lfm_pool.proofs.Links.{gains_link, link_kept, link_of_begun, linked_busy, own_gains_none}
-use Rattle.lfm_pool.proofs.LoneTables.{part_other, part_same, seats_of}
+use Rattle.lfm_pool.proofs.LoneTables.{admission_same, part_other, part_same, seats_of}
 use Rattle.lfm_pool.proofs.PoppedRecords.{collected_ungranted, collected_unpopped, popped_linked}
 use Rattle.lfm_pool.proofs.PoppedViews.{HasLinkAt, linked_view, place_of}
 use Rattle.lfm_pool.proofs.PostStates.{is_at_handoff, is_other, keeps_became, keeps_same, keeps_stepped}
-use Rattle.lfm_pool.proofs.PostsKept.{allows_posts}
+use Rattle.lfm_pool.proofs.Numbers.{numbers_of, own_posts, same_stamps, same_stamps_own, stamp_of, stamp_of_table}
+use Rattle.lfm_pool.proofs.PostsKept.{Does, LeavesStamps, does_posts}
+use Rattle.lfm_pool.proofs.Stamps.{admitted_after, admitted_elsewhere, pushes_more, stamp_left, stamps_kept}
+use Rattle.lfm_pool.proofs.StepNumbers.{numbers_after, stamp_after}
 use Rattle.lfm_pool.proofs.Targets.{collected_linked, granted_linked}
 use Rattle.lfm_pool.proofs.WordIndexes.{IsOfSeat, index_inside, link_same, link_there, not_link, own_same, wake_same, wake_there, word_inside}
 
@@ -124,7 +128,7 @@ shorter_at mutexes ws d t ps number n due l _ whole chain = chain
 
 module _ (id m number mutexes seats : ℕ) (me : Me ℕ PoolView) (p : SeatState) (hand : Option ⊤) (slots : List (ℕ × Slot)) (inside : (m < mutexes) × (length me.0.parts ≡ mutexes))
     (can : CanMake any_follows any_fits p hand number seats (4 + 2 * seats) (part me.0 m, slots)) (elsewhere : RestsElsewhere me.0 m) (a : PoolAccess) (is : IsStepOf mutexes seats m number p a) (keeps_chain : KeepsChainIn number m p me.0) where
-  here : m < length me.0.parts
+  pub here : m < length me.0.parts
   here = omega (arith, inside.0, inside.1)
 
   abbrev X : ℕ
@@ -140,7 +144,9 @@ module _ (id m number mutexes seats : ℕ) (me : Me ℕ PoolView) (p : SeatState
   abbrev k : ℕ → ℕ
   k n = told_of (is_store a.access) (becomes a.access n) n
 
-  module _ (s : State ℕ PoolView) (h : HeldPool s) (at : get_elem? s.views id ≡ some me.0) where
+  -- the numbers fit before the step and after it
+  module _ (s : State ℕ PoolView) (h : HeldPool s) (at : get_elem? s.views id ≡ some me.0) (numbers : NumbersFit (h.kept m (within id m me.0 here elsewhere s h at)).core)
+      (stamp : (h.kept m (within id m me.0 here elsewhere s h at)).core.push.stamp + pushed_at p.point (k (slice_index (h.tables m).words Y)) + 1 < 2 ^ 48) (posts : (n : ℕ) (o : Option Record) → (stepped_by p number n o).seat.posts + 1 < 2 ^ 48) where
     abbrev inner : m < h.mutexes
     inner = within id m me.0 here elsewhere s h at
 
@@ -218,7 +224,9 @@ module _ (id m number mutexes seats : ℕ) (me : Me ℕ PoolView) (p : SeatState
     due_now = due_after p.point (h.dues m)
 
     abbrev Goes : ℕ × ℕ → Type 0
-    Goes z = (w : View ⊤) × (b : Act Slot) × Valid (h.tables m).homes slots b × (after : IsKept (stepped (h.tables m) Y z.0 id slots w b)) × (after.core.popped ≡ popped_now) × Advanced any_follows any_fits p hand (part me.0 m, slots) z.1 (w, carried_after slots b)
+    Goes z =
+        (w : View ⊤) × (b : Act Slot) × Valid (h.tables m).homes slots b × (after : IsKept (stepped (h.tables m) Y z.0 id slots w b)) × (after.core.popped ≡ popped_now) × Advanced any_follows any_fits p hand (part me.0 m, slots) z.1 (w, carried_after slots b)
+        × (after.core.push.stamp ≡ lone.core.push.stamp + pushed_at p.point z.1)
 
     -- a step that does not store tells what it finds
     tells_found : (n : ℕ) → stores (kind p.point) ≡ false → k n ≡ n
@@ -230,9 +238,22 @@ module _ (id m number mutexes seats : ℕ) (me : Me ℕ PoolView) (p : SeatState
     found_is : found_at lone.core number p ≡ found_there
     found_is = ap (λ (t : List ℕ × ℕ). slice_index t.0 t.1) (λ j. (sym lone.words_are j, at_core j))
 
+    -- an exchange of the push word finds the push word
+    found_push : (pusher : Pusher) (old : Link) → p.point ≡ PushExchange pusher old → link_in (k found_there) ≡ lone.core.push
+    found_push pusher old e =
+        let by : kind p.point ≡ Some Kind.PushExchange = ap kind e in
+        ap link_in (tells_found found_there (ap stores by) ∙ (sym found_is ∙ ap (λ (q : Option Kind). slice_index (words lone.core) (index_by (length lone.core.seats) (target p.point number) q)) by))
+        ∙ push_found lone.core lone.ghost_state number p is_seat lone.fits settles
+
+    fit_after : NumbersFit (made (put lone.core number p) number).core
+    fit_after = numbers_after lone.core lone.ghost_state number p is_seat lone.fits settles (k found_there) found_push lone.narrow numbers stamp (posts (found_at lone.core number p) (oldest lone.core.popped))
+
+    stamped : (made (put lone.core number p) number).core.push.stamp ≡ lone.core.push.stamp + pushed_at p.point (k found_there)
+    stamped = stamp_after lone.core lone.ghost_state number p is_seat lone.fits settles (k found_there) found_push
+
     popped_made : (made (put lone.core number p) number).core.popped ≡ popped_now
     popped_made =
-        let ts = table_step_in_limits lone.core lone.ghost_state number p is_seat lone.fits lone.narrow (run_budget lone.opened lone.actions lone.core (h.tables m).views lone.run) settles in
+        let ts = table_step lone.core lone.ghost_state number p is_seat lone.fits lone.narrow numbers fit_after settles in
         ap (λ (e : Core). e.popped) (sym ts.is_made) ∙ ts.popped_are ∙ ap (λ (n : ℕ). popped_by_step p number n lone.core.popped) found_is
         ∙ told_list p (target p.point number) found_there (k found_there) lone.core.popped (kind p.point) (tells_found found_there)
 
@@ -240,8 +261,9 @@ module _ (id m number mutexes seats : ℕ) (me : Me ℕ PoolView) (p : SeatState
     led =
         let at_word = is.0.2 ∙ (λ j. index_by (sym can.seats_are j) (target p.point (sym can.named j)) (sym is.0.1 j)) in
         let writes : (n : ℕ) → becomes a.access n ≡ written_by p (part me.0 m).number n (kind p.point) = λ n. is.0.3 n ∙ (λ j. written_by p (sym can.named j) n (sym is.0.1 j)) in
-        let d = led_on any_follows any_fits 1 id (part me.0 m, slots) p hand (word_at a.access) (λ n. becomes a.access n) (λ n. told_of (is_store a.access) (becomes a.access n) n) can.user can.became at_word writes
+        let d = led_within any_follows any_fits 1 id (part me.0 m, slots) p hand (word_at a.access) (λ n. becomes a.access n) (λ n. told_of (is_store a.access) (becomes a.access n) n) can.user can.became at_word writes
         (λ n. ap (λ (b : Bool). told_of b (becomes a.access n) n) is.0.4 ∙ (λ j. told_of (stores (sym is.0.1 j)) (writes n j) n)) can.hand (h.tables m) lone own_view
+        numbers (subst (λ (i : ℕ). NumbersFit (made (put lone.core i p) i).core) (sym can.named) fit_after)
         in (
           d.0,
           d.1,
@@ -249,6 +271,7 @@ module _ (id m number mutexes seats : ℕ) (me : Me ℕ PoolView) (p : SeatState
           d.3.0,
           ap (λ (e : Core). e.popped) d.3.1 ∙ ap (λ (i : ℕ). (made (put lone.core i p) i).core.popped) can.named ∙ popped_made,
           d.4,
+          ap (λ (e : Core). e.push.stamp) d.3.1 ∙ ap (λ (i : ℕ). (made (put lone.core i p) i).core.push.stamp) can.named ∙ stamped,
         )
 
     -- What the pool needs of it
@@ -582,7 +605,7 @@ module _ (id m number mutexes seats : ℕ) (me : Me ℕ PoolView) (p : SeatState
         let gone : carries_value (stepped_by p number (k found) (oldest (part me.0 m).popped)).seat ≡ false =
         (λ i. carries_value (stepped_by p (sym can.named i) (k found) (oldest (sym had i))).seat) ∙ ap carries_value (sym did.state) ∙ none
         in
-        let rest : note me.0 m ≡ rested (popped_by_step p number (k found) (part me.0 m).popped) = keeps_chain.gives (k found) before gone in
+        let rest : note me.0 m ≡ rested (popped_by_step p number (k found) (part me.0 m).popped) = keeps_chain.0.gives (k found) before gone in
         let both = sym (knows_note before) ∙ rest in (
           gives_no_load p number (k found) (oldest (part me.0 m).popped) (h.dues m) before gone ∙ ap (λ (n : Note). n.due) both,
           ap (λ (n : Note). n.carried) both ∙ (λ i. first_seat (popped_by_step p number (lifts.0.1 i) (knows_popped before i))),
@@ -595,7 +618,7 @@ module _ (id m number mutexes seats : ℕ) (me : Me ℕ PoolView) (p : SeatState
     chained = record {
       calm = lifts.3;
       shorter = λ ws chain. shorter_at h.mutexes ws p.depth p.takes p.posts number (k found_there) (h.dues m) lone.core.popped p.point
-          (λ carrier next e. ap (λ (n : Note). n.due) (sym (knows_note (loading p carrier next e))) ∙ keeps_chain.loads carrier next e)
+          (λ carrier next e. ap (λ (n : Note). n.due) (sym (knows_note (loading p carrier next e))) ∙ keeps_chain.0.loads carrier next e)
           (subst (λ (l : List Record). IsChain h.mutexes ws (drop (h.dues m) l)) (sym (h.listed m inner)) chain);
       own = λ has. elim (link_after has.linked) [
         | inl before ↦ inr (was_uncollected id (part me.0 m) goes.0 has (λ e. refl) before)
@@ -614,27 +637,102 @@ module _ (id m number mutexes seats : ℕ) (me : Me ℕ PoolView) (p : SeatState
     held : HeldPool (record { words = set s.words X (f found); homes = s.homes; views = set s.views id (with_part me.0 m goes.0 (note_after p goes.0 (note me.0 m))) })
     held = held_after id m me.0 here elsewhere s h at X Y (f found) slots goes.0 (note_after p goes.0 (note me.0 m)) goes.1 popped_now due_now goes.3 goes.4 is_word lifts.2 chained
 
+    -- Stamps
+
+    -- the push word of the mutex is still that of its table
+    push_same : slice_index (set s.words X (f found)) (own_at m 3) ≡ slice_index (set (h.tables m).words Y (f found)) 3
+    push_same = elim is_word [
+      | inl own ↦ elim (cases_eq 3 Y) [
+        | inl hit ↦
+            let there : own_at m 3 ≡ X = omega (arith, own.1, hit) in
+            rw (there, hit)
+            (get_or-set_same s.words X (f found) 0 (let long = h.long in let at_own = own.1 in let low = own.0 in omega (arith, long, at_own, low, inner))
+            ∙ sym (get_or-set_same (h.tables m).words Y (f found) 0 (let sized = h.sized m inner in let low = own.0 in omega (arith, sized, low))))
+        | inr miss ↦
+            get_or-set_other s.words X (own_at m 3) (f found) 0 (λ e. miss (let at_own = own.1 in omega (arith, e, at_own)))
+            ∙ h.own m 3 inner (omega arith) ∙ sym (get_or-set_other (h.tables m).words Y 3 (f found) 0 miss)
+      ]
+      | inr of_seat ↦
+          get_or-set_other s.words X (own_at m 3) (f found) 0 (seat_word_apart of_seat m inner)
+          ∙ h.own m 3 inner (omega arith) ∙ sym (get_or-set_other (h.tables m).words Y 3 (f found) 0 (λ e. seat_word_high of_seat (omega (arith, e))))
+    ] where
+      seat_word_high : (j : ℕ) × (j < h.seats) × (((Y ≡ 4 + j) × (X ≡ link_at h.mutexes j)) ⊎ ((Y ≡ 4 + h.seats + j) × (X ≡ wake_at h.mutexes j))) → Y < 4 → ⊥
+      seat_word_high of_seat low = elim of_seat.2 [ inl link ↦ omega (arith, link.0, low) | inr wake ↦ omega (arith, wake.0, low) ]
+
+      seat_word_apart : (j : ℕ) × (j < h.seats) × (((Y ≡ 4 + j) × (X ≡ link_at h.mutexes j)) ⊎ ((Y ≡ 4 + h.seats + j) × (X ≡ wake_at h.mutexes j))) → (i : ℕ) → i < h.mutexes → own_at i 3 ≢ X
+      seat_word_apart of_seat i less e = elim of_seat.2 [ inl link ↦ omega (arith, link.1, e, less) | inr wake ↦ omega (arith, wake.1, e, less) ]
+
+    push_elsewhere : (i : ℕ) → i < h.mutexes → i ≢ m → slice_index (set s.words X (f found)) (own_at i 3) ≡ slice_index s.words (own_at i 3)
+    push_elsewhere i less other = get_or-set_other s.words X (own_at i 3) (f found) 0 (λ e. elim is_word [
+      | inl own ↦ other (let at_own = own.1 in let low = own.0 in omega (arith, e, at_own, low))
+      | inr of_seat ↦ elim of_seat.2 [ inl link ↦ absurd (omega (arith, link.1, e, less)) | inr wake ↦ absurd (omega (arith, wake.1, e, less)) ]
+    ])
+
+    stamp_now : stamp_in (slice_index (set s.words X (f found)) (own_at m 3)) ≡ stamp_in (slice_index s.words (own_at m 3)) + pushed_at p.point (k found)
+    stamp_now =
+        let before = ap stamp_in (h.own m 3 inner (omega arith)) ∙ stamp_of_table (h.tables m) lone in
+        let now = ap stamp_in push_same ∙ stamp_of_table (stepped (h.tables m) Y (f found) id slots goes.0 goes.1) goes.3 in
+        let grown = goes.6 in
+        omega (arith, before, now, grown)
+
+    trail_now : pushes goes.0.trail ≡ pushes (part me.0 m).trail + pushed_at p.point (k found)
+    trail_now = ap pushes goes.5.trail ∙ pushes_more (part me.0 m).trail (seen p.point (k found))
+
+    stamp_grows : (i : ℕ) → i < h.mutexes → stamp_in (slice_index s.words (own_at i 3)) ≤ stamp_in (slice_index (set s.words X (f found)) (own_at i 3))
+    stamp_grows i less = elim (cases_eq i m) [
+      | inl same ↦ let grown = stamp_now in rw same (omega (arith, grown))
+      | inr other ↦ let word = ap stamp_in (push_elsewhere i less other) in omega (arith, word)
+    ]
+
+    left_stamps : (i : ℕ) → i < h.mutexes → HasStamps i s.words s.views → HasStamps i (set s.words X (f found)) (set s.views id (with_part me.0 m goes.0 (note_after p goes.0 (note me.0 m))))
+    left_stamps i less has = stamps_kept i s.words (set s.words X (f found)) s.views id me.0 (with_part me.0 m goes.0 (note_after p goes.0 (note me.0 m))) at has (elim (cases_eq i m) [
+      | inl same ↦
+          let own = admitted_after me.0 m goes.0 (note_after p goes.0 (note me.0 m)) here p.point (k found) trail_now keeps_chain.1 in
+          let grown = stamp_now in
+          rw same (omega (arith, own, grown))
+      | inr other ↦
+          let own = admitted_elsewhere me.0 m goes.0 (note_after p goes.0 (note me.0 m)) here i other in
+          let word = ap stamp_in (push_elsewhere i less other) in
+          omega (arith, own, word)
+    ])
+
+    -- a stamp is left for each seat that may push, and none is lower than before
+    has_stamps : (i : ℕ) → i < h.mutexes → HasStamps i s.words s.views × HasSeen i s.words me.0
+        → LeavesStamps i s.words (set s.words X (f found)) (set s.views id (with_part me.0 m goes.0 (note_after p goes.0 (note me.0 m)))) (with_part me.0 m goes.0 (note_after p goes.0 (note me.0 m)))
+    has_stamps i less both =
+        let same = ap (λ (a : Admission). stamp_in a.found) (admission_same me.0 m i goes.0 (note_after p goes.0 (note me.0 m))) in
+        let more = stamp_grows i less in
+        let before = both.1 in
+        (left_stamps i less both.0, omega (arith, same, more, before), more)
+
+  -- the numbers fit before the step of the seat in this pool, and after it
+  abbrev pub Numbered : (s : State ℕ PoolView) (h : HeldPool s) → get_elem? s.views id ≡ some me.0 → Type 0
+  Numbered s h at =
+      (numbers : NumbersFit (h.kept m (within id m me.0 here elsewhere s h at)).core)
+      × ((h.kept m (within id m me.0 here elsewhere s h at)).core.push.stamp + pushed_at p.point (k (slice_index (h.tables m).words Y)) + 1 < 2 ^ 48) × ((n : ℕ) (o : Option Record) → (stepped_by p number n o).seat.posts + 1 < 2 ^ 48)
+
   -- the step without what the table tells: the seat's view of the mutex after it
-  pub step_lone : (s : State ℕ PoolView) (h : HeldPool s) → get_elem? s.views id ≡ some me.0
+  pub step_lone : (s : State ℕ PoolView) (h : HeldPool s) (at : get_elem? s.views id ≡ some me.0) → Numbered s h at
       → (w : View ⊤) × (slots_now : List (ℕ × Slot))
       × HeldPool (record { words = set s.words a.index (becomes a.access (slice_index s.words a.index)); homes = s.homes; views = set s.views id (with_part me.0 m w (note_after p w (note me.0 m))) })
       × Advanced any_follows any_fits p hand (part me.0 m, slots) (told_of (is_store a.access) (becomes a.access (slice_index s.words a.index)) (slice_index s.words a.index)) (w, slots_now)
       × DepthAt w.state.depth w.state.point
-  step_lone s h at =
-      let g = goes s h at in (g.0, carried_after slots g.1, held s h at, g.5, deep_now s h at)
+  step_lone s h at fit =
+      let g = goes s h at fit.0 fit.1 fit.2 in (g.0, carried_after slots g.1, held s h at fit.0 fit.1 fit.2, g.5, deep_now s h at fit.0 fit.1 fit.2)
 
-  pub step_allowed : Allows HeldPool 0 id me a.index (becomes a.access) (λ n me'. TellsOf m p (λ x. Advanced any_follows any_fits p hand (part me.0 m, slots) x) me (told_of (is_store a.access) (becomes a.access n) n) me')
-  step_allowed s h none at small =
-      let g = goes s h at in
-      (with_part me.0 m g.0 (note_after p g.0 (note me.0 m)), keeps, tt, held s h at, (g.0, carried_after slots g.1, g.5, refl, deep_now s h at))
+  -- the number that the table tells, if it finds n
+  abbrev pub Tells : ℕ → Me ℕ PoolView → Type 0
+  Tells n me' = TellsOf m p (λ x. Advanced any_follows any_fits p hand (part me.0 m, slots) x) me (told_of (is_store a.access) (becomes a.access n) n) me'
 
--- The same with the number of slots and the mutex as the table and the step name them
-pub allowed_at : (slot_count picked_m : ℕ) → slot_count ≡ 0 → (id m number mutexes seats : ℕ) (me : Me ℕ PoolView) (p : SeatState) (hand : Option ⊤) (slots : List (ℕ × Slot)) → picked_m ≡ m → (m < mutexes) × (length me.0.parts ≡ mutexes)
-    → CanMake any_follows any_fits p hand number seats (4 + 2 * seats) (part me.0 m, slots) → RestsElsewhere me.0 m → (a : PoolAccess) → IsStepOf mutexes seats m number p a → KeepsChainIn number m p me.0
-    → Allows HeldPool slot_count id me a.index (becomes a.access) (λ n me'. TellsOf picked_m p (λ x. Advanced any_follows any_fits p hand (part me.0 picked_m, slots) x) me (told_of (is_store a.access) (becomes a.access n) n) me')
-allowed_at slot_count picked_m none id m number mutexes seats me p hand slots same_m inside can elsewhere a is chained =
-    subst (λ (z : ℕ × ℕ). Allows HeldPool z.0 id me a.index (becomes a.access) (λ n me'. TellsOf z.1 p (λ x. Advanced any_follows any_fits p hand (part me.0 z.1, slots) x) me (told_of (is_store a.access) (becomes a.access n) n) me'))
-    (λ i. (sym none i, sym same_m i)) (step_allowed id m number mutexes seats me p hand slots inside can elsewhere a is chained)
+  -- the step, and the stamps that are left after it
+  pub step_does : (s : State ℕ PoolView) (h : HeldPool s) (at : get_elem? s.views id ≡ some me.0) → Numbered s h at
+      → (d : Does HeldPool id me a.index (becomes a.access) Tells s (slice_index s.words a.index))
+      × ((i : ℕ) → i < h.mutexes → HasStamps i s.words s.views × HasSeen i s.words me.0 → LeavesStamps i s.words (set s.words a.index (becomes a.access (slice_index s.words a.index))) (set s.views id d.0) d.0)
+  step_does s h at fit =
+      let g = goes s h at fit.0 fit.1 fit.2 in (
+        (with_part me.0 m g.0 (note_after p g.0 (note me.0 m)), keeps, tt, held s h at fit.0 fit.1 fit.2, (g.0, carried_after slots g.1, g.5, refl, deep_now s h at fit.0 fit.1 fit.2)),
+        has_stamps s h at fit.0 fit.1 fit.2,
+      )
 
 -- a step on another word than the handoff word leaves what the seat knows of posts
 pub tells_keep : (m : ℕ) (p : SeatState) (hand : Option ⊤) (slots : List (ℕ × Slot)) (me : Me ℕ PoolView) (n : ℕ) (me' : Me ℕ PoolView) → m < length me.0.parts → Became (part me.0 m).state (part me.0 m).limits p → is_at_handoff p.point ≡ false
@@ -643,7 +741,7 @@ tells_keep m p hand slots me n me' here became other told =
     let now : me'.0 ≡ with_part me.0 m told.0 (note_after p told.0 (note me.0 m)) = ap (λ (z : Me ℕ PoolView). z.0) told.3 in
     let adv = told.2 in
     subst (λ (u : PoolView). KeepsPosts me.0 u) (sym now) (record {
-      parts = length-set me.0.parts m (record { view = told.0; note = note_after p told.0 (note me.0 m) });
+      parts = length-set me.0.parts m _;
       posts = refl;
       found = refl;
       each = λ i. elim (cases_eq i m) [
@@ -654,6 +752,58 @@ tells_keep m p hand slots me n me' here became other told =
         | inr away ↦ subst (λ (y : View ⊤). KeepsPost (part me.0 i).state y.state) (sym (part_other me.0 m i told.0 (note_after p told.0 (note me.0 m)) away)) (keeps_same (part me.0 i).state)
       ];
     })
+
+-- A step on another word than the handoff word keeps the rule of the pool's table
+
+module _ (id m number mutexes seats : ℕ) (me : Me ℕ PoolView) (p : SeatState) (hand : Option ⊤) (slots : List (ℕ × Slot)) (inside : (m < mutexes) × (length me.0.parts ≡ mutexes))
+    (can : CanMake any_follows any_fits p hand number seats (4 + 2 * seats) (part me.0 m, slots)) (elsewhere : RestsElsewhere me.0 m) (a : PoolAccess) (is : IsStepOf mutexes seats m number p a) (keeps_chain : KeepsChainIn number m p me.0)
+    (other : is_at_handoff p.point ≡ false) (off : (i : ℕ) → i < mutexes → a.index ≢ own_at i 2) where
+  module _ (s : State ℕ PoolView) (h : HeldPosts s) (at : get_elem? s.views id ≡ some me.0) where
+    abbrev own : State ℕ PoolView
+    own = record { words = h.own; homes = s.homes; views = s.views }
+
+    abbrev within_here : m < h.held.mutexes
+    within_here = within id m me.0 (here id m number mutexes seats me p hand slots inside can elsewhere a is keeps_chain) elsewhere (record { words = h.own; homes = s.homes; views = s.views }) h.held at
+
+    many : h.held.mutexes ≡ mutexes
+    many = sym (h.held.wide id me.0 at) ∙ inside.1
+
+    -- a seat that makes such a step makes no post
+    posts_fit : (n : ℕ) (o : Option Record) → (stepped_by p number n o).seat.posts + 1 < 2 ^ 48
+    posts_fit n o =
+        let kept = (keeps_became (part me.0 m).state (part me.0 m).limits p (stepped_by p number n o).seat can.became (keeps_stepped p number n o other)).posts in
+        let most = own_posts s h m within_here id me.0 at in
+        let few = h.few id me.0 at in
+        omega (arith, kept, most, few)
+
+    fits : Numbered id m number mutexes seats me p hand slots inside can elsewhere a is keeps_chain own h.held at
+    fits = (
+      numbers_of s h m within_here,
+      (let left = stamp_left m s.words s.views id me.0 at (h.stamps m within_here) p.point (told_of (is_store a.access) (becomes a.access (slice_index (h.held.tables m).words (word_at a.access))) (slice_index (h.held.tables m).words (word_at a.access))) keeps_chain.1 in
+          let is_stamp = stamp_of s h m within_here in omega (arith, left, is_stamp)),
+      posts_fit,
+    )
+
+    pub step_kept : Does HeldPosts id me a.index (becomes a.access) (Tells id m number mutexes seats me p hand slots inside can elsewhere a is keeps_chain) s (slice_index s.words a.index)
+    step_kept =
+        let d = step_does id m number mutexes seats me p hand slots inside can elsewhere a is keeps_chain own h.held at fits in
+        does_posts id a.index me (becomes a.access) (Tells id m number mutexes seats me p hand slots inside can elsewhere a is keeps_chain) s h at
+        (λ i less. off i (subst (λ (n : ℕ). i < n) many less))
+        (λ n me' told. tells_keep m p hand slots me (told_of (is_store a.access) (becomes a.access n) n) me' (here id m number mutexes seats me p hand slots inside can elsewhere a is keeps_chain) can.became other told)
+        d.0
+        (λ i less. same_stamps s h a.index (becomes a.access (slice_index h.own a.index)) (set s.views id d.0.0) d.0.0 i (d.1 i less (same_stamps_own s h s.views me.0 i (h.stamps i less, h.seen i id me.0 less at))))
+
+  pub step_posts : Allows HeldPosts 0 id me a.index (becomes a.access) (Tells id m number mutexes seats me p hand slots inside can elsewhere a is keeps_chain)
+  step_posts s h none at small = step_kept s h at
+
+-- The same with the number of slots and the mutex as the table and the step name them
+pub allowed_at : (slot_count picked_m : ℕ) → slot_count ≡ 0 → (id m number mutexes seats : ℕ) (me : Me ℕ PoolView) (p : SeatState) (hand : Option ⊤) (slots : List (ℕ × Slot)) → picked_m ≡ m → (m < mutexes) × (length me.0.parts ≡ mutexes)
+    → CanMake any_follows any_fits p hand number seats (4 + 2 * seats) (part me.0 m, slots) → RestsElsewhere me.0 m → (a : PoolAccess) → IsStepOf mutexes seats m number p a → KeepsChainIn number m p me.0
+    → is_at_handoff p.point ≡ false → ((i : ℕ) → i < mutexes → a.index ≢ own_at i 2)
+    → Allows HeldPosts slot_count id me a.index (becomes a.access) (λ n me'. TellsOf picked_m p (λ x. Advanced any_follows any_fits p hand (part me.0 picked_m, slots) x) me (told_of (is_store a.access) (becomes a.access n) n) me')
+allowed_at slot_count picked_m none id m number mutexes seats me p hand slots same_m inside can elsewhere a is chained other off =
+    subst (λ (z : ℕ × ℕ). Allows HeldPosts z.0 id me a.index (becomes a.access) (λ n me'. TellsOf z.1 p (λ x. Advanced any_follows any_fits p hand (part me.0 z.1, slots) x) me (told_of (is_store a.access) (becomes a.access n) n) me'))
+    (λ i. (sym none i, sym same_m i)) (step_posts id m number mutexes seats me p hand slots inside can elsewhere a is chained other off)
 
 -- What the table requires of an access, which is one of the six
 pub required : (f : Pool) (s : TableSeat) (m picked_m : ℕ) (p : SeatState) (hand : Option ⊤) (slots : List (ℕ × Slot)) (at : PoolAccess) (a : Access) → at.access ≡ a → picked_m ≡ m → s.place.table_id ≡ f.table.shared.table_id
@@ -666,9 +816,6 @@ required f s m picked_m p hand slots at a e one table inside can elsewhere is ch
     let other = is_other f.limits.seats s.number p.point is_a.0.0.0 is_a.0.0.1 (λ e'. is_a.1 (is_a.0.0.2 ∙ e')) in (
       table,
       rw f.wide low,
-      allows_posts f.table.shared.table_id.slots s.place.id at.index s.place.me (becomes a) (λ n me'. TellsOf picked_m p (λ x. Advanced any_follows any_fits p hand (part s.place.me.0 picked_m, slots) x) s.place.me (told_of (is_store a) (becomes a n) n) me')
-          (allowed_at f.table.shared.table_id.slots picked_m f.no_slots s.place.id m s.number f.mutexes f.limits.seats s.place.me p hand slots one inside can elsewhere (record { index = at.index; access = a }) is_a.0 chained)
-          (λ q k there i less e'. is_a.1 (sym (own_same f.mutexes f.limits.seats m at.index (word_at a) inside.0 is_a.0.1 i 2 (let w = k.wide s.place.id s.place.me.0 there in let all = inside.1 in omega (arith, w, all, less)) (omega arith) (sym e')).1))
-          (λ n me' told. tells_keep picked_m p hand slots s.place.me (told_of (is_store a) (becomes a n) n) me' (subst (λ (i : ℕ). i < length s.place.me.0.parts) (sym one) (let w = inside.1 in let less = inside.0 in omega (arith, w, less)))
-          (subst (λ (i : ℕ). Became (part s.place.me.0 i).state (part s.place.me.0 i).limits p) (sym one) can.became) other told),
+      allowed_at f.table.shared.table_id.slots picked_m f.no_slots s.place.id m s.number f.mutexes f.limits.seats s.place.me p hand slots one inside can elsewhere (record { index = at.index; access = a }) is_a.0 chained other
+          (λ i less e'. is_a.1 (sym (own_same f.mutexes f.limits.seats m at.index (word_at a) inside.0 is_a.0.1 i 2 less (omega arith) (sym e')).1)),
     )

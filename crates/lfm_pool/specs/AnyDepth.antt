@@ -1,6 +1,6 @@
 -- What a seat at rest, and a seat that sleeps, know of the mutexes of their pool, and what the calls make of a seat at rest,
 -- however often it holds the mutex.
-use Rattle.std.specs.Prelude.{◌≡◌, ◌≢◌, ℕ, ◌+◌, ◌-◌, ◌<◌, Option, None, Result, Ok, Err}
+use Rattle.std.specs.Prelude.{◌≡◌, ◌≢◌, ◌⊎◌, ℕ, ◌+◌, ◌-◌, ◌<◌, ◌≤◌, Option, None, Result, Ok, Err}
 use Rattle.lfm_model.specs.declared.answers.Asked.{Asked}
 use Rattle.lfm_model.specs.declared.answers.Locked.{Locked}
 use Rattle.lfm_model.specs.declared.refusals.Refusal.{Refusal}
@@ -9,6 +9,7 @@ use Rattle.lfm_protocol.specs.Limits.{max_depth}
 use Rattle.lfm_pool.specs.declared.any_depth.Release.{Release}
 use Rattle.lfm_pool.specs.declared.pool.Pool.{Pool}
 use Rattle.lfm_pool.specs.declared.pool.TableSeat.{TableSeat}
+use Rattle.lfm_pool.specs.Admissions.{after_load, most_stamps, stamp_in}
 use Rattle.lfm_pool.specs.AskAll.{AsksAllIn, IsReadyAsked}
 use Rattle.lfm_pool.specs.Belongs.{IsMutex, OfPool}
 use Rattle.lfm_pool.specs.Depths.{AskAgainSteps, DeepensBy, GivesUpIn, HasDepthIn, TryAgainSteps}
@@ -42,13 +43,19 @@ TriesAtAnyDepth (Ok (Locked.Held how)) s t p m = HasDepthIn s p m 0 × TriesIn s
 TriesAtAnyDepth (Ok (Locked.Again depth)) s t p m = (1 < depth) × HasDepthIn s p m (depth - 1) × DeepensBy TryAgainSteps s t p m depth
 TriesAtAnyDepth _ s t p m = ⊥
 
+-- from s to t the seat has loaded the push word of mutex m, and has found no stamp left there for its record
+abbrev pub FindsNoStamp : TableSeat → TableSeat → ℕ → Type 0
+FindsNoStamp s t m = (found : ℕ) × (t.place.me ≡ (after_load s m found).place.me) × (most_stamps ≤ stamp_in found)
+
 -- From s to t the seat, which was at rest, has made an ask of mutex m, with this answer and this record of the seat whose
--- thread has to be woken.
+-- thread has to be woken. Unless it was refused or has deepened its hold, it has loaded the push word before its first step,
+-- and has found a stamp there.
 abbrev pub AsksAtAnyDepth : Result Asked Refusal → Option Record → TableSeat → TableSeat → Pool → ℕ → Type 0
 AsksAtAnyDepth (Err Refusal.DepthFull) None s t p m = HasDepthIn s p m max_depth × IsRefused s t
-AsksAtAnyDepth (Err Refusal.Spent) None s t p m = HasDepthIn s p m 0 × IsRefused s t
+AsksAtAnyDepth (Err Refusal.Spent) None s t p m = HasDepthIn s p m 0 × (IsRefused s t ⊎ FindsNoStamp s t m)
 AsksAtAnyDepth (Ok (Asked.Again depth)) None s t p m = (1 < depth) × HasDepthIn s p m (depth - 1) × DeepensBy AskAgainSteps s t p m depth
-AsksAtAnyDepth (Ok asked) granted s t p m = HasDepthIn s p m 0 × AsksAllIn asked granted s t p m × IsReadyAsked asked t p m
+AsksAtAnyDepth (Ok asked) granted s t p m =
+    HasDepthIn s p m 0 × ((found : ℕ) × (stamp_in found < most_stamps) × AsksAllIn asked granted (after_load s m found) t p m) × IsReadyAsked asked t p m
 AsksAtAnyDepth _ _ s t p m = ⊥
 
 -- after an ask with this answer the seat sleeps in mutex m, or rests in every mutex

@@ -1,5 +1,5 @@
 -- What the calls of a seat of a pool make of it, and what a seat keeps between two calls.
-use Rattle.std.specs.Prelude.{◌≡◌, ◌≢◌, ℕ, ◌+◌, Option, Some, None, Result, Ok, Err}
+use Rattle.std.specs.Prelude.{◌≡◌, ◌≢◌, ◌⊎◌, ℕ, ◌+◌, Option, Some, None, Result, Ok, Err}
 use Rattle.lfm_model.specs.declared.answers.Asked.{Asked}
 use Rattle.lfm_model.specs.declared.answers.How.{How}
 use Rattle.lfm_model.specs.declared.answers.Locked.{Locked}
@@ -10,9 +10,9 @@ use Rattle.lfm_pool.specs.declared.any_depth.Release.{Release}
 use Rattle.lfm_pool.specs.declared.pool.Pool.{Pool}
 use Rattle.lfm_pool.specs.declared.seat.PoolSeat.{PoolSeat}
 use Rattle.lfm_pool.specs.declared.unlock.Released.{Released}
-use Rattle.lfm_pool.specs.AnyDepth.{AsksAtAnyDepth, IsAtRest, IsAwayIn, TriesAtAnyDepth, UnlocksAtAnyDepth}
+use Rattle.lfm_pool.specs.AnyDepth.{AsksAtAnyDepth, FindsNoStamp, IsAtRest, IsAwayIn, TriesAtAnyDepth, UnlocksAtAnyDepth}
 use Rattle.lfm_pool.specs.Belongs.{SameSeat}
-use Rattle.lfm_pool.specs.Counts.{CountsTakes}
+use Rattle.lfm_pool.specs.Counts.{CountsTakes, HasNoTake}
 use Rattle.lfm_pool.specs.Depths.{HasDepthIn}
 use Rattle.lfm_pool.specs.Receive.{ReceivedIn}
 use Rattle.lfm_pool.specs.Seats.{state_of}
@@ -21,7 +21,7 @@ use Rattle.lfm_pool.specs.SeatWords.{Sleeps}
 -- Between two calls
 
 -- No call of the seat is open. It rests in every mutex of the pool, or sleeps in the one that it names and rests in all others.
--- Each acquisition has a take of its own, also the one that it waits for while it sleeps.
+-- A number for a post is left for each mutex that it holds, and for the one that it waits for while it sleeps.
 pub record IsBetweenCalls (s : PoolSeat) (p : Pool) : Type 0 where
   pub awake : s.asleep_in ≡ None → IsAtRest s.table_seat p × CountsTakes s.takes 0 s.table_seat p
   pub sleeps : (m : ℕ) → s.asleep_in ≡ Some m → IsAwayIn s.table_seat p m × Sleeps (state_of s.table_seat m) × CountsTakes s.takes 1 s.table_seat p
@@ -43,14 +43,16 @@ StaysAwake takes s t = (s.asleep_in ≡ None) × (t.asleep_in ≡ None) × (t.ta
 -- from s to t the seat has made a try_lock of mutex m, with this answer
 abbrev pub Tries : Result Locked Refusal → PoolSeat → PoolSeat → Pool → ℕ → Type 0
 Tries (Err Refusal.Asleep) s t p m = IsAsleep s × (t ≡ s)
-Tries (Err Refusal.Spent) s t p m = (s.takes ≡ p.limits.budget) × StaysAwake 0 s t × TriesAtAnyDepth (Err Refusal.Spent) s.table_seat t.table_seat p m
+Tries (Err Refusal.Spent) s t p m = HasNoTake s.takes s.table_seat p × StaysAwake 0 s t × TriesAtAnyDepth (Err Refusal.Spent) s.table_seat t.table_seat p m
 Tries (Ok (Locked.Held how)) s t p m = StaysAwake 1 s t × TriesAtAnyDepth (Ok (Locked.Held how)) s.table_seat t.table_seat p m
 Tries result s t p m = StaysAwake 0 s t × TriesAtAnyDepth result s.table_seat t.table_seat p m
 
 -- From s to t the seat has made an ask of mutex m, with this answer and this record of the seat whose thread has to be woken.
 abbrev pub Asks : Result Asked Refusal → Option Record → PoolSeat → PoolSeat → Pool → ℕ → Type 0
 Asks (Err Refusal.Asleep) None s t p m = IsAsleep s × (t ≡ s)
-Asks (Err Refusal.Spent) None s t p m = (s.takes ≡ p.limits.budget) × StaysAwake 0 s t × AsksAtAnyDepth (Err Refusal.Spent) None s.table_seat t.table_seat p m
+Asks (Err Refusal.Spent) None s t p m =
+    (HasNoTake s.takes s.table_seat p ⊎ FindsNoStamp s.table_seat t.table_seat m)
+    × StaysAwake 0 s t × AsksAtAnyDepth (Err Refusal.Spent) None s.table_seat t.table_seat p m
 Asks (Ok Asked.Asleep) granted s t p m =
     (s.asleep_in ≡ None) × (t.asleep_in ≡ Some m) × (t.takes ≡ s.takes + 1) × AsksAtAnyDepth (Ok Asked.Asleep) granted s.table_seat t.table_seat p m
 Asks (Ok (Asked.Held how)) granted s t p m = StaysAwake 1 s t × AsksAtAnyDepth (Ok (Asked.Held how)) granted s.table_seat t.table_seat p m

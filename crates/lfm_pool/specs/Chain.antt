@@ -6,7 +6,7 @@ use Rattle.lfm_words.specs.Popped.{oldest}
 use Rattle.lfm_words.specs.Words.{link_word, seat_field_size}
 use Rattle.lfm_protocol.specs.declared.points.Carrier.{Carrier}
 use Rattle.lfm_protocol.specs.declared.points.Point.{Point}
-use Rattle.lfm_protocol.specs.declared.points.Point.TheVariants.{TakeLinkLoad}
+use Rattle.lfm_protocol.specs.declared.points.Point.TheVariants.{PushExchange, TakeLinkLoad}
 use Rattle.lfm_protocol.specs.declared.seats.SeatState.{SeatState}
 use Rattle.lfm_laws.specs.table.Carried.{carries_value}
 use Rattle.lfm_laws.specs.table.Words.{stepped_by, popped_by_step}
@@ -79,9 +79,10 @@ note_if false before popped = before
 abbrev pub note_since : View ⊤ → Note → Note
 note_since w before = note_if (carries_value w.state) before w.popped
 
--- a step at this point needs something of the chain: it gives the mutex away, or loads a link
+-- a step at this point needs something of the chain, or an admission: it gives the mutex away, loads a link, or pushes
 abbrev pub needs_chain : Point → Bool
 needs_chain (TakeLinkLoad carrier next) = true
+needs_chain (PushExchange pusher seen) = true
 needs_chain q = gives_at q
 
 -- The seat with this number, whose data are p and whose view is v, may make its step.

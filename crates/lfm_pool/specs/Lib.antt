@@ -1,8 +1,10 @@
 -- What contracts say of a pool.
+pub mod Admissions
 pub mod AnyDepth
 pub mod Ask
 pub mod AskAll
 pub mod Belongs
+pub mod Bounds
 pub mod Calls
 pub mod Carrying
 pub mod Chain

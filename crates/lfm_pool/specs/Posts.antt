@@ -1,9 +1,9 @@
--- The numbers of posts, and the rule of a pool's table.
+-- The numbers of posts, and the rule of a pool's table: it bounds these numbers, and the stamps.
 --
 -- A seat numbers the posts that it makes in all mutexes by one counter. The table that a mutex would have by itself numbers
 -- the posts of a seat in this mutex alone. So the handoff word of a mutex has one number for a post, and the word of its
 -- table another one.
-use Rattle.std.specs.Prelude.{◌≡◌, ◌≢◌, ℕ, ◌+◌, ◌<◌, ◌≤◌, Bool, true, false, List, Option, Some, None, length, nat_eq, slice_index, if◌then◌else◌}
+use Rattle.std.specs.Prelude.{◌≡◌, ◌≢◌, ℕ, ◌+◌, ◌^◌, ◌<◌, ◌≤◌, Bool, true, false, List, Option, Some, None, length, nat_eq, slice_index, if◌then◌else◌}
 use mathlib.Core.Option.{some}
 use lib.ListN.{get_elem?}
 use Rattle.atomic_table.specs.Table.{State}
@@ -14,6 +14,7 @@ use Rattle.lfm_protocol.specs.declared.points.Point.TheVariants.{TryHandoffExcha
 use Rattle.lfm_protocol.specs.declared.points.Pusher.{Pusher}
 use Rattle.lfm_protocol.specs.declared.seats.SeatState.{SeatState}
 use Rattle.lfm_pool.specs.declared.view.PoolView.{PoolView}
+use Rattle.lfm_pool.specs.Admissions.{HasSeen, HasStamps}
 use Rattle.lfm_pool.specs.Rule.{HeldPool, own_at}
 use Rattle.lfm_pool.specs.Tables.{part}
 
@@ -46,6 +47,9 @@ has_posted _ = false
 -- - loaded: a seat remembers the number of the post that its call has loaded
 -- - posted: the number of the post that a call may take back is the count of its seat
 -- - unfound: a seat that has loaded no post remembers no number
+-- - stamps: a stamp is left for each seat that may push, and one more
+-- - seen: the push word has had each stamp that a seat has found there when it looked for one
+-- - few: a number is left for one more post of each seat
 pub record HeldPosts (s : State ℕ PoolView) : Type 0 where
   pub own : List ℕ
   pub held : HeldPool (record { words = own; homes = s.homes; views = s.views })
@@ -62,6 +66,9 @@ pub record HeldPosts (s : State ℕ PoolView) : Type 0 where
       → has_posted (part v m).state.point ≡ true → v.posts ≡ names m (j + 1) (part v m).state.posts
   pub unfound : (j : ℕ) (v : PoolView) → get_elem? s.views j ≡ some v
       → ((m : ℕ) → m < held.mutexes → loaded_post (part v m).state.point ≡ None) → v.found ≡ 0
+  pub stamps : (m : ℕ) → m < held.mutexes → HasStamps m s.words s.views
+  pub seen : (m j : ℕ) (v : PoolView) → m < held.mutexes → get_elem? s.views j ≡ some v → HasSeen m s.words v
+  pub few : (j : ℕ) (v : PoolView) → get_elem? s.views j ≡ some v → v.posts + 1 < 2 ^ 48
 
 -- What a seat knows of its posts is the same, if it knew v and knows u now: neither has it made a post, nor loaded one, nor
 -- tried for one.

@@ -27,7 +27,8 @@ use Rattle.lfm_pool.specs.declared.accesses.PoolAccess.{PoolAccess}
 use Rattle.lfm_pool.specs.declared.view.PoolView.{PoolView}
 use Rattle.lfm_pool.specs.Rule.{own_at, link_at, wake_at}
 use Rattle.lfm_pool.specs.Chain.{KeepsChain, needs_chain, note_after}
-use Rattle.lfm_pool.specs.Tables.{Slot, note, part, with_part, rests}
+use Rattle.lfm_pool.specs.Admissions.{MayPush}
+use Rattle.lfm_pool.specs.Tables.{Slot, known, note, part, with_part, rests}
 
 -- Steps
 
@@ -52,7 +53,7 @@ IsAccessOf seats number p a =
 abbrev pub IsOwnAccessOf : ℕ → ℕ → SeatState → Access → Type 0
 IsOwnAccessOf seats number p a = IsAccessOf seats number p a × (word_at a < 4) × (word_at a ≢ 2)
 
--- the same, and the step needs nothing of the chain
+-- the same, and the step needs nothing of the chain, and no stamp
 abbrev pub IsPlainAccessOf : ℕ → ℕ → SeatState → Access → Type 0
 IsPlainAccessOf seats number p a = IsOwnAccessOf seats number p a × (needs_chain p.point ≡ false)
 
@@ -129,9 +130,9 @@ StepsIn number id m l p me n me' =
     (w : View ⊤) × (me' ≡ (with_part me.0 m w (note_after p w (note me.0 m)), me.1))
     × Sits number id l w.state w × Stepped number p (part me.0 m) n w
 
--- the seat, whose data in mutex m are p, may make its step there, as far as the chain goes
+-- the seat, whose data in mutex m are p, may make its step there, as far as the chain and the stamps go
 abbrev pub KeepsChainIn : ℕ → ℕ → SeatState → PoolView → Type 0
-KeepsChainIn number m p v = KeepsChain p number (part v m) (note v m)
+KeepsChainIn number m p v = KeepsChain p number (part v m) (note v m) × MayPush p.point (known v m)
 
 -- the seat's data in mutex m, and after it has started this call there
 abbrev pub state_in : PoolView → ℕ → SeatState

@@ -1,6 +1,6 @@
 -- For the proof alone, each mutex of a pool has the table that it would have by itself. What a seat of the pool knows of a
 -- mutex is its view at that table.
-use Rattle.std.specs.Prelude.{◌≡◌, ⊤, ℕ, ◌+◌, Bool, true, false, List, [], Option, slice_index, slice_index_or, slice_set}
+use Rattle.std.specs.Prelude.{◌≡◌, ⊤, ℕ, ◌+◌, ◌≤◌, Bool, true, false, List, [], Option, slice_index, slice_index_or, slice_set}
 use Rattle.atomic_table.specs.Table.{State}
 use Rattle.lfm_model.specs.declared.answers.How.{How}
 use Rattle.lfm_words.specs.declared.pop_lists.Record.{Record}
@@ -12,7 +12,10 @@ use Rattle.lfm_protocol.specs.declared.points.Pusher.{Pusher}
 use Rattle.lfm_protocol.specs.declared.points.Point.TheVariants.{Rest, Asleep, PushExchange, PushedHandoffLoad, PushedHandoffExchange, TakeClearHead, TakeLinkLoad, GrantWakeStore, EnterOwnerStore, ReceiveWakeLoad}
 use Rattle.lfm_table.specs.declared.rule.Moving.{Moving}
 use Rattle.lfm_table.specs.declared.seat_view.View.{View}
-use Rattle.lfm_table.specs.Rule.{Held, no_view}
+use Rattle.lfm_protocol.specs.declared.limits.Limits.{Limits}
+use Rattle.lfm_protocol.specs.Limits.{max_seats}
+use Rattle.lfm_table.specs.Rule.{HeldWithin, no_view}
+use Rattle.lfm_pool.specs.declared.view.Admission.{Admission}
 use Rattle.lfm_pool.specs.declared.view.Known.{Known}
 use Rattle.lfm_pool.specs.declared.view.Note.{Note}
 use Rattle.lfm_pool.specs.declared.view.PoolView.{PoolView}
@@ -34,8 +37,12 @@ Slot = Option (Moving ⊤)
 abbrev pub MutexTable : Type 0
 MutexTable = State Slot (View ⊤)
 
+-- the limits of a mutex of a pool: the number of its seats is within the range, and the budget is any
+abbrev pub HasFewSeats : Limits → Type 0
+HasFewSeats l = l.seats ≤ max_seats
+
 abbrev pub IsKept : MutexTable → Type 0
-IsKept = Held any_follows any_fits
+IsKept = HeldWithin any_follows any_fits HasFewSeats
 
 -- Views
 
@@ -43,9 +50,13 @@ IsKept = Held any_follows any_fits
 abbrev pub no_note : Note
 no_note = record { due = 0; carried = 0 }
 
+-- the admission of a seat that has made no load for one
+abbrev pub no_admission : Admission
+no_admission = record { found = 0; next_push = 0 }
+
 -- what a seat knows of a mutex, if its view there is v and it has carried none
 abbrev pub unnoted : View ⊤ → Known
-unnoted v = record { view = v; note = no_note }
+unnoted v = record { view = v; note = no_note; admission = no_admission }
 
 -- what a seat of a pool without mutexes knows
 abbrev pub no_pool_view : PoolView
@@ -63,9 +74,9 @@ part v m = (known v m).view
 abbrev pub note : PoolView → ℕ → Note
 note v m = (known v m).note
 
--- the view of a seat that knows this of mutex m now
+-- the view of a seat that knows this of mutex m now, and has the admission that it had
 abbrev pub with_part : PoolView → ℕ → View ⊤ → Note → PoolView
-with_part v m w n = record v { parts = slice_set v.parts m (record { view = w; note = n }) }
+with_part v m w n = record v { parts = slice_set v.parts m (record (known v m) { view = w; note = n }) }
 
 abbrev pub rests_at : Point → Bool
 rests_at Rest = true

@@ -4,9 +4,9 @@
 //!
 //! None of these functions allocates, waits or wakes a thread. Nothing changes in other mutexes, nor in what the seat knows
 //! of them.
-ghost use Rattle.std.specs.Prelude.{◌≡◌, ◌+◌, ◌^◌, ◌<◌, IfOk, length, true, false, Err};
+ghost use Rattle.std.specs.Prelude.{◌≡◌, ◌⊎◌, ◌+◌, ◌^◌, ◌<◌, IfOk, length, true, false, Err};
 ghost use Rattle.lfm_model.specs.declared.refusals.Refusal.{Refusal as RefusalNow};
-ghost use Rattle.lfm_pool.specs.AnyDepth.{AsksAtAnyDepth, IsAtRest, IsPlacedBy, TriesAtAnyDepth, UnlocksAtAnyDepth, granted_in};
+ghost use Rattle.lfm_pool.specs.AnyDepth.{AsksAtAnyDepth, FindsNoStamp, IsAtRest, IsPlacedBy, TriesAtAnyDepth, UnlocksAtAnyDepth, granted_in};
 ghost use Rattle.lfm_pool.specs.Ask.{MakesBesideFailuresIn};
 ghost use Rattle.lfm_pool.specs.Belongs.{IsMutex, SameSeat};
 ghost use Rattle.lfm_pool.specs.Depths.{HasDepthIn};
@@ -14,6 +14,7 @@ ghost use Rattle.lfm_pool.specs.Moves.{MakesAtMostIn};
 ghost use Rattle.lfm_pool.specs.Seats.{popped_of, state_of};
 ghost use Rattle.lfm_pool.specs.WakeUps.{WakesSeatOf};
 
+use crate::admission::has_stamp;
 use crate::ask_all::ask_without_waking;
 use crate::deepen::{ask_again, give_up_one, try_again};
 use crate::depth::depth;
@@ -33,9 +34,9 @@ pub enum Release {
     Last(Released),
 }
 
-/// Acquires this mutex or deepens the hold, without queueing. `has_take` says whether the seat has a take left.
+/// Acquires this mutex or deepens the hold, without queueing. `has_take` says whether the seat may acquire a mutex.
 ///
-/// Refuses, in this order: DepthFull, Spent (it does not hold the mutex, and has no take left), and Busy: the mutex was taken,
+/// Refuses, in this order: DepthFull, Spent (it does not hold the mutex, and may acquire none), and Busy: the mutex was taken,
 /// and nothing was posted, or the post had gone when the call tried to accept it. It makes at most 6 atomic steps, and before
 /// them a load of the owner word, and of the carried word if the seat holds the mutex.
 #[inline(always)]
@@ -68,13 +69,13 @@ pub(crate) fn try_lock(
     Err(Refusal::DepthFull)
 }
 
-/// Asks for this mutex, or deepens the hold: a `lock` without its sleep. `has_take` says whether the seat has a take left.
+/// Asks for this mutex, or deepens the hold: a `lock` without its sleep. `has_take` says whether the seat may acquire a mutex.
 /// Returns Held, Again with the new depth, or Asleep: the seat sleeps then until a receive finds its grant. It also returns the
 /// wake-up of the seat to which it has granted the mutex, if any.
 ///
-/// Refuses, in this order: DepthFull, and Spent (the seat does not hold the mutex, and has no take left). The call makes as many
-/// atomic steps as that of `ask_all`, or 3 if it deepens the hold, and before them a load of the owner word, and of the carried
-/// word if the seat holds the mutex.
+/// Refuses, in this order: DepthFull, and Spent (the seat does not hold the mutex, and may acquire none, or the mutex has no
+/// stamp left). The call makes as many atomic steps as that of `ask_all`, or 3 if it deepens the hold, and before them a load of
+/// the owner word, and of the carried word if the seat holds the mutex, and else of the push word.
 #[inline(always)]
 pub(crate) fn ask(
     pool: &Pool,
@@ -88,7 +89,7 @@ pub(crate) fn ask(
     ensures belongs { SameSeat seat.old seat.new }
     ensures placed { IsPlacedBy result.0 seat.new pool.now mutex }
     ensures asks { AsksAtAnyDepth result.0 result.1 seat.old seat.new pool.now mutex }
-    ensures spent { result.0 ≡ Err RefusalNow.Spent → has_take ≡ false }
+    ensures spent { result.0 ≡ Err RefusalNow.Spent → (has_take ≡ false) ⊎ FindsNoStamp seat.old seat.new mutex }
     ensures refuses { HasDepthIn seat.old pool.now mutex 0 → has_take ≡ false → result.0 ≡ Err RefusalNow.Spent }
     ensures bounded { MakesBesideFailuresIn (10 + length (popped_of seat.new mutex)) seat.old seat.new mutex }
     ensures inside { WakesSeatOf result.1 pool.now }
@@ -96,6 +97,9 @@ pub(crate) fn ask(
     let held = depth(pool, seat, mutex);
     if held == 0 {
         if !has_take {
+            return (Err(Refusal::Spent), None);
+        }
+        if !has_stamp(pool, seat, mutex) {
             return (Err(Refusal::Spent), None);
         }
         let (asked, granted) = ask_without_waking(pool, seat, mutex);
@@ -117,7 +121,7 @@ pub(crate) fn ask(
 pub(crate) fn unlock(pool: &Pool, seat: &mut TableSeat, mutex: usize) -> Result<Release, Refusal>
     requires rest { IsAtRest seat.old pool.now }
     requires mutex { IsMutex mutex pool.now }
-    requires left { HasDepthIn seat.old pool.now mutex 1 → seat.old.posts + 1 < 2 ^ 48 }
+    requires left { HasDepthIn seat.old pool.now mutex 1 → seat.old.posts + 2 < 2 ^ 48 }
     ensures belongs { SameSeat seat.old seat.new }
     ensures rest { IsAtRest seat.new pool.now }
     ensures unlocks { UnlocksAtAnyDepth result seat.old seat.new pool.now mutex }

@@ -4,6 +4,7 @@
 ghost use Rattle.std.specs.Prelude.{◌≡◌};
 ghost use Rattle.lfm_protocol.specs.declared.points.Point.TheVariants.{PushLoad};
 ghost use Rattle.lfm_protocol.specs.declared.points.Pusher.{Pusher};
+ghost use Rattle.lfm_pool.specs.Admissions.{IsAdmittedIn};
 ghost use Rattle.lfm_pool.specs.Ask.{AsksIn, IsReadyAfter, MakesBesideFailuresIn, QueuesIn, WaitsIn};
 ghost use Rattle.lfm_pool.specs.Belongs.{IsMutex, OfPool, SameSeat};
 ghost use Rattle.lfm_pool.specs.Moves.{MayStepIn};
@@ -37,10 +38,10 @@ pub enum Asking {
 /// record of the pop list, makes the seat the owner if that record is its own, or clears the head of the push word if there
 /// is none.
 ///
-/// The seat has to rest in all mutexes, not to hold this one, and to have a take left here, so that there is no refusal. It
-/// may hold other mutexes. Nothing changes in them, nor in what the seat knows of them. The call makes at most 7 atomic
-/// steps, and two more for each exchange of the push word that fails. The seat alone does not bound how many fail: each has
-/// found that another seat changed the word, by a push of its record or by a clearing of the push list. It allocates
+/// The seat has to rest in all mutexes, not to hold this one, and to have a take and a stamp left here, so that there is no
+/// refusal. It may hold other mutexes. Nothing changes in them, nor in what the seat knows of them. The call makes at most 7
+/// atomic steps, and two more for each exchange of the push word that fails. The seat alone does not bound how many fail: each
+/// has found that another seat changed the word, by a push of its record or by a clearing of the push list. It allocates
 /// nothing, never waits and wakes no thread.
 #[inline(always)]
 pub fn begin_ask(pool: &Pool, seat: &mut TableSeat, mutex: usize) -> Asking
@@ -48,6 +49,7 @@ pub fn begin_ask(pool: &Pool, seat: &mut TableSeat, mutex: usize) -> Asking
     requires mutex { IsMutex mutex pool.now }
     requires may { MayTryIn seat.old pool.now mutex }
     requires elsewhere { RestsInOthers seat.old mutex }
+    requires admitted { IsAdmittedIn seat.old mutex }
     ensures belongs { SameSeat seat.old seat.new }
     ensures may { MayStepIn seat.new pool.now mutex }
     ensures asks { AsksIn seat.old seat.new mutex result }
@@ -68,6 +70,7 @@ pub fn begin_ask(pool: &Pool, seat: &mut TableSeat, mutex: usize) -> Asking
 fn queue(pool: &Pool, seat: &mut TableSeat, mutex: usize) -> Asking
     requires may { MayStepIn seat.old pool.now mutex }
     requires at { LoadsPush (state_of seat.old mutex) }
+    requires admitted { IsAdmittedIn seat.old mutex }
     ensures belongs { SameSeat seat.old seat.new }
     ensures may { MayStepIn seat.new pool.now mutex }
     ensures waits { WaitsIn seat.old seat.new mutex result }
@@ -89,6 +92,7 @@ fn queue(pool: &Pool, seat: &mut TableSeat, mutex: usize) -> Asking
 fn push_record(pool: &Pool, seat: &mut TableSeat, mutex: usize)
     requires may { MayStepIn seat.old pool.now mutex }
     requires at { LoadsPush (state_of seat.old mutex) }
+    requires admitted { IsAdmittedIn seat.old mutex }
     ensures belongs { SameSeat seat.old seat.new }
     ensures may { MayStepIn seat.new pool.now mutex }
     ensures queues { QueuesIn seat.old seat.new mutex }

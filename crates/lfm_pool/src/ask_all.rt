@@ -1,6 +1,7 @@
 //! The whole of `ask`, a `lock` that queues and does not sleep, of a seat that does not hold the mutex: `begin_ask`, and
 //! `finish_ask` if that has taken a post over.
 ghost use Rattle.std.specs.Prelude.{◌+◌, length};
+ghost use Rattle.lfm_pool.specs.Admissions.{IsAdmittedIn};
 ghost use Rattle.lfm_pool.specs.Ask.{MakesBesideFailuresIn};
 ghost use Rattle.lfm_pool.specs.AskAll.{AsksAllIn, IsReadyAsked};
 ghost use Rattle.lfm_pool.specs.Belongs.{IsMutex, OfPool, SameSeat};
@@ -23,9 +24,9 @@ use lfm_model::{Asked, How};
 /// until a receive finds its grant. It also returns the wake-up of the seat to which it has granted the mutex, if any. The
 /// call is charged one take.
 ///
-/// The seat has to rest in all mutexes, not to hold this one, and to have a take left here, so that there is no refusal. It
-/// may hold other mutexes. Nothing changes in them, nor in what the seat knows of them. The call makes at most 10 atomic
-/// steps, one more for each record that is popped when it has ended, and two more for each exchange of the push word that
+/// The seat has to rest in all mutexes, not to hold this one, and to have a take and a stamp left here, so that there is no
+/// refusal. It may hold other mutexes. Nothing changes in them, nor in what the seat knows of them. The call makes at most 10
+/// atomic steps, one more for each record that is popped when it has ended, and two more for each exchange of the push word that
 /// fails: each of those has found that another seat changed the word. It allocates nothing, never waits and wakes no thread.
 #[inline(always)]
 pub fn ask_without_waking(
@@ -37,6 +38,7 @@ pub fn ask_without_waking(
     requires mutex { IsMutex mutex pool.now }
     requires may { MayTryIn seat.old pool.now mutex }
     requires elsewhere { RestsInOthers seat.old mutex }
+    requires admitted { IsAdmittedIn seat.old mutex }
     ensures belongs { SameSeat seat.old seat.new }
     ensures may { MayStepIn seat.new pool.now mutex }
     ensures asks { AsksAllIn result.0 result.1 seat.old seat.new pool.now mutex }

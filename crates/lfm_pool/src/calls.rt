@@ -1,11 +1,12 @@
 //! The calls of a seat that never wait. A seat says itself in which mutex of the pool it sleeps, and is refused then, except by a
-//! receive of that mutex. It counts the takes that it makes in all mutexes, and is refused as Spent once it has made as many as
-//! the pool allows.
+//! receive of that mutex. It is refused as Spent only once it has made 2^63 takes or 2^47 posts, counted over all mutexes, or
+//! if the mutex has had 2^48 - 2^13 pushes.
 //!
 //! A seat that sleeps finds its grant by `try_receive`. `ask` and `unlock` wake the thread of the seat to which they grant the
 //! mutex; the other calls wake nobody. None allocates or waits: the calls that wait are in `lock`. Nothing changes in other
 //! mutexes, nor in what the seat knows of them.
-ghost use Rattle.std.specs.Prelude.{◌≡◌, ◌+◌, ◌<◌, IfOk, length};
+ghost use Rattle.std.specs.Prelude.{◌≡◌, ◌+◌, ◌<◌, ◌&&◌, IfOk, length, nat_lt};
+ghost use Rattle.lfm_pool.specs.Admissions.{most_posts};
 ghost use Rattle.lfm_pool.specs.AnyDepth.{granted_in};
 ghost use Rattle.lfm_pool.specs.Ask.{MakesBesideFailuresIn};
 ghost use Rattle.lfm_pool.specs.Belongs.{IsMutex};
@@ -22,14 +23,17 @@ use crate::wake_up::{WakeUp, wake, wake_granted};
 use crate::{any_depth, receive};
 use lfm_model::{Asked, How, Locked, Refusal, Unlocked};
 
+/// A seat that has made this number of posts acquires no mutex, and does not queue.
+const MOST_POSTS: u64 = 1 << 47;
+
 /// Acquires this mutex or deepens the hold, without queueing. An acquisition is charged one take. If it finds a post, it
 /// tries to accept it.
 ///
 /// Refuses, in this order: Asleep (the seat sleeps in some mutex of the pool), DepthFull (it holds this mutex 65,535 times),
-/// Spent (it does not hold this mutex, and has no take left), and Busy: the mutex was taken, and nothing was posted, or the post
-/// had gone when the call tried to accept it. A call that is refused is charged nothing. Whatever other seats do, the call
-/// makes at most 6 atomic steps, and before them a load of the owner word, and of the carried word if the seat holds the
-/// mutex.
+/// Spent (it does not hold this mutex, and has made 2^63 takes or 2^47 posts), and Busy: the mutex was taken, and nothing was
+/// posted, or the post had gone when the call tried to accept it. A call that is refused is charged nothing. Whatever other
+/// seats do, the call makes at most 6 atomic steps, and before them a load of the owner word, and of the carried word if the
+/// seat holds the mutex.
 #[inline(always)]
 pub fn try_lock(pool: &Pool, seat: &mut PoolSeat, mutex: usize) -> Result<Locked, Refusal>
     requires between { IsBetweenCalls seat.old pool.now }
@@ -42,7 +46,7 @@ pub fn try_lock(pool: &Pool, seat: &mut PoolSeat, mutex: usize) -> Result<Locked
     if seat.asleep_in.is_some() {
         return Err(Refusal::Asleep);
     }
-    let has_take = seat.takes < pool.limits.budget;
+    let has_take = has_take(pool, seat);
     let locked = any_depth::try_lock(pool, &mut seat.table_seat, mutex, has_take);
     match locked {
         Ok(Locked::Held(_)) => seat.takes += 1,
@@ -59,8 +63,9 @@ pub fn try_lock(pool: &Pool, seat: &mut PoolSeat, mutex: usize) -> Result<Locked
 /// any.
 ///
 /// Refuses, in this order: Asleep (the seat sleeps in some mutex of the pool), DepthFull (it holds this mutex 65,535 times), and
-/// Spent (it does not hold this mutex, and has no take left). The call makes as many atomic steps as that of `ask_all`, or 3 if
-/// it deepens the hold, and before them a load of the owner word, and of the carried word if the seat holds the mutex.
+/// Spent (it does not hold this mutex, and has made 2^63 takes or 2^47 posts, or the mutex has had 2^48 - 2^13 pushes). The call
+/// makes as many atomic steps as that of `ask_all`, or 3 if it deepens the hold, and before them a load of the owner word, and of
+/// the carried word if the seat holds the mutex, and else of the push word.
 #[inline(always)]
 pub fn ask_without_waking(
     pool: &Pool,
@@ -78,7 +83,7 @@ pub fn ask_without_waking(
     if seat.asleep_in.is_some() {
         return (Err(Refusal::Asleep), None);
     }
-    let has_take = seat.takes < pool.limits.budget;
+    let has_take = has_take(pool, seat);
     let (asked, granted) = any_depth::ask(pool, &mut seat.table_seat, mutex, has_take);
     match asked {
         Ok(Asked::Held(_)) => seat.takes += 1,
@@ -117,6 +122,15 @@ pub fn unlock_without_waking(
         return Err(Refusal::Asleep);
     }
     any_depth::unlock(pool, &mut seat.table_seat, mutex)
+}
+
+/// Whether the seat may acquire a mutex or queue, as far as its takes and its posts go. If so, enough numbers are left for a post
+/// of each mutex that it holds.
+#[inline(always)]
+fn has_take(pool: &Pool, seat: &PoolSeat) -> bool
+    ensures { result ≡ (nat_lt seat.now.takes pool.now.limits.budget && nat_lt seat.now.table_seat.posts most_posts) }
+{
+    seat.takes < pool.limits.budget && seat.table_seat.posts < MOST_POSTS
 }
 
 /// `ask_without_waking`, with the same answers and refusals, which also wakes the thread of the seat to which it has granted

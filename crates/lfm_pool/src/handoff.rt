@@ -126,7 +126,7 @@ fn store_at<B: OneMutex>(pool: &Pool, seat: &mut TableSeat, mutex: usize)
     requires inside { (mutex < pool.now.mutexes) × (length seat.old.place.me.0.parts ≡ pool.now.mutexes) }
     requires can { CanMake any_follows any_fits B.state B.hand seat.old.number pool.now.limits.seats (4 + 2 * pool.now.limits.seats) (part seat.old.place.me.0 mutex, B.slots) }
     requires at { makes_post B.state.point ≡ true }
-    requires left { seat.old.posts + 1 < 2 ^ 48 }
+    requires left { seat.old.posts + 2 < 2 ^ 48 }
     requires whole { note seat.old.place.me.0 mutex ≡ rested (part seat.old.place.me.0 mutex).popped }
     requires elsewhere { RestsElsewhere seat.old.place.me.0 mutex }
     ensures table { (seat.new.place.table_id ≡ seat.old.place.table_id) × (seat.new.place.id ≡ seat.old.place.id) × (seat.new.number ≡ seat.old.number) }
@@ -146,7 +146,7 @@ fn store_at<B: OneMutex>(pool: &Pool, seat: &mut TableSeat, mutex: usize)
 pub fn handoff_store(pool: &Pool, seat: &mut TableSeat, mutex: usize)
     requires may { MayStepIn seat.old pool.now mutex }
     requires at { makes_post (state_of seat.old mutex).point ≡ true }
-    requires left { seat.old.posts + 1 < 2 ^ 48 }
+    requires left { seat.old.posts + 2 < 2 ^ 48 }
     requires whole { note_of seat.old mutex ≡ rested (popped_of seat.old mutex) }
     ensures belongs { SameSeat seat.old seat.new }
     ensures may { MayStepIn seat.new pool.now mutex }

@@ -20,10 +20,12 @@
 //! mutex has beyond its first.
 //!
 //! A seat counts the posts of its unlocks in all mutexes by one counter, from which each post takes its number, and its takes
-//! by another. So a seat needs no counter for each mutex.
+//! by another. So a seat needs no counter for each mutex. Stamps and numbers of posts have 48 bits. An `ask` sees by a load
+//! of the push word whether a stamp is left, and a seat acquires nothing once it has used half of its numbers of posts.
 #![tactic(auto)]
 
 mod accesses;
+mod admission;
 mod any_depth;
 mod ask;
 mod ask_all;

@@ -1,6 +1,6 @@
 //! One step of a seat on a word of a mutex, with all that the seat needs for its next step. The calls are made of these
 //! functions, and of the steps of a push, on the handoff word and on the words of seats. None is for a step that gives the
-//! mutex away or loads a link, which need something of the chain. In each of them nothing changes in other mutexes, nor in
+//! mutex away, loads a link or pushes, which needs more. In each of them nothing changes in other mutexes, nor in
 //! what the seat knows of them. None allocates or waits.
 ghost use Rattle.lfm_pool.specs.Belongs.{SameSeat};
 ghost use Rattle.lfm_pool.specs.Finds.{Finds};

@@ -2,7 +2,8 @@
 ghost use Rattle.std.specs.Prelude.{◌≡◌, All, ◌+◌, ◌*◌, ◌^◌, ◌<◌, ◌≤◌, ℕ, [], length, false, true, IfErr, IfOk, vec_len};
 ghost use mathlib.Core.Option.{some};
 ghost use lib.ListN.{get_elem?};
-ghost use Rattle.lfm_protocol.specs.Limits.{are_in_limits, max_budget, max_seats};
+ghost use Rattle.lfm_protocol.specs.Limits.{max_seats};
+ghost use Rattle.lfm_pool.specs.Bounds.{most_takes};
 ghost use Rattle.lfm_pool.specs.Rule.{MaySplit, first_pool_view, left_view, right_view};
 
 use crate::layout::{MUTEX_WORDS, SEAT_WORDS};
@@ -11,11 +12,14 @@ use crate::seat::PoolSeat;
 use crate::view::PoolView;
 use atomic_table::{Seat, Table};
 use lfm_model::NewFault;
-use lfm_protocol::{Limits, MAX_BUDGET};
+use lfm_protocol::{Limits, MAX_SEATS};
 use std::alloc::{AllocError, Global};
 
 /// A pool has fewer mutexes than this.
 const MUTEXES_BOUND: usize = 1 << 32;
+
+/// How many takes a seat of a new pool may make: more than a thread makes in centuries.
+const MOST_TAKES: u64 = 1 << 63;
 
 /// The polls of a new pool.
 const USUAL_POLLS: u32 = 800;
@@ -37,7 +41,7 @@ pub struct Pool {
     pub ghost wide: { table.shared.table_id.words ≡ mutexes * 8 + limits.seats * 2 },
     pub ghost no_slots: { table.shared.table_id.slots ≡ 0 },
     pub ghost few: { (limits.seats ≤ max_seats) × (mutexes < 2 ^ 32) },
-    pub ghost budgeted: { limits.budget ≤ max_budget },
+    pub ghost budgeted: { limits.budget ≤ most_takes },
 }
 
 /// The part of a seat by which it takes part in the table: its number, the count of the posts that it has made in all mutexes,
@@ -59,13 +63,13 @@ impl Pool {
     ghost use Rattle.lfm_pool.specs.NewSeats.{IsNewSeat, IsPoolSize};
 
     /// A pool of this many free mutexes, numbered from 0, and its seats in order, numbered from 1. Each seat rests in all
-    /// mutexes, holds none, and may make 2^36 takes.
+    /// mutexes, holds none, and may make 2^63 takes.
     ///
     /// Refuses, in this order, with Limit if there are no mutexes or 2^32 and more, or no seats or more than 4,095; and with
     /// Memory if a request for memory was refused. It requests memory for the words, 64 bytes for each mutex and 16 for each
     /// seat, and for the list of seats.
     pub fn new(alloc: Global, mutexes: usize, seats: u64) -> Result<(Pool, Vec<PoolSeat>), NewFault>
-        ensures pool { IfOk result (λ r. (r.0.mutexes ≡ mutexes) × (r.0.limits ≡ record { seats = seats; budget = max_budget }) × (r.0.polls ≡ 800)) }
+        ensures pool { IfOk result (λ r. (r.0.mutexes ≡ mutexes) × (r.0.limits ≡ record { seats = seats; budget = most_takes }) × (r.0.polls ≡ 800)) }
         ensures seats { IfOk result (λ r. (vec_len r.1 ≡ seats) × ((j : ℕ) (s : _) → get_elem? r.1.items j ≡ some s → IsNewSeat (j + 1) r.0 s × IsBetweenCalls s r.0)) }
         ensures between { IfOk result (λ r. All (λ s. IsBetweenCalls s r.0) r.1.items) }
         ensures limit { IsPoolSize mutexes seats ≡ false → IfErr result (λ e. e ≡ NewFault.Limit) × IfOk result (λ _. ⊥) }
@@ -73,15 +77,22 @@ impl Pool {
     {
         let limits = Limits {
             seats,
-            budget: MAX_BUDGET,
+            budget: MOST_TAKES,
         };
-        if mutexes == 0 || mutexes >= MUTEXES_BOUND || !limits.are_allowed() {
+        if mutexes == 0 || mutexes >= MUTEXES_BOUND || seats == 0 || seats > MAX_SEATS {
             return Err(NewFault::Limit);
         }
         let Ok(opened) = Pool::open(alloc, mutexes, limits) else {
             return Err(NewFault::Memory);
         };
         Ok(opened)
+    }
+
+    /// How many mutexes it has.
+    pub fn mutexes(&self) -> usize
+        ensures { result ≡ self.now.mutexes }
+    {
+        self.mutexes
     }
 
     /// The same pool, in which a seat that sleeps polls its wake word this many times before its thread parks. A new pool has
@@ -103,7 +114,8 @@ impl Pool {
         mutexes: usize,
         limits: Limits,
     ) -> Result<(Pool, Vec<PoolSeat>), AllocError>
-        requires allowed { are_in_limits limits.seats limits.budget ≡ true }
+        requires seats { (0 < limits.seats) × (limits.seats ≤ max_seats) }
+        requires takes { (0 < limits.budget) × (limits.budget ≤ most_takes) }
         requires some { 0 < mutexes }
         requires many { mutexes < 2 ^ 32 }
         ensures pool { IfOk result (λ r. (r.0.mutexes ≡ mutexes) × (r.0.limits ≡ limits) × (r.0.polls ≡ 800)) }
@@ -133,7 +145,8 @@ impl Pool {
         mutexes: usize,
         limits: Limits,
     ) -> Result<(Pool, TableSeat), AllocError>
-        requires allowed { are_in_limits limits.seats limits.budget ≡ true }
+        requires seats { (0 < limits.seats) × (limits.seats ≤ max_seats) }
+        requires takes { (0 < limits.budget) × (limits.budget ≤ most_takes) }
         requires many { mutexes < 2 ^ 32 }
         ensures pool { IfOk result (λ r. (r.0.mutexes ≡ mutexes) × (r.0.limits ≡ limits) × (r.0.polls ≡ 800)) }
         ensures seat { IfOk result (λ r. (r.1.number ≡ 1) × (r.1.place.table_id ≡ r.0.table.shared.table_id) × (r.1.place.id ≡ 0) × (r.1.place.me ≡ (first_pool_view mutexes limits, []))) }

@@ -4,6 +4,7 @@
 //! them. None allocates or waits.
 ghost use Rattle.lfm_words.specs.Words.{link_of};
 ghost use Rattle.lfm_laws.specs.steady.Steady.{IsSeen};
+ghost use Rattle.lfm_pool.specs.Admissions.{IsAdmittedIn};
 ghost use Rattle.lfm_pool.specs.Belongs.{IsMutex, OfPool, SameSeat};
 ghost use Rattle.lfm_pool.specs.Moves.{MayStepIn};
 ghost use Rattle.lfm_pool.specs.Push.{FindsHandoffIn, LoadsHandoff, LoadsPush, LoadsPushIn, PushesIn, TakesWord, TakesWordIn};
@@ -59,6 +60,7 @@ pub fn push(pool: &Pool, seat: &mut TableSeat, mutex: usize, loaded: Link) -> u6
     requires sits { SitsIn seat.old pool.now mutex }
     requires elsewhere { RestsInOthers seat.old mutex }
     requires at { StoresLink loaded (state_of seat.old mutex) }
+    requires admitted { IsAdmittedIn seat.old mutex }
     ensures belongs { SameSeat seat.old seat.new }
     ensures pushes { PushesIn seat.old seat.new pool.now mutex loaded result }
     ensures sees { IsSeen (link_of result) loaded }

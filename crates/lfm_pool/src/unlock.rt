@@ -59,7 +59,7 @@ pub fn unlock(pool: &Pool, seat: &mut TableSeat, mutex: usize) -> Released
     requires mutex { IsMutex mutex pool.now }
     requires holds { HoldsOnceIn seat.old pool.now mutex }
     requires elsewhere { RestsInOthers seat.old mutex }
-    requires left { seat.old.posts + 1 < 2 ^ 48 }
+    requires left { seat.old.posts + 2 < 2 ^ 48 }
     ensures belongs { SameSeat seat.old seat.new }
     ensures may { MayStepIn seat.new pool.now mutex }
     ensures releases { ReleasesIn result seat.old seat.new pool.now mutex }
@@ -109,7 +109,7 @@ fn post(pool: &Pool, seat: &mut TableSeat, mutex: usize) -> Released
     requires may { MayStepIn seat.old pool.now mutex }
     requires at { (state_of seat.old mutex).point ≡ ReleaseHandoffStore Unlocker }
     requires whole { note_of seat.old mutex ≡ rested (popped_of seat.old mutex) }
-    requires left { seat.old.posts + 1 < 2 ^ 48 }
+    requires left { seat.old.posts + 2 < 2 ^ 48 }
     ensures belongs { SameSeat seat.old seat.new }
     ensures may { MayStepIn seat.new pool.now mutex }
     ensures posts { PostsIn result seat.old seat.new pool.now mutex }

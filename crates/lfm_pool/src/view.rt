@@ -13,11 +13,22 @@ pub struct Note {
     pub carried: u64,
 }
 
-/// What a seat of a pool knows of one mutex: its view at the table that the mutex would have by itself, and its note. No
-/// value of this type is ever made: it is for proofs alone.
+/// What a seat has found when it last loaded the push word of a mutex to see whether a stamp is left for its record. No value
+/// of this type is ever made: it is for proofs alone.
+pub struct Admission {
+    /// The number in the push word.
+    pub found: u64,
+
+    /// One more than the records that the seat had pushed in this mutex then; 0 if it has made no such load.
+    pub next_push: u64,
+}
+
+/// What a seat of a pool knows of one mutex: its view at the table that the mutex would have by itself, its note, and whether
+/// it may push a record. No value of this type is ever made: it is for proofs alone.
 pub struct Known {
     pub view: View<()>,
     pub note: Note,
+    pub admission: Admission,
 }
 
 /// What a seat of a pool knows. No value of this type is ever made: it is for proofs alone.

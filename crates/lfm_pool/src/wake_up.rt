@@ -1,5 +1,6 @@
 //! The grant of a mutex to a queued seat, and the wake-up that is owed after it. Each wake-up is made here, by the step that
-//! stores the grant, and is consumed here, by `wake`. No path of the code can lose one in between.
+//! stores the grant, and is consumed here: by `wake`, or by `into_seat`, whose caller then has to wake the thread. No path of the
+//! code can lose one in between.
 //!
 //! Nothing checks that a wake-up is passed to the pool whose call returned it: `wake` requires only that the pool has a seat
 //! of that number.
@@ -23,7 +24,7 @@ use lfm_words::{Record, Wake};
 use std::marker::Model;
 
 /// The duty to wake the thread of a seat to which a call has granted a mutex of a pool. Only the step that stores a grant
-/// makes one, and only `wake` consumes it. A contract sees the record that was granted.
+/// makes one, and only `wake` and `into_seat` consume it. A contract sees the record that was granted.
 ///
 /// The type has no `Drop` and is not `Copy`: a call that loses a wake-up, or uses it twice, does not compile.
 pub struct WakeUp {
@@ -51,6 +52,15 @@ impl WakeUp {
         ensures { result ≡ self.now.seat }
     {
         self.granted.seat
+    }
+
+    /// The seat that is to be woken. After this call nothing ensures that the seat is woken. It is for callers that wake threads
+    /// in another way.
+    pub fn into_seat(self) -> SeatNo
+        ensures { result ≡ self.seat }
+    {
+        let WakeUp { granted } = self;
+        granted.seat
     }
 }
 

@@ -1,12 +1,10 @@
-use Rattle.std.proofs.Common.{ℕ, sym, ◌<◌, ◌+◌, length, subst, arith, ◌∙◌}
+use Rattle.std.proofs.Common.{ℕ, sym, ◌<◌, ◌+◌, length, subst, inr, arith, ◌∙◌}
 use Rattle.std.proofs.lemmas.Bool.{false≢true}
-use Rattle.atomic_table.specs.Table.{Me}
-use Rattle.lfm_pool.specs.declared.view.PoolView.{PoolView}
 use Rattle.std.specs.Prelude.{false}
+use Rattle.lfm_pool.specs.Admissions.{most_stamps, stamp_in}
 use Rattle.lfm_pool.specs.Depths.{AskAgainSteps, HasDepthIn}
 use Rattle.lfm_pool.specs.Seats.{popped_of}
-use Rattle.lfm_pool.specs.Steps.{state_in}
-use Rattle.lfm_pool.proofs.AnyDepth.{asked_again, asked_again_made, asked_first, asks_all_then, beside_then, deep_rest, deepens_then, depth_then_at, full, may_at_rest, may_try_flat, others_rest, placed, refused_beside, rest_then}
+use Rattle.lfm_pool.proofs.AnyDepth.{admits_from_load, asked_again, asked_again_made, asked_first, asks_from_load, beside_from_load, deep_rest, deepens_then, depth_then_at, finds_none, full, is_below, loads_beside, may_at_rest, may_try_from_load, others_rest, placed, refused_beside, rest_from_load, rest_then, same_both}
 use Rattle.lfm_pool.proofs.CountedTakes.{not_flat}
 use Rattle.lfm_pool.proofs.SeveralSteps.{same_then}
 use Rattle.lfm_pool.proofs.any_depth.ask.Goals as goal
@@ -24,38 +22,46 @@ depth-held-requires-clause-rests c =
 pub ask_without_waking-asked-requires-clause-belongs : goal.ask_without_waking-asked-requires-clause-belongs
 ask_without_waking-asked-requires-clause-belongs c =
     let s = c.args.seat.now in let p = c.args.pool.now in let m = c.args.mutex in let r = c.requires in let rest = r.rest in
-    let f = c.depth-held in let t = f.new.seat in let rest' = rest_then s t p rest f.ensures.belongs f.ensures.knows in
-    rest'.belongs
+    let f = c.depth-held in let t = f.new.seat in let g = c.has_stamp in let u = g.new.seat in let found = g.ensures.loads.0 in
+    (rest_from_load s t u m found f.ensures.belongs f.ensures.knows g.ensures.belongs g.ensures.loads.1 p rest).belongs
 
 pub ask_without_waking-asked-requires-clause-may : goal.ask_without_waking-asked-requires-clause-may
 ask_without_waking-asked-requires-clause-may c =
     let s = c.args.seat.now in let p = c.args.pool.now in let m = c.args.mutex in let r = c.requires in let rest = r.rest in
-    let f = c.depth-held in let t = f.new.seat in let rest' = rest_then s t p rest f.ensures.belongs f.ensures.knows in
-    may_try_flat t p m (depth_then_at s t p m 0 f.ensures.belongs f.ensures.knows (subst (λ (d : ℕ). HasDepthIn s p m d) c.if-held-eq0.true f.ensures.depth)) (subst (λ (z : Me ℕ PoolView). (state_in z.0 m).takes < p.limits.budget) (sym f.ensures.knows) (r.charged c.if-not-has_take.false))
+    let f = c.depth-held in let t = f.new.seat in let g = c.has_stamp in let u = g.new.seat in let found = g.ensures.loads.0 in
+    may_try_from_load s t u m found f.ensures.belongs f.ensures.knows g.ensures.belongs g.ensures.loads.1 p (subst (λ (d : ℕ). HasDepthIn s p m d) c.if-held-eq0.true f.ensures.depth) (r.charged c.if-not-has_take.false)
 
 pub ask_without_waking-asked-requires-clause-elsewhere : goal.ask_without_waking-asked-requires-clause-elsewhere
 ask_without_waking-asked-requires-clause-elsewhere c =
     let s = c.args.seat.now in let p = c.args.pool.now in let m = c.args.mutex in let r = c.requires in let rest = r.rest in
-    let f = c.depth-held in let t = f.new.seat in let rest' = rest_then s t p rest f.ensures.belongs f.ensures.knows in
-    others_rest t p rest' m
+    let f = c.depth-held in let t = f.new.seat in let g = c.has_stamp in let u = g.new.seat in let found = g.ensures.loads.0 in
+    others_rest u p (rest_from_load s t u m found f.ensures.belongs f.ensures.knows g.ensures.belongs g.ensures.loads.1 p rest) m
+
+pub ask_without_waking-asked-requires-clause-admitted : goal.ask_without_waking-asked-requires-clause-admitted
+ask_without_waking-asked-requires-clause-admitted c =
+    let s = c.args.seat.now in let p = c.args.pool.now in let m = c.args.mutex in let r = c.requires in let rest = r.rest in
+    let f = c.depth-held in let t = f.new.seat in let g = c.has_stamp in let u = g.new.seat in let found = g.ensures.loads.0 in
+    admits_from_load s t u m found f.ensures.belongs f.ensures.knows g.ensures.belongs g.ensures.loads.1 p rest.belongs r.mutex (sym g.ensures.loads.2 ∙ c.if-not-has_stamp.false)
 
 pub returns-then-held-eq0-clause-belongs : goal.returns-then-held-eq0-clause-belongs
 returns-then-held-eq0-clause-belongs c =
     let s = c.args.seat.now in let p = c.args.pool.now in let m = c.args.mutex in let r = c.requires in let rest = r.rest in
-    let f = c.depth-held in let t = f.new.seat in let rest' = rest_then s t p rest f.ensures.belongs f.ensures.knows in
-    let k = c.ask_without_waking-asked in let u = k.new.seat in let did = asks_all_then s t u p m f.ensures.belongs f.ensures.knows k.result.0 k.result.1 k.ensures.asks in (same_then s t u f.ensures.belongs k.ensures.belongs)
+    let f = c.depth-held in let t = f.new.seat in let g = c.has_stamp in let u = g.new.seat in let found = g.ensures.loads.0 in
+    let k = c.ask_without_waking-asked in let v = k.new.seat in same_then s u v (same_both s t u m found f.ensures.belongs f.ensures.knows g.ensures.belongs g.ensures.loads.1) k.ensures.belongs
 
 pub returns-then-held-eq0-clause-placed : goal.returns-then-held-eq0-clause-placed
 returns-then-held-eq0-clause-placed c =
     let s = c.args.seat.now in let p = c.args.pool.now in let m = c.args.mutex in let r = c.requires in let rest = r.rest in
-    let f = c.depth-held in let t = f.new.seat in let rest' = rest_then s t p rest f.ensures.belongs f.ensures.knows in
-    let k = c.ask_without_waking-asked in let u = k.new.seat in let did = asks_all_then s t u p m f.ensures.belongs f.ensures.knows k.result.0 k.result.1 k.ensures.asks in placed s u p m rest r.mutex (same_then s t u f.ensures.belongs k.ensures.belongs) k.result.0 k.result.1 did k.ensures.may k.ensures.ready
+    let f = c.depth-held in let t = f.new.seat in let g = c.has_stamp in let u = g.new.seat in let found = g.ensures.loads.0 in
+    let k = c.ask_without_waking-asked in let v = k.new.seat in
+    placed u v p m (rest_from_load s t u m found f.ensures.belongs f.ensures.knows g.ensures.belongs g.ensures.loads.1 p rest) r.mutex k.ensures.belongs k.result.0 k.result.1 k.ensures.asks k.ensures.may k.ensures.ready
 
 pub returns-then-held-eq0-clause-asks : goal.returns-then-held-eq0-clause-asks
 returns-then-held-eq0-clause-asks c =
     let s = c.args.seat.now in let p = c.args.pool.now in let m = c.args.mutex in let r = c.requires in let rest = r.rest in
-    let f = c.depth-held in let t = f.new.seat in let rest' = rest_then s t p rest f.ensures.belongs f.ensures.knows in
-    let k = c.ask_without_waking-asked in let u = k.new.seat in let did = asks_all_then s t u p m f.ensures.belongs f.ensures.knows k.result.0 k.result.1 k.ensures.asks in asked_first s u p m k.result.0 k.result.1 (subst (λ (d : ℕ). HasDepthIn s p m d) c.if-held-eq0.true f.ensures.depth) did k.ensures.ready
+    let f = c.depth-held in let t = f.new.seat in let g = c.has_stamp in let u = g.new.seat in let found = g.ensures.loads.0 in
+    let k = c.ask_without_waking-asked in let v = k.new.seat in let did = asks_from_load s t u m found f.ensures.belongs f.ensures.knows g.ensures.belongs g.ensures.loads.1 v p k.result.0 k.result.1 k.ensures.asks in
+    asked_first s v p m found (is_below (stamp_in found) most_stamps (sym g.ensures.loads.2 ∙ c.if-not-has_stamp.false)) k.result.0 k.result.1 (subst (λ (d : ℕ). HasDepthIn s p m d) c.if-held-eq0.true f.ensures.depth) did k.ensures.ready
 
 pub ask_again-deeper-requires-clause-may : goal.ask_again-deeper-requires-clause-may
 ask_again-deeper-requires-clause-may c =
@@ -114,8 +120,8 @@ returns-clause-asks c =
 pub returns-then-held-eq0-clause-bounded : goal.returns-then-held-eq0-clause-bounded
 returns-then-held-eq0-clause-bounded c =
     let s = c.args.seat.now in let p = c.args.pool.now in let m = c.args.mutex in let r = c.requires in let rest = r.rest in
-    let f = c.depth-held in let t = f.new.seat in
-    let k = c.ask_without_waking-asked in beside_then s t k.new.seat m (10 + length (popped_of k.new.seat m)) f.ensures.knows k.ensures.bounded
+    let f = c.depth-held in let t = f.new.seat in let g = c.has_stamp in let u = g.new.seat in let found = g.ensures.loads.0 in
+    let k = c.ask_without_waking-asked in let v = k.new.seat in beside_from_load s t u m found f.ensures.belongs f.ensures.knows g.ensures.belongs g.ensures.loads.1 v (10 + length (popped_of v m)) k.ensures.bounded
 
 pub returns-then-held-lt-MAX_DEPTH-clause-bounded : goal.returns-then-held-lt-MAX_DEPTH-clause-bounded
 returns-then-held-lt-MAX_DEPTH-clause-bounded c =
@@ -140,6 +146,36 @@ returns-then-not-has_take-clause-bounded c =
     let s = c.args.seat.now in let p = c.args.pool.now in let m = c.args.mutex in let r = c.requires in let rest = r.rest in
     let f = c.depth-held in let t = f.new.seat in let rest' = rest_then s t p rest f.ensures.belongs f.ensures.knows in
     refused_beside s t m (10 + length (popped_of t m)) f.ensures.knows
+
+pub returns-then-not-has_stamp-clause-belongs : goal.returns-then-not-has_stamp-clause-belongs
+returns-then-not-has_stamp-clause-belongs c =
+    let s = c.args.seat.now in let p = c.args.pool.now in let m = c.args.mutex in let r = c.requires in let rest = r.rest in
+    let f = c.depth-held in let t = f.new.seat in let g = c.has_stamp in let u = g.new.seat in let found = g.ensures.loads.0 in
+    same_both s t u m found f.ensures.belongs f.ensures.knows g.ensures.belongs g.ensures.loads.1
+
+pub returns-then-not-has_stamp-clause-placed : goal.returns-then-not-has_stamp-clause-placed
+returns-then-not-has_stamp-clause-placed c =
+    let s = c.args.seat.now in let p = c.args.pool.now in let m = c.args.mutex in let r = c.requires in let rest = r.rest in
+    let f = c.depth-held in let t = f.new.seat in let g = c.has_stamp in let u = g.new.seat in let found = g.ensures.loads.0 in
+    rest_from_load s t u m found f.ensures.belongs f.ensures.knows g.ensures.belongs g.ensures.loads.1 p rest
+
+pub returns-then-not-has_stamp-clause-asks : goal.returns-then-not-has_stamp-clause-asks
+returns-then-not-has_stamp-clause-asks c =
+    let s = c.args.seat.now in let p = c.args.pool.now in let m = c.args.mutex in let r = c.requires in let rest = r.rest in
+    let f = c.depth-held in let t = f.new.seat in let g = c.has_stamp in let u = g.new.seat in let found = g.ensures.loads.0 in
+    ((subst (λ (d : ℕ). HasDepthIn s p m d) c.if-held-eq0.true f.ensures.depth), inr (finds_none s t u m found f.ensures.belongs f.ensures.knows g.ensures.belongs g.ensures.loads.1 (sym g.ensures.loads.2 ∙ c.if-not-has_stamp.true)))
+
+pub returns-then-not-has_stamp-clause-spent : goal.returns-then-not-has_stamp-clause-spent
+returns-then-not-has_stamp-clause-spent c =
+    let s = c.args.seat.now in let p = c.args.pool.now in let m = c.args.mutex in let r = c.requires in let rest = r.rest in
+    let f = c.depth-held in let t = f.new.seat in let g = c.has_stamp in let u = g.new.seat in let found = g.ensures.loads.0 in
+    λ e. inr (finds_none s t u m found f.ensures.belongs f.ensures.knows g.ensures.belongs g.ensures.loads.1 (sym g.ensures.loads.2 ∙ c.if-not-has_stamp.true))
+
+pub returns-then-not-has_stamp-clause-bounded : goal.returns-then-not-has_stamp-clause-bounded
+returns-then-not-has_stamp-clause-bounded c =
+    let s = c.args.seat.now in let p = c.args.pool.now in let m = c.args.mutex in let r = c.requires in let rest = r.rest in
+    let f = c.depth-held in let t = f.new.seat in let g = c.has_stamp in let u = g.new.seat in let found = g.ensures.loads.0 in
+    loads_beside s t u m found f.ensures.belongs f.ensures.knows g.ensures.belongs g.ensures.loads.1 (10 + length (popped_of u m))
 
 pub returns-then-held-eq0-clause-refuses : goal.returns-then-held-eq0-clause-refuses
 returns-then-held-eq0-clause-refuses c =

@@ -1,6 +1,6 @@
 use Rattle.std.proofs.Common.{◌∙◌}
 use Rattle.lfm_pool.specs.declared.ask.Asking.{Asking}
-use Rattle.lfm_pool.proofs.Asking.{ask_bounded, asks, at_push, counts, enters, holds, loads_owner, ready}
+use Rattle.lfm_pool.proofs.Asking.{admitted_to_push, ask_bounded, asks, at_push, counts, enters, holds, loads_owner, ready}
 use Rattle.lfm_pool.proofs.SeveralSteps.{same_then}
 use Rattle.lfm_pool.proofs.Trying.{may_try}
 use Rattle.lfm_pool.proofs.ask.begin_ask.Goals as goal
@@ -29,6 +29,12 @@ pub queue-requires-clause-at : goal.queue-requires-clause-at
 queue-requires-clause-at c =
     let s = c.args.seat.now in let p = c.args.pool.now in let m = c.args.mutex in let f = c.start-count in let h = c.go_on-2 in
     at_push s p m (may_try s p m c.requires.belongs c.requires.mutex c.requires.may c.requires.elsewhere) c.requires.may f.new.seat f.result f.ensures.step f.ensures.may c.if-count-eq0.false h.new.seat h.result h.ensures.step h.ensures.finds h.ensures.may
+
+pub queue-requires-clause-admitted : goal.queue-requires-clause-admitted
+queue-requires-clause-admitted c =
+    let s = c.args.seat.now in let p = c.args.pool.now in let m = c.args.mutex in let f = c.start-count in let h = c.go_on-2 in
+    admitted_to_push s p m (may_try s p m c.requires.belongs c.requires.mutex c.requires.may c.requires.elsewhere) c.requires.may f.new.seat f.result f.ensures.step f.ensures.may c.if-count-eq0.false h.new.seat h.result h.ensures.step h.ensures.finds h.ensures.may
+    c.requires.admitted
 
 pub returns-clause-asks : goal.returns-clause-asks
 returns-clause-asks c =

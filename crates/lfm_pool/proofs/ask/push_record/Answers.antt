@@ -1,4 +1,4 @@
-use Rattle.lfm_pool.proofs.Asking.{begins_push, changes_fall_by, goes_on_pushing, has_pushed, may_more, stores_next}
+use Rattle.lfm_pool.proofs.Asking.{admitted_still, begins_push, changes_fall_by, goes_on_pushing, has_pushed, may_more, stores_next}
 use Rattle.lfm_pool.proofs.SeveralSteps.{same_then}
 use Rattle.lfm_pool.proofs.ask.push_record.Goals as goal
 
@@ -20,6 +20,10 @@ push-found-requires-clause-elsewhere c = c.loop-word.invariant.may.elsewhere
 pub push-found-requires-clause-at : goal.push-found-requires-clause-at
 push-found-requires-clause-at c =
     stores_next c.args.seat.now c.loop-word.seat c.args.pool.now c.args.mutex c.loop-word.word c.requires.may c.loop-word.invariant c.unpack_link.result c.unpack_link.ensures.holds
+
+pub push-found-requires-clause-admitted : goal.push-found-requires-clause-admitted
+push-found-requires-clause-admitted c =
+    admitted_still c.args.seat.now c.loop-word.seat c.args.pool.now c.args.mutex c.loop-word.word c.requires.may c.loop-word.invariant c.requires.admitted
 
 pub returns-then-found-word-clause-belongs : goal.returns-then-found-word-clause-belongs
 returns-then-found-word-clause-belongs c = same_then c.args.seat.now c.loop-word.seat c.push-found.new.seat c.loop-word.invariant.belongs c.push-found.ensures.belongs

@@ -16,12 +16,12 @@ returns-clause-between c =
           let inner : w.in-Ok-Held.field-0 ≡ Asked.Held w.in-Ok-Held.field-0-0 = rw w.in-Ok-Held.is at w.in-Ok-Held.field-0-is in
           let is : k.result.0 ≡ Ok (Asked.Held w.in-Ok-Held.field-0-0) = w.in-Ok-Held.is ∙ (λ i. Ok (inner i)) in
           subst (λ (x : PoolSeat). IsBetweenCalls x c.args.pool.now) (sym w.seat-is)
-          (asked_held c.args.seat.now k.new.seat c.args.pool.now c.args.mutex c.requires.between c.requires.mutex awake k.result.0 k.result.1 w.in-Ok-Held.field-0-0 is e.placed e.asks e.refuses)
+          (asked_held c.args.seat.now k.new.seat c.args.pool.now c.args.mutex c.requires.between c.requires.mutex awake k.result.0 k.result.1 w.in-Ok-Held.field-0-0 is e.placed e.asks c.has_take-has_take.result c.has_take-has_take.ensures e.refuses)
       | in-Ok-Asleep w ↦
           let inner : w.in-Ok-Asleep.field-0 ≡ Asked.Asleep = rw w.in-Ok-Asleep.is at w.in-Ok-Asleep.field-0-is in
           let is : k.result.0 ≡ Ok Asked.Asleep = w.in-Ok-Asleep.is ∙ (λ i. Ok (inner i)) in
           subst (λ (x : PoolSeat). IsBetweenCalls x c.args.pool.now) (sym w.seat-is)
-          (asked_asleep c.args.seat.now k.new.seat c.args.pool.now c.args.mutex c.requires.between c.requires.mutex awake k.result.0 k.result.1 is e.placed e.asks e.refuses)
+          (asked_asleep c.args.seat.now k.new.seat c.args.pool.now c.args.mutex c.requires.between c.requires.mutex awake k.result.0 k.result.1 is e.placed e.asks c.has_take-has_take.result c.has_take-has_take.ensures e.refuses)
       | in-Ok-Again w ↦
           let inner : w.in-Ok-Again.field-0 ≡ Asked.Again w.in-Ok-Again.field-0-0 = rw w.in-Ok-Again.is at w.in-Ok-Again.field-0-is in
           let is : k.result.0 ≡ Ok (Asked.Again w.in-Ok-Again.field-0-0) = w.in-Ok-Again.is ∙ (λ i. Ok (inner i)) in

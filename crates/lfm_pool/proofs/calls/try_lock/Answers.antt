@@ -10,7 +10,7 @@ returns-in-Ok-Held-clause-between c =
     let awake : c.args.seat.now.asleep_in ≡ None = search rules in
     let inner : c.in-Ok-Held.field-0 ≡ Locked.Held c.in-Ok-Held.field-0-0 = rw c.in-Ok-Held.is at c.in-Ok-Held.field-0-is in
     let is : k.result ≡ Ok (Locked.Held c.in-Ok-Held.field-0-0) = c.in-Ok-Held.is ∙ (λ i. Ok (inner i)) in
-    tried_held c.args.seat.now k.new.seat c.args.pool.now c.args.mutex c.requires.between c.requires.mutex awake k.result c.in-Ok-Held.field-0-0 is e.rest e.tries e.refuses
+    tried_held c.args.seat.now k.new.seat c.args.pool.now c.args.mutex c.requires.between c.requires.mutex awake k.result c.in-Ok-Held.field-0-0 is e.rest e.tries c.has_take-has_take.result c.has_take-has_take.ensures e.refuses
 
 pub returns-in-Ok-Again-clause-between : goal.returns-in-Ok-Again-clause-between
 returns-in-Ok-Again-clause-between c =

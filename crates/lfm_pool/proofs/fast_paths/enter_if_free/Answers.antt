@@ -1,9 +1,9 @@
-use Rattle.std.proofs.Common.{ℕ, refl, sym, ◌∙◌, ◌<◌, subst, arith}
+use Rattle.std.proofs.Common.{◌≡◌, ℕ, refl, sym, ◌∙◌, ◌<◌, subst, arith}
 use Rattle.lfm_protocol.specs.declared.answers.Call.{Call}
 use Rattle.std.specs.Prelude.{⊤, length}
 use Rattle.lfm_table.specs.declared.operations.Access.{Access}
 use Rattle.lfm_table.specs.declared.seat_view.View.{View}
-use Rattle.lfm_pool.specs.Tables.{part}
+use Rattle.lfm_pool.specs.Tables.{known, part}
 use Rattle.lfm_pool.specs.Steps.{IsOwnAccessOf, Sits, StepsIn}
 use Rattle.lfm_pool.proofs.FastPaths.{sits_begun, trying, entering, entered, found_taken, part_now, length_now, elsewhere_now}
 use Rattle.std.proofs.Common.{ap}
@@ -11,7 +11,7 @@ use Rattle.lfm_model.specs.declared.answers.How.{How}
 use Rattle.lfm_protocol.specs.declared.points.Entrant.{Entrant}
 use Rattle.lfm_protocol.specs.declared.points.Point.TheVariants.{TryCountExchange, EnterOwnerStore}
 use Rattle.lfm_pool.proofs.FastPaths.{entering_at, try_begun}
-use Rattle.lfm_pool.proofs.Keeping.{keeps_at}
+use Rattle.lfm_pool.proofs.Keeping.{keeps_at, may_push}
 use Rattle.lfm_pool.specs.Seats.{note_of, state_of}
 use Rattle.lfm_pool.specs.Steps.{begun_in}
 use Rattle.lfm_pool.proofs.fast_paths.enter_if_free.Goals as goal
@@ -92,11 +92,16 @@ returns-clause-belongs c =
 pub first_step-found-requires-clause-chained : goal.first_step-found-requires-clause-chained
 first_step-found-requires-clause-chained c =
     let s = c.args.seat.now in let l = c.args.pool.now.limits in let may = c.requires.may in
-    keeps_at (begun_in s.place.me.0 c.args.mutex l Call.TryLock) s.number (part s.place.me.0 c.args.mutex) (note_of s c.args.mutex) TryCountExchange
-    (ap (λ x. x.point) (try_begun (state_of s c.args.mutex) l may.rests may.flat may.charged)) refl refl
+    let x = begun_in s.place.me.0 c.args.mutex l Call.TryLock in
+    let at : x.point ≡ TryCountExchange = ap (λ x. x.point) (try_begun (state_of s c.args.mutex) l may.rests may.flat may.charged) in (
+      keeps_at x s.number (part s.place.me.0 c.args.mutex) (note_of s c.args.mutex) TryCountExchange at refl refl,
+      may_push TryCountExchange (known s.place.me.0 c.args.mutex) x.point at tt,
+    )
 
 pub next_step-requires-clause-chained : goal.next_step-requires-clause-chained
 next_step-requires-clause-chained c =
     let s = c.args.seat.now in let l = c.args.pool.now.limits in let f = c.first_step-found in let t = f.new.seat in let d = f.ensures.step in
-    keeps_at (state_of t c.args.mutex) t.number (part t.place.me.0 c.args.mutex) (note_of t c.args.mutex) (EnterOwnerStore Entrant.Trier How.Free)
-    (entering_at s.number s.place.id c.args.mutex l s.place.me t.place.me t.place.me (omega (arith, c.requires.mutex, c.requires.belongs.parts)) f.result c.if-found-ne0.false c.requires.may d) refl refl
+    let at = entering_at s.number s.place.id c.args.mutex l s.place.me t.place.me t.place.me (omega (arith, c.requires.mutex, c.requires.belongs.parts)) f.result c.if-found-ne0.false c.requires.may d in (
+      keeps_at (state_of t c.args.mutex) t.number (part t.place.me.0 c.args.mutex) (note_of t c.args.mutex) (EnterOwnerStore Entrant.Trier How.Free) at refl refl,
+      may_push (EnterOwnerStore Entrant.Trier How.Free) (known t.place.me.0 c.args.mutex) (state_of t c.args.mutex).point at tt,
+    )

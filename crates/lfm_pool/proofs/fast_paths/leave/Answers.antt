@@ -1,16 +1,16 @@
-use Rattle.std.proofs.Common.{ℕ, sym, ◌∙◌, ◌<◌, subst, arith}
+use Rattle.std.proofs.Common.{◌≡◌, ℕ, sym, ◌∙◌, ◌<◌, subst, arith}
 use Rattle.lfm_protocol.specs.declared.answers.Call.{Call}
 use Rattle.std.specs.Prelude.{⊤, length}
 use Rattle.lfm_table.specs.declared.operations.Access.{Access}
 use Rattle.lfm_table.specs.declared.seat_view.View.{View}
-use Rattle.lfm_pool.specs.Tables.{part}
+use Rattle.lfm_pool.specs.Tables.{known, part}
 use Rattle.lfm_pool.specs.Steps.{IsOwnAccessOf, Sits, StepsIn}
 use Rattle.lfm_pool.proofs.FastPaths.{at_once, sits_after_begin, releasing, subtracting, left_free, left_to_serve, part_now, length_now, elsewhere_now}
 use Rattle.std.proofs.Common.{ap, refl}
 use Rattle.lfm_protocol.specs.declared.points.Releaser.TheVariants.{Unlocker}
-use Rattle.lfm_protocol.specs.declared.points.Point.TheVariants.{ReleaseOwnerStore}
+use Rattle.lfm_protocol.specs.declared.points.Point.TheVariants.{ReleaseCountSubtract, ReleaseOwnerStore}
 use Rattle.lfm_pool.proofs.FastPaths.{noted_released, released, unlock_begun}
-use Rattle.lfm_pool.proofs.Keeping.{keeps_at, keeps_by_subtract}
+use Rattle.lfm_pool.proofs.Keeping.{keeps_at, keeps_by_subtract, may_push}
 use Rattle.lfm_pool.specs.Chain.{rested}
 use Rattle.lfm_pool.specs.Seats.{note_of, state_of}
 use Rattle.lfm_pool.specs.Steps.{begun_at, state_at}
@@ -77,13 +77,18 @@ returns-clause-belongs c =
 pub first_step-requires-clause-chained : goal.first_step-requires-clause-chained
 first_step-requires-clause-chained c =
     let s = c.args.seat.now in let l = c.args.pool.now.limits in let holds = c.requires.holds in
-    keeps_at (begun_at s.place.me.0 c.args.mutex 1 l Call.Unlock) s.number (part s.place.me.0 c.args.mutex) (note_of s c.args.mutex) (ReleaseOwnerStore Unlocker)
-    (ap (λ x. x.point) (unlock_begun (state_at s.place.me.0 c.args.mutex 1) l holds.rests refl)) refl refl
+    let x = begun_at s.place.me.0 c.args.mutex 1 l Call.Unlock in
+    let at : x.point ≡ ReleaseOwnerStore Unlocker = ap (λ x. x.point) (unlock_begun (state_at s.place.me.0 c.args.mutex 1) l holds.rests refl) in (
+      keeps_at x s.number (part s.place.me.0 c.args.mutex) (note_of s c.args.mutex) (ReleaseOwnerStore Unlocker) at refl refl,
+      may_push (ReleaseOwnerStore Unlocker) (known s.place.me.0 c.args.mutex) x.point at tt,
+    )
 
 pub next_step-requires-clause-chained : goal.next_step-requires-clause-chained
 next_step-requires-clause-chained c =
     let s = c.args.seat.now in let l = c.args.pool.now.limits in let f = c.first_step in let t = f.new.seat in let d = f.ensures.step in
     let here : c.args.mutex < length s.place.me.0.parts = omega (arith, c.requires.mutex, c.requires.belongs.parts) in
     let whole = noted_released s.number s.place.id c.args.mutex l s.place.me t.place.me t.place.me here f.result c.requires.holds d in
-    keeps_by_subtract (state_of t c.args.mutex) t.number (part t.place.me.0 c.args.mutex) (note_of t c.args.mutex) Unlocker
-    (ap (λ x. x.point) (released s.number s.place.id c.args.mutex l s.place.me t.place.me t.place.me here f.result c.requires.holds d)) (whole.0 ∙ ap rested (sym whole.1))
+    let at : (state_of t c.args.mutex).point ≡ ReleaseCountSubtract Unlocker = ap (λ x. x.point) (released s.number s.place.id c.args.mutex l s.place.me t.place.me t.place.me here f.result c.requires.holds d) in (
+      keeps_by_subtract (state_of t c.args.mutex) t.number (part t.place.me.0 c.args.mutex) (note_of t c.args.mutex) Unlocker at (whole.0 ∙ ap rested (sym whole.1)),
+      may_push (ReleaseCountSubtract Unlocker) (known t.place.me.0 c.args.mutex) (state_of t c.args.mutex).point at tt,
+    )

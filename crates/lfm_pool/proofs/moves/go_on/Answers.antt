@@ -1,6 +1,6 @@
 use Rattle.lfm_pool.specs.Seats.{note_of, state_of}
-use Rattle.lfm_pool.specs.Tables.{part}
-use Rattle.lfm_pool.proofs.Keeping.{keeps_plain}
+use Rattle.lfm_pool.specs.Tables.{known, part}
+use Rattle.lfm_pool.proofs.Keeping.{keeps_plain, plain_push}
 use Rattle.lfm_pool.proofs.SeveralSteps.{may_after}
 use Rattle.lfm_pool.proofs.SeatWords.{same_after}
 use Rattle.lfm_pool.proofs.moves.go_on.Goals as goal
@@ -32,4 +32,7 @@ next_step-requires-clause-is_next c = c.requires.is_next.0
 
 pub next_step-requires-clause-chained : goal.next_step-requires-clause-chained
 next_step-requires-clause-chained c =
-    let s = c.args.seat.now in keeps_plain (state_of s c.args.mutex) s.number (part s.place.me.0 c.args.mutex) (note_of s c.args.mutex) c.requires.is_next.1
+    let s = c.args.seat.now in (
+      keeps_plain (state_of s c.args.mutex) s.number (part s.place.me.0 c.args.mutex) (note_of s c.args.mutex) c.requires.is_next.1,
+      plain_push (state_of s c.args.mutex).point (known s.place.me.0 c.args.mutex) c.requires.is_next.1,
+    )

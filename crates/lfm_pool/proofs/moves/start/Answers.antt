@@ -1,9 +1,9 @@
 use Rattle.lfm_pool.specs.Steps.{begun_in, call_of}
-use Rattle.lfm_pool.specs.Tables.{part}
+use Rattle.lfm_pool.specs.Tables.{known, part}
 use Rattle.lfm_pool.proofs.FastPaths.{sits_begun}
 use Rattle.lfm_pool.proofs.SeveralSteps.{may_after}
 use Rattle.lfm_pool.specs.Seats.{note_of}
-use Rattle.lfm_pool.proofs.Keeping.{keeps_plain}
+use Rattle.lfm_pool.proofs.Keeping.{keeps_plain, plain_push}
 use Rattle.lfm_pool.proofs.SeatWords.{same_after}
 use Rattle.lfm_pool.proofs.moves.start.Goals as goal
 
@@ -35,5 +35,7 @@ first_step-requires-clause-is_next c = c.requires.is_next.0
 
 pub first_step-requires-clause-chained : goal.first_step-requires-clause-chained
 first_step-requires-clause-chained c =
-    let s = c.args.seat.now in
-    keeps_plain (begun_in s.place.me.0 c.args.mutex c.args.pool.now.limits (call_of c.args.access)) s.number (part s.place.me.0 c.args.mutex) (note_of s c.args.mutex) c.requires.is_next.1
+    let s = c.args.seat.now in let x = begun_in s.place.me.0 c.args.mutex c.args.pool.now.limits (call_of c.args.access) in (
+      keeps_plain x s.number (part s.place.me.0 c.args.mutex) (note_of s c.args.mutex) c.requires.is_next.1,
+      plain_push x.point (known s.place.me.0 c.args.mutex) c.requires.is_next.1,
+    )

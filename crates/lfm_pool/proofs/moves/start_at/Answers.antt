@@ -1,9 +1,9 @@
 use Rattle.lfm_pool.specs.Steps.{begun_at, call_of, state_at}
-use Rattle.lfm_pool.specs.Tables.{part}
+use Rattle.lfm_pool.specs.Tables.{known, part}
 use Rattle.lfm_pool.proofs.FastPaths.{sits_after_begin}
 use Rattle.lfm_pool.proofs.SeveralSteps.{may_after}
 use Rattle.lfm_pool.specs.Seats.{note_of}
-use Rattle.lfm_pool.proofs.Keeping.{keeps_plain}
+use Rattle.lfm_pool.proofs.Keeping.{keeps_plain, plain_push}
 use Rattle.lfm_pool.proofs.SeatWords.{same_after}
 use Rattle.lfm_pool.proofs.moves.start_at.Goals as goal
 
@@ -36,5 +36,7 @@ first_step-requires-clause-is_next g c = c.requires.is_next.0
 
 pub first_step-requires-clause-chained : goal.first_step-requires-clause-chained
 first_step-requires-clause-chained g c =
-    let s = c.args.seat.now in
-    keeps_plain (begun_at s.place.me.0 c.args.mutex g.C.OneCall.depth c.args.pool.now.limits (call_of c.args.access)) s.number (part s.place.me.0 c.args.mutex) (note_of s c.args.mutex) c.requires.is_next.1
+    let s = c.args.seat.now in let x = begun_at s.place.me.0 c.args.mutex g.C.OneCall.depth c.args.pool.now.limits (call_of c.args.access) in (
+      keeps_plain x s.number (part s.place.me.0 c.args.mutex) (note_of s c.args.mutex) c.requires.is_next.1,
+      plain_push x.point (known s.place.me.0 c.args.mutex) c.requires.is_next.1,
+    )

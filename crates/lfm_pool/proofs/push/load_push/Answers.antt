@@ -5,9 +5,9 @@ use Rattle.lfm_pool.proofs.Pushing.{loads_push, one_step}
 use Rattle.lfm_protocol.specs.declared.points.Pusher.{Pusher}
 use Rattle.lfm_pool.specs.Seats.{state_of}
 use Rattle.lfm_pool.proofs.SeatWords.{same_after}
-use Rattle.lfm_pool.proofs.Keeping.{keeps_at}
+use Rattle.lfm_pool.proofs.Keeping.{keeps_at, may_push}
 use Rattle.lfm_pool.specs.Seats.{note_of}
-use Rattle.lfm_pool.specs.Tables.{part}
+use Rattle.lfm_pool.specs.Tables.{known, part}
 use Rattle.lfm_pool.proofs.push.load_push.Goals as goal
 
 pub next_step-requires-clause-table : goal.next_step-requires-clause-table
@@ -30,4 +30,7 @@ returns-clause-loads c =
 
 pub next_step-requires-clause-chained : goal.next_step-requires-clause-chained
 next_step-requires-clause-chained c =
-    let s = c.args.seat.now in keeps_at (state_of s c.args.mutex) s.number (part s.place.me.0 c.args.mutex) (note_of s c.args.mutex) (PushLoad Pusher.Locker) c.requires.at refl refl
+    let s = c.args.seat.now in (
+      keeps_at (state_of s c.args.mutex) s.number (part s.place.me.0 c.args.mutex) (note_of s c.args.mutex) (PushLoad Pusher.Locker) c.requires.at refl refl,
+      may_push (PushLoad Pusher.Locker) (known s.place.me.0 c.args.mutex) (state_of s c.args.mutex).point c.requires.at tt,
+    )

@@ -2,15 +2,16 @@ use Rattle.std.proofs.Common.{ℕ, ◌<◌, refl, sym, ◌∙◌, subst, arith}
 use Rattle.std.specs.Prelude.{length}
 use Rattle.lfm_pool.specs.Seats.{state_of}
 use Rattle.lfm_pool.specs.Steps.{Sits, StepsIn}
-use Rattle.lfm_pool.specs.Tables.{part}
+use Rattle.lfm_pool.specs.Tables.{known, part}
 use Rattle.lfm_pool.proofs.FastPaths.{elsewhere_now}
 use Rattle.lfm_pool.proofs.Pushing.{exchanges_push, pushed, sits_now}
 use Rattle.lfm_pool.proofs.SeatWords.{packs_link}
-use Rattle.lfm_pool.proofs.Keeping.{keeps_at}
-use Rattle.lfm_protocol.specs.declared.points.Point.TheVariants.{PushExchange}
+use Rattle.lfm_pool.proofs.Keeping.{keeps_at, may_push}
+use Rattle.lfm_protocol.specs.declared.points.Point.TheVariants.{LinkStore, PushExchange}
 use Rattle.lfm_protocol.specs.declared.points.Pusher.{Pusher}
 use Rattle.lfm_pool.specs.Seats.{note_of}
 use Rattle.lfm_pool.proofs.Pushing.{exchanges_at}
+use Rattle.lfm_pool.proofs.Admitted.{admitted_step}
 use Rattle.lfm_pool.proofs.push.push.Goals as goal
 
 pub next_step-requires-clause-table : goal.next_step-requires-clause-table
@@ -69,5 +70,8 @@ pub next_step-requires-clause-chained : goal.next_step-requires-clause-chained
 next_step-requires-clause-chained c =
     let s = c.args.seat.now in let l = c.args.pool.now.limits in let f = c.link_store in let t = f.new.seat in
     let here : c.args.mutex < length s.place.me.0.parts = (let less = c.requires.mutex in let many = c.requires.belongs.parts in omega (arith, less, many)) in
-    keeps_at (state_of t c.args.mutex) t.number (part t.place.me.0 c.args.mutex) (note_of t c.args.mutex) (PushExchange Pusher.Locker c.args.loaded)
-    (exchanges_at s.number s.place.id c.args.mutex l s.place.me t.place.me t.place.me here c.args.loaded _ 0 c.requires.at f.ensures.step) refl refl
+    let at = exchanges_at s.number s.place.id c.args.mutex l s.place.me t.place.me t.place.me here c.args.loaded _ 0 c.requires.at f.ensures.step in (
+      keeps_at (state_of t c.args.mutex) t.number (part t.place.me.0 c.args.mutex) (note_of t c.args.mutex) (PushExchange Pusher.Locker c.args.loaded) at refl refl,
+      may_push (PushExchange Pusher.Locker c.args.loaded) (known t.place.me.0 c.args.mutex) (state_of t c.args.mutex).point at
+          (admitted_step s.number s.place.id c.args.mutex l (state_of s c.args.mutex) s.place.me _ t.place.me here (LinkStore Pusher.Locker c.args.loaded) c.requires.at refl f.ensures.step c.requires.admitted),
+    )

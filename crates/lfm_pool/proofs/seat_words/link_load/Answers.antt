@@ -1,9 +1,10 @@
 use Rattle.std.proofs.Common.{arith}
 use Rattle.lfm_pool.specs.Seats.{state_of}
 use Rattle.lfm_pool.proofs.SeatWords.{loads_link, target_of_load, same_after}
-use Rattle.lfm_pool.proofs.Keeping.{keeps_by_load}
+use Rattle.lfm_pool.proofs.Keeping.{keeps_by_load, may_push}
+use Rattle.lfm_protocol.specs.declared.points.Point.TheVariants.{TakeLinkLoad}
 use Rattle.lfm_pool.specs.Seats.{note_of}
-use Rattle.lfm_pool.specs.Tables.{part}
+use Rattle.lfm_pool.specs.Tables.{known, part}
 use Rattle.lfm_pool.proofs.seat_words.link_load.Goals as goal
 
 pub link_at-index-requires-clause-many : goal.link_at-index-requires-clause-many
@@ -29,5 +30,7 @@ returns-clause-belongs c = same_after c.args.seat.now c.next_at.new.seat c.args.
 
 pub next_at-requires-clause-chained : goal.next_at-requires-clause-chained
 next_at-requires-clause-chained c =
-    let s = c.args.seat.now in
-    keeps_by_load (state_of s c.args.mutex) s.number (part s.place.me.0 c.args.mutex) (note_of s c.args.mutex) c.requires.at.0 c.args.target c.requires.at.1 c.requires.whole
+    let s = c.args.seat.now in (
+      keeps_by_load (state_of s c.args.mutex) s.number (part s.place.me.0 c.args.mutex) (note_of s c.args.mutex) c.requires.at.0 c.args.target c.requires.at.1 c.requires.whole,
+      may_push (TakeLinkLoad c.requires.at.0 c.args.target) (known s.place.me.0 c.args.mutex) (state_of s c.args.mutex).point c.requires.at.1 tt,
+    )

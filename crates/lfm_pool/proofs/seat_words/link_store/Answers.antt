@@ -2,11 +2,11 @@ use Rattle.std.proofs.Common.{arith}
 use Rattle.lfm_pool.specs.Seats.{state_of}
 use Rattle.lfm_pool.proofs.SeatWords.{stores_link, same_after}
 use Rattle.std.proofs.Common.{refl}
-use Rattle.lfm_pool.proofs.Keeping.{keeps_at}
+use Rattle.lfm_pool.proofs.Keeping.{keeps_at, may_push}
 use Rattle.lfm_protocol.specs.declared.points.Point.TheVariants.{LinkStore}
 use Rattle.lfm_protocol.specs.declared.points.Pusher.{Pusher}
 use Rattle.lfm_pool.specs.Seats.{note_of}
-use Rattle.lfm_pool.specs.Tables.{part}
+use Rattle.lfm_pool.specs.Tables.{known, part}
 use Rattle.lfm_pool.proofs.seat_words.link_store.Goals as goal
 
 pub link_at-index-requires-clause-many : goal.link_at-index-requires-clause-many
@@ -33,4 +33,7 @@ returns-clause-belongs c = same_after c.args.seat.now c.next_at.new.seat c.args.
 
 pub next_at-requires-clause-chained : goal.next_at-requires-clause-chained
 next_at-requires-clause-chained c =
-    let s = c.args.seat.now in keeps_at (state_of s c.args.mutex) s.number (part s.place.me.0 c.args.mutex) (note_of s c.args.mutex) (LinkStore Pusher.Locker c.args.seen) c.requires.at refl refl
+    let s = c.args.seat.now in (
+      keeps_at (state_of s c.args.mutex) s.number (part s.place.me.0 c.args.mutex) (note_of s c.args.mutex) (LinkStore Pusher.Locker c.args.seen) c.requires.at refl refl,
+      may_push (LinkStore Pusher.Locker c.args.seen) (known s.place.me.0 c.args.mutex) (state_of s c.args.mutex).point c.requires.at tt,
+    )

@@ -2,11 +2,11 @@ use Rattle.std.proofs.Common.{arith}
 use Rattle.lfm_protocol.specs.declared.answers.Call.TheVariants.{Receive}
 use Rattle.lfm_pool.specs.Seats.{state_of}
 use Rattle.lfm_pool.specs.Steps.{begun_in}
-use Rattle.lfm_pool.specs.Tables.{part}
+use Rattle.lfm_pool.specs.Tables.{known, part}
 use Rattle.lfm_pool.proofs.FastPaths.{sits_begun}
 use Rattle.lfm_pool.proofs.SeatWords.{loads_wake, receives, same_after}
 use Rattle.std.proofs.Common.{refl}
-use Rattle.lfm_pool.proofs.Keeping.{keeps_at}
+use Rattle.lfm_pool.proofs.Keeping.{keeps_at, may_push}
 use Rattle.lfm_protocol.specs.declared.points.Point.TheVariants.{ReceiveWakeLoad}
 use Rattle.lfm_pool.specs.Seats.{note_of}
 use Rattle.lfm_pool.proofs.seat_words.wake_load.Goals as goal
@@ -44,6 +44,8 @@ returns-clause-belongs c = same_after c.args.seat.now c.first_at.new.seat c.args
 
 pub first_at-requires-clause-chained : goal.first_at-requires-clause-chained
 first_at-requires-clause-chained c =
-    let s = c.args.seat.now in
-    keeps_at (begun_in s.place.me.0 c.args.mutex c.args.pool.now.limits Receive) s.number (part s.place.me.0 c.args.mutex) (note_of s c.args.mutex) (ReceiveWakeLoad c.requires.at.0)
-    (receives (state_of s c.args.mutex) c.args.pool.now.limits c.requires.at) refl refl
+    let s = c.args.seat.now in let x = begun_in s.place.me.0 c.args.mutex c.args.pool.now.limits Receive in
+    let at = receives (state_of s c.args.mutex) c.args.pool.now.limits c.requires.at in (
+      keeps_at x s.number (part s.place.me.0 c.args.mutex) (note_of s c.args.mutex) (ReceiveWakeLoad c.requires.at.0) at refl refl,
+      may_push (ReceiveWakeLoad c.requires.at.0) (known s.place.me.0 c.args.mutex) x.point at tt,
+    )

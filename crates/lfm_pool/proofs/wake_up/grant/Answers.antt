@@ -1,9 +1,10 @@
 use Rattle.std.proofs.Common.{arith}
 use Rattle.lfm_pool.specs.Seats.{state_of}
 use Rattle.lfm_pool.proofs.SeatWords.{grants, small_grant, target_of_grant, same_after}
-use Rattle.lfm_pool.proofs.Keeping.{keeps_by_grant}
+use Rattle.lfm_pool.proofs.Keeping.{keeps_by_grant, may_push}
+use Rattle.lfm_protocol.specs.declared.points.Point.TheVariants.{GrantWakeStore}
 use Rattle.lfm_pool.specs.Seats.{note_of}
-use Rattle.lfm_pool.specs.Tables.{part}
+use Rattle.lfm_pool.specs.Tables.{known, part}
 use Rattle.lfm_pool.proofs.wake_up.grant.Goals as goal
 
 pub wake_at-index-requires-clause-many : goal.wake_at-index-requires-clause-many
@@ -36,5 +37,7 @@ returns-clause-belongs c = same_after c.args.seat.now c.next_at.new.seat c.args.
 
 pub next_at-requires-clause-chained : goal.next_at-requires-clause-chained
 next_at-requires-clause-chained c =
-    let s = c.args.seat.now in
-    keeps_by_grant (state_of s c.args.mutex) s.number (part s.place.me.0 c.args.mutex) (note_of s c.args.mutex) c.requires.at.0 c.args.oldest c.requires.at.1 c.requires.whole
+    let s = c.args.seat.now in (
+      keeps_by_grant (state_of s c.args.mutex) s.number (part s.place.me.0 c.args.mutex) (note_of s c.args.mutex) c.requires.at.0 c.args.oldest c.requires.at.1 c.requires.whole,
+      may_push (GrantWakeStore c.requires.at.0 c.args.oldest) (known s.place.me.0 c.args.mutex) (state_of s c.args.mutex).point c.requires.at.1 tt,
+    )

@@ -2,7 +2,6 @@ use Rattle.std.proofs.Common.{rules, ◌≡◌, ℕ, ◌+◌, [], length, ap, �
 use Rattle.std.proofs.lemmas.List.{length-replicate}
 use Rattle.atomic_table.specs.Table.{Me}
 use Rattle.lfm_table.proofs.tables.OneMore.{and_last}
-use Rattle.lfm_table.proofs.tables.Starts.{limit_facts}
 use Rattle.lfm_pool.specs.declared.view.PoolView.{PoolView}
 use Rattle.lfm_pool.specs.declared.pool.TableSeat.{TableSeat}
 use Rattle.lfm_pool.specs.Calls.{IsBetweenCalls}
@@ -52,11 +51,11 @@ loop-i-preserved c =
 pub returns-clause-seats : goal.returns-clause-seats
 returns-clause-seats c =
     let k = c.loop-i.invariant in let l = c.args.limits in let n : ℕ = length c.loop-i.all.items in
-    let some = (limit_facts l.seats l.budget c.requires.allowed).0 in
+    let some = c.requires.seats.0 in
     let last : n + 1 ≡ l.seats = (let t = c.loop-i-test.false in let e = c.loop-i.auto.i-end (omega (arith, some)) in let m = k.room.0 in omega (arith, t, e, m)) in
     let new = c.new-2.ensures in (
       search rules,
-      λ j s e. (all_new c.in-Ok-with_first_seat.opened.0 c.args.mutexes l c.new-2.result c.loop-i.all.items _ c.requires.allowed k.pool.0 k.pool.1 last
+      λ j s e. (all_new c.in-Ok-with_first_seat.opened.0 c.args.mutexes l c.new-2.result c.loop-i.all.items _ c.requires.seats.1 c.requires.takes.0 k.pool.0 k.pool.1 last
           (ap (λ (s : TableSeat). s.place.table_id) new.0 ∙ k.table) (ap (λ (s : TableSeat). s.place.id) new.0 ∙ k.id) (ap (λ (s : TableSeat). s.number) new.0 ∙ k.number) (ap (λ (s : TableSeat). s.place.me) new.0 ∙ k.me)
           new.1 new.2 k.seats c.in-Ok-insert.ensures.items j s e),
     )
@@ -64,9 +63,9 @@ returns-clause-seats c =
 pub returns-clause-between : goal.returns-clause-between
 returns-clause-between c =
     let k = c.loop-i.invariant in let l = c.args.limits in let n : ℕ = length c.loop-i.all.items in
-    let some = (limit_facts l.seats l.budget c.requires.allowed).0 in
+    let some = c.requires.seats.0 in
     let last : n + 1 ≡ l.seats = (let t = c.loop-i-test.false in let e = c.loop-i.auto.i-end (omega (arith, some)) in let m = k.room.0 in omega (arith, t, e, m)) in
     let new = c.new-2.ensures in
-    all_by_place (λ s. IsBetweenCalls s c.in-Ok-with_first_seat.opened.0) _ (λ j s e. (all_new c.in-Ok-with_first_seat.opened.0 c.args.mutexes l c.new-2.result c.loop-i.all.items _ c.requires.allowed k.pool.0 k.pool.1 last
+    all_by_place (λ s. IsBetweenCalls s c.in-Ok-with_first_seat.opened.0) _ (λ j s e. (all_new c.in-Ok-with_first_seat.opened.0 c.args.mutexes l c.new-2.result c.loop-i.all.items _ c.requires.seats.1 c.requires.takes.0 k.pool.0 k.pool.1 last
     (ap (λ (s : TableSeat). s.place.table_id) new.0 ∙ k.table) (ap (λ (s : TableSeat). s.place.id) new.0 ∙ k.id) (ap (λ (s : TableSeat). s.number) new.0 ∙ k.number) (ap (λ (s : TableSeat). s.place.me) new.0 ∙ k.me)
     new.1 new.2 k.seats c.in-Ok-insert.ensures.items j s e).1)

@@ -1,5 +1,5 @@
 -- The run of each mutex of a pool is that of its table: so the laws of such runs hold of it.
-use Rattle.std.proofs.Common.{◌≡◌, ℕ, ◌+◌, ◌<◌, List, refl, subst}
+use Rattle.std.proofs.Common.{◌≡◌, ℕ, ◌+◌, ◌<◌, List, ◌++◌, refl, subst}
 use mathlib.Core.Option.{some}
 use lib.ListN.{get_elem?}
 use Rattle.atomic_table.specs.Table.{State}
@@ -7,14 +7,14 @@ use Rattle.lfm_protocol.specs.declared.limits.Limits.{Limits}
 use Rattle.lfm_protocol.specs.Step.{start}
 use Rattle.lfm_table.specs.declared.seat_view.Action.{Action}
 use Rattle.lfm_table.specs.Actions.{KnowsRun, part_of}
-use Rattle.lfm_mutex.proofs.TableRuns.{tables_end_calls, tables_overtake_once, tables_push_in_rounds, tables_run_as_the_abstract_mutex, tables_serve_in_push_order, tables_serve_in_rounds}
+use Rattle.lfm_mutex.proofs.TableRuns.{ends_calls, only_seats, overtakes_once, pushes_in_rounds, runs_as_the_abstract_mutex, serves_in_push_order, serves_in_rounds}
 use Rattle.lfm_pool.specs.declared.view.PoolView.{PoolView}
 use Rattle.lfm_pool.specs.Posts.{HeldPosts}
 use Rattle.lfm_pool.specs.Tables.{any_fits, any_follows, part}
 use Rattle.lfm_pool_laws.specs.Mutexes.{HasRunOf}
 use Rattle.lfm_pool_laws.specs.RunLaws.{MutexesAreOvertakenOnce, MutexesEndCalls, MutexesPushInRounds, MutexesRunAsTheAbstractMutex, MutexesServeInPushOrder, MutexesServeInRounds}
 use Rattle.lfm_pool_laws.specs.StateLaws.{MutexesHaveARun}
-use Rattle.lfm_pool_laws.proofs.Tables.{as_many, has_table, mutex_is}
+use Rattle.lfm_pool_laws.proofs.Tables.{as_many, few, has_table, mutex_is}
 
 run_of : (s : State ℕ PoolView) (h : HeldPosts s) (m : ℕ) → m < h.held.mutexes → (l : Limits) × (actions : List Action) × HasRunOf s m l actions
 run_of s h m less =
@@ -35,20 +35,20 @@ pub mutexes_have_a_run : MutexesHaveARun
 mutexes_have_a_run = (run_of, λ s m l actions r. (as_many s m l actions r, mutex_is s m l actions r, recorded s m l actions r))
 
 pub mutexes_run_as_the_abstract_mutex : MutexesRunAsTheAbstractMutex
-mutexes_run_as_the_abstract_mutex s m l actions r = tables_run_as_the_abstract_mutex any_follows any_fits r.table l actions r.holds
+mutexes_run_as_the_abstract_mutex s m l actions r = runs_as_the_abstract_mutex l (few s m l actions r) actions
 
 pub mutexes_serve_in_push_order : MutexesServeInPushOrder
-mutexes_serve_in_push_order s m l actions r =
-    let served = tables_serve_in_push_order any_follows any_fits r.table l actions r.holds in (served.0, served.2, served.3)
+mutexes_serve_in_push_order s m l actions r = serves_in_push_order l (few s m l actions r) actions
 
 pub mutexes_are_overtaken_once : MutexesAreOvertakenOnce
-mutexes_are_overtaken_once s m l early late k r = tables_overtake_once any_follows any_fits r.table l early late k r.holds
+mutexes_are_overtaken_once s m l early late k r = overtakes_once l (few s m l (early ++ late) r) early late k
 
 pub mutexes_serve_in_rounds : MutexesServeInRounds
-mutexes_serve_in_rounds s m l early late k r = tables_serve_in_rounds any_follows any_fits r.table l early late k r.holds
+mutexes_serve_in_rounds s m l early late k r = serves_in_rounds l (few s m l (early ++ late) r) early late k
 
 pub mutexes_push_in_rounds : MutexesPushInRounds
-mutexes_push_in_rounds s m l early late t r = tables_push_in_rounds any_follows any_fits r.table l early late t r.holds
+mutexes_push_in_rounds s m l early late t r = pushes_in_rounds l (few s m l (early ++ late) r) early late t
 
 pub mutexes_end_calls : MutexesEndCalls
-mutexes_end_calls s m l early late r = tables_end_calls any_follows any_fits r.table l early late r.holds
+mutexes_end_calls s m l early late r =
+    ends_calls l (few s m l (early ++ late) r) early late (only_seats any_follows any_fits r.table l early late r.holds.0 r.holds.1 r.holds.2)

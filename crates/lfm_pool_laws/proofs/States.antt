@@ -8,12 +8,10 @@ use Rattle.lfm_words.specs.Words.{handoff_word, is_posted_word}
 use Rattle.lfm_protocol.specs.declared.answers.Call.TheVariants.{Unlock}
 use Rattle.lfm_protocol.specs.declared.limits.Limits.{Limits}
 use Rattle.lfm_protocol.specs.declared.seats.SeatState.{SeatState}
-use Rattle.lfm_protocol.specs.Core.{Core}
-use Rattle.lfm_protocol.specs.Limits.{are_in_limits, max_budget}
 use Rattle.lfm_protocol.specs.Seats.{unposted}
 use Rattle.lfm_protocol.specs.Step.{begin}
 use Rattle.lfm_laws.specs.laws.Laws.{IsReached}
-use Rattle.lfm_laws.specs.steady.Steady.{Steady}
+use Rattle.lfm_laws.specs.steady.Steady.{NumbersFit, Steady}
 use Rattle.lfm_laws.specs.laws.Progress.{changes_beside}
 use Rattle.lfm_laws.specs.laws.Schedules.{steps_of_call}
 use Rattle.lfm_laws.proofs.lawful.bounds.Beside.{calls_end_beside_others}
@@ -21,33 +19,30 @@ use Rattle.lfm_laws.proofs.lawful.bounds.ConstantBounds.{receives_are_bounded, t
 use Rattle.lfm_laws.proofs.lawful.bounds.ReleaseBounds.{unlocks_are_bounded}
 use Rattle.lfm_laws.proofs.lawful.states.Owning.{one_has_the_responsibility, one_seat_owns}
 use Rattle.lfm_laws.proofs.lawful.states.StateLaws.{states_are_lawful}
-use Rattle.lfm_laws.proofs.steady.Start.{few_seats}
 use Rattle.lfm_table.specs.declared.seat_view.Action.{Action}
 use Rattle.lfm_table.specs.Actions.{events_of}
-use Rattle.lfm_table.proofs.tables.Actions.{run_budget}
 use Rattle.lfm_mutex.specs.TableRuns.{state_after}
 use Rattle.lfm_pool.specs.declared.view.PoolView.{PoolView}
 use Rattle.lfm_pool.specs.Tables.{part}
 use Rattle.lfm_pool_laws.specs.Mutexes.{HasRunOf}
 use Rattle.lfm_pool_laws.specs.StateLaws.{CallsInMutexesAreBounded, MutexesAreSteady, MutexesHaveOneOwner, OneHasTheResponsibilityForEach, PostsOfMutexesAreWatched}
-use Rattle.lfm_pool_laws.proofs.Tables.{kept, led, mutex_is, seats_are, steady}
+use Rattle.lfm_pool.proofs.Numbers.{numbers_at}
+use Rattle.lfm_pool_laws.proofs.Tables.{few, kept, led, mutex_is, seats_are, steady}
 
 module _ (s : State ℕ PoolView) (m : ℕ) (l : Limits) (actions : List Action) (r : HasRunOf s m l actions) where
-  allowed : are_in_limits l.seats l.budget ≡ true
-  allowed = ap (λ (k : Limits). are_in_limits k.seats k.budget) (sym r.holds.1) ∙ r.holds.0.run.allowed
-
   is_reached : IsReached (state_after l actions)
-  is_reached = record { limits = l; events = events_of actions; few = few_seats l.seats l.budget allowed; here = refl }
+  is_reached = record { limits = l; events = events_of actions; few = few s m l actions r; here = refl }
 
-  in_budget : (state_after l actions).budget ≤ max_budget
-  in_budget =
+  -- no stamp and no number of a post outgrows its word
+  numbers : NumbersFit (state_after l actions)
+  numbers =
       let k = kept s m l actions r in
-      subst (λ (c : Core). c.budget ≤ max_budget) (led s m l actions r) (run_budget k.opened k.actions k.core r.table.views k.run)
+      subst NumbersFit (led s m l actions r) (numbers_at s r.rule m r.inside r.table k r.has.counted r.has.views r.has.push)
 
 pub mutexes_are_steady : MutexesAreSteady
 mutexes_are_steady s m l actions r =
     let is = steady s m l actions r in
-    (is_reached s m l actions r, in_budget s m l actions r, is, states_are_lawful (state_after l actions) is)
+    (is_reached s m l actions r, numbers s m l actions r, r.rule.few, is, states_are_lawful (state_after l actions) is)
 
 pub mutexes_have_one_owner : MutexesHaveOneOwner
 mutexes_have_one_owner s h m i j v w less at at' deep deep' =

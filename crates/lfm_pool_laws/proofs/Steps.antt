@@ -44,7 +44,7 @@ module _ (m : ℕ) (w : View ⊤) (k : Note) (v u : PoolView) (differ : DifferIn
   known_else i other = as_known i ∙ known_other v m i w k other
 
   as_wide : length u.parts ≡ length v.parts
-  as_wide = ap (λ (l : List Known). length l) differ ∙ length-set v.parts m (record { view = w; note = k })
+  as_wide = ap (λ (l : List Known). length l) differ ∙ length-set v.parts m (record (known v m) { view = w; note = k })
 
 -- The seat at place id, whose view was v, has written x into the word at this index, and has the view u then. Mutex i is
 -- another one: the word is none of its words, and the seat whose word it is rests in this mutex.

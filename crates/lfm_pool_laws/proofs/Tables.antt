@@ -71,6 +71,10 @@ module _ (s : State ℕ PoolView) (m : ℕ) (l : Limits) (actions : List Action)
   pub steady : Steady (state_after l actions)
   steady = subst Steady led (record { ghost_state = kept.ghost_state; fits = kept.fits })
 
+  -- the limits allow no more seats than a mutex may have
+  pub few : l.seats ≤ max_seats
+  few = subst (λ (k : Limits). k.seats ≤ max_seats) r.holds.1 kept.run.allowed
+
   many : length kept.core.seats ≡ r.rule.held.seats
   many = let w = seats_of r.table kept in omega (arith, w, r.has.sized)
 

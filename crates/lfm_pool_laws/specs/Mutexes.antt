@@ -9,11 +9,10 @@ use Rattle.lfm_protocol.specs.declared.limits.Limits.{Limits}
 use Rattle.lfm_protocol.specs.Core.{Core, limits}
 use Rattle.lfm_protocol.specs.Seats.{seat, wake}
 use Rattle.lfm_table.specs.declared.seat_view.Action.{Action}
-use Rattle.lfm_mutex.specs.TableRuns.{HoldsAfter}
 use Rattle.lfm_pool.specs.declared.view.PoolView.{PoolView}
 use Rattle.lfm_pool.specs.Layout.{own_at, wake_at}
 use Rattle.lfm_pool.specs.Posts.{HeldPosts}
-use Rattle.lfm_pool.specs.Tables.{MutexTable, any_fits, any_follows, part, rests}
+use Rattle.lfm_pool.specs.Tables.{IsKept, MutexTable, part, rests}
 
 -- Mutex m, in this state of a pool of this many mutexes and seats, has the table t.
 -- - counted, sized: the number of views of the table, and of its words
@@ -34,6 +33,10 @@ pub record HasTable (s : State ℕ PoolView) (mutexes seats m : ℕ) (t : MutexT
   pub wakes : (j : ℕ) (v : PoolView) → get_elem? s.views j ≡ some v → rests (part v m) ≡ false
       → slice_index s.words (wake_at mutexes j) ≡ slice_index t.words (4 + seats + j)
 
+-- the table of a mutex keeps its rule, was opened with these limits, and has made these actions since
+abbrev pub HoldsAfter : Limits → List Action → MutexTable → Type 0
+HoldsAfter l actions t = (k : IsKept t) × (k.opened ≡ l) × (k.actions ≡ actions)
+
 -- The pool keeps its rule. Mutex m has a table that was opened with these limits, and these actions are the run of the table
 -- from its opening up to now.
 pub record HasRunOf (s : State ℕ PoolView) (m : ℕ) (l : Limits) (actions : List Action) : Type 0 where
@@ -41,7 +44,7 @@ pub record HasRunOf (s : State ℕ PoolView) (m : ℕ) (l : Limits) (actions : L
   pub inside : m < rule.held.mutexes
   pub table : MutexTable
   pub has : HasTable s rule.held.mutexes rule.held.seats m table
-  pub holds : HoldsAfter any_follows any_fits l actions table
+  pub holds : HoldsAfter l actions table
 
 -- In this state of a pool of this many mutexes, mutex m is this state of the core.
 -- - count, owner, push: these words of the mutex are those of the core

@@ -1,5 +1,5 @@
 -- What is true of each mutex of a pool at every moment.
-use Rattle.std.specs.Prelude.{◌≡◌, ℕ, ◌+◌, ◌*◌, ◌<◌, ◌≤◌, List, true, false, slice_index}
+use Rattle.std.specs.Prelude.{◌≡◌, ℕ, ◌+◌, ◌*◌, ◌^◌, ◌<◌, ◌≤◌, List, true, false, slice_index}
 use mathlib.Core.Option.{some}
 use lib.ListN.{get_elem?}
 use Rattle.atomic_table.specs.Table.{State}
@@ -7,7 +7,6 @@ use Rattle.lfm_model.specs.Abstract.{AbstractPlace}
 use Rattle.lfm_words.specs.Words.{is_posted_word}
 use Rattle.lfm_protocol.specs.declared.answers.Call.TheVariants.{Receive, TryLock, Unlock}
 use Rattle.lfm_protocol.specs.declared.limits.Limits.{Limits}
-use Rattle.lfm_protocol.specs.Limits.{max_budget}
 use Rattle.lfm_protocol.specs.Seats.{seat}
 use Rattle.lfm_protocol.specs.Step.{begin, start}
 use Rattle.lfm_laws.specs.laws.Laws.{IsReached}
@@ -16,7 +15,7 @@ use Rattle.lfm_laws.specs.laws.Progress.{changes_beside}
 use Rattle.lfm_laws.specs.laws.Reading.{Claims}
 use Rattle.lfm_laws.specs.laws.Schedules.{Event, is_call, steps_of_call}
 use Rattle.lfm_laws.specs.laws.Watched.{Watcher}
-use Rattle.lfm_laws.specs.steady.Steady.{Steady}
+use Rattle.lfm_laws.specs.steady.Steady.{NumbersFit, Steady}
 use Rattle.lfm_table.specs.declared.seat_view.Action.{Action}
 use Rattle.lfm_table.specs.Actions.{KnowsRun, part_of}
 use Rattle.lfm_mutex.specs.TableRuns.{state_after}
@@ -38,12 +37,14 @@ MutexesHaveARun =
     × ((j : ℕ) (v : PoolView) → get_elem? s.views j ≡ some v
     → ((part v m).trail ≡ part_of (start l) (j + 1) actions) × KnowsRun l actions (j + 1) (part v m).actions (part v m).trail))
 
--- The run of a mutex leads to a state that a schedule of the core reaches within the limits, and so to a steady and lawful
--- one.
+-- The run of a mutex leads to a state that a schedule of the core reaches, and so to a steady and lawful one. However many
+-- actions it has, its stamp and its posts fit their words, also after the next step, and so do the numbers by which the seats
+-- count their posts in all mutexes.
 abbrev pub MutexesAreSteady : Type 0
 MutexesAreSteady =
     (s : State ℕ PoolView) (m : ℕ) (l : Limits) (actions : List Action) → HasRunOf s m l actions
-    → IsReached (state_after l actions) × ((state_after l actions).budget ≤ max_budget) × Steady (state_after l actions) × Lawful (state_after l actions)
+    → IsReached (state_after l actions) × NumbersFit (state_after l actions)
+    × ((j : ℕ) (v : PoolView) → get_elem? s.views j ≡ some v → v.posts + 1 < 2 ^ 48) × Steady (state_after l actions) × Lawful (state_after l actions)
 
 -- no two seats of a pool own one mutex
 abbrev pub MutexesHaveOneOwner : Type 0

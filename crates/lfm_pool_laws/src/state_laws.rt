@@ -17,8 +17,8 @@ pub fn mutexes_have_a_run()
     ensures { MutexesHaveARun }
 {}
 
-/// At every moment each mutex is a reached, steady and lawful state of the core within the limits. So every law of reached
-/// states holds of it.
+/// At every moment each mutex is a reached, steady and lawful state of the core. Its stamp and the numbers of posts fit their
+/// words, however long it is in use. So every law of reached states holds of it.
 ///
 /// Definition: `MutexesAreSteady` in `specs/StateLaws.antt`. Proof: `proofs/States.antt`.
 pub fn mutexes_are_steady()

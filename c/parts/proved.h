@@ -29,6 +29,19 @@ uint64_t lfm_c_ask(void *seat);
 uint64_t lfm_c_receive(void *seat);
 uint64_t lfm_c_try_lock(void *seat);
 uint64_t lfm_c_unlock(void *seat);
+size_t lfm_c_pool_size(void);
+size_t lfm_c_pool_align(void);
+size_t lfm_c_pool_seat_size(void);
+size_t lfm_c_pool_seat_align(void);
+void lfm_c_blank_pool(void *pool);
+void lfm_c_blank_pool_seat(void *seat);
+uint64_t lfm_c_pool_open(void *pool, uint64_t mutexes, uint64_t seats);
+uint64_t lfm_c_pool_take_seat(void *pool, void *seat);
+uint64_t lfm_c_pool_depth(void *seat, uint64_t mutex);
+uint64_t lfm_c_pool_ask(void *seat, uint64_t mutex);
+uint64_t lfm_c_pool_receive(void *seat, uint64_t mutex);
+uint64_t lfm_c_pool_try_lock(void *seat, uint64_t mutex);
+uint64_t lfm_c_pool_unlock(void *seat, uint64_t mutex);
 /* to here */
 
 static lfm_status status_of(uint64_t answer) { return (lfm_status)(answer & 255); }

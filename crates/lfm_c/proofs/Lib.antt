@@ -1,1 +1,3 @@
+pub mod BetweenCalls
 pub mod Places
+pub mod PoolOpening

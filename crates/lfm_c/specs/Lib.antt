@@ -1,3 +1,4 @@
 pub mod Handles
 pub mod Leaves
+pub mod PoolHandles
 pub mod Status

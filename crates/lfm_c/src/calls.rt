@@ -31,7 +31,7 @@ fn told(status: Status, wake_up: Option<WakeUp>) -> u64
 }
 
 /// The status of an answer of `ask`. How the seat acquired the mutex is not passed on to C.
-fn asked(answer: Result<Asked, Refusal>) -> Status
+pub fn asked(answer: Result<Asked, Refusal>) -> Status
     ensures { result ≡ asked_of answer }
 {
     match answer {
@@ -43,7 +43,7 @@ fn asked(answer: Result<Asked, Refusal>) -> Status
 }
 
 /// The status of an answer of `try_receive`. Its answer None means that the seat still sleeps.
-fn received(answer: Result<Option<How>, Refusal>) -> Status
+pub fn received(answer: Result<Option<How>, Refusal>) -> Status
     ensures { result ≡ received_of answer }
 {
     match answer {
@@ -54,7 +54,7 @@ fn received(answer: Result<Option<How>, Refusal>) -> Status
 }
 
 /// The status of an answer of `try_lock`.
-fn locked(answer: Result<Locked, Refusal>) -> Status
+pub fn locked(answer: Result<Locked, Refusal>) -> Status
     ensures { result ≡ locked_of answer }
 {
     match answer {

@@ -2,6 +2,7 @@
 ghost use Rattle.std.specs.Prelude.{◌≡◌};
 
 use crate::handles::{MutexHandle, SeatHandle};
+use crate::pool_handles::{PoolHandle, PoolSeatHandle};
 
 /// Returns the value. The bound allows it to move to another thread, so a call can be proved only if the value's type is
 /// `Send`.
@@ -20,6 +21,20 @@ pub fn seat_crosses(handle: SeatHandle) -> SeatHandle
 
 /// A mutex's handle may move to another thread.
 pub fn mutex_crosses(handle: MutexHandle) -> MutexHandle
+    ensures { result ≡ handle }
+{
+    sent(handle)
+}
+
+/// The handle of a seat of a pool may move to another thread.
+pub fn pool_seat_crosses(handle: PoolSeatHandle) -> PoolSeatHandle
+    ensures { result ≡ handle }
+{
+    sent(handle)
+}
+
+/// A pool's handle may move to another thread.
+pub fn pool_crosses(handle: PoolHandle) -> PoolHandle
     ensures { result ≡ handle }
 {
     sent(handle)

@@ -1,12 +1,16 @@
-//! A recursive mutex for programs in C. The handle of a mutex and the handle of each seat are in memory of the caller, who
-//! passes each to one call at a time. A static library may neither sleep nor wake, so no call here does. Instead, c/ligdrosa.c
-//! sleeps if a call returns that the seat sleeps, and wakes the seat that a call names.
+//! A recursive mutex for programs in C, and a pool of such mutexes. The handle of a mutex or pool and the handle of each seat
+//! are in memory of the caller, who passes each to one call at a time. A static library may neither sleep nor wake, so no call
+//! here does. Instead, c/ligdrosa.c sleeps if a call returns that the seat sleeps, and wakes the seat that a call names. It
+//! makes no call of a pool.
 //!
 //! An export returns the answer of the mutex's call as a status in the low 8 bits. Its contract states what the status means:
 //! the clauses of the mutex's own call about answers, steps and the bound on steps hold for it. An `ask` or `unlock` may grant
 //! the mutex to at most one other seat. The number of that seat is above the status, or 0 if there is none, and the contract
 //! states that it is the seat of the call's wake-up. So no wake-up is lost on this side: the caller must wake the seat that an
 //! answer names.
+//!
+//! A call of a seat of a pool is passed the number of the mutex, from 0. If the pool has no mutex of this number, it is refused
+//! as Limit.
 #![tactic(auto)]
 
 ghost use Rattle.std.specs.Borrow.{full_share, sem};
@@ -20,18 +24,27 @@ ghost use Rattle.lfm_c.specs.declared.handles.MutexHandle.{MutexHandle as MutexN
 ghost use Rattle.lfm_c.specs.declared.handles.SeatHandle.{SeatHandle as SeatNow};
 ghost use Rattle.lfm_c.specs.contracts.handles.MutexHandle.{the_row as mutex_row};
 ghost use Rattle.lfm_c.specs.contracts.handles.SeatHandle.{the_row as seat_row};
+ghost use Rattle.lfm_c.specs.declared.pool_handles.PoolHandle.{PoolHandle as PoolNow};
+ghost use Rattle.lfm_c.specs.declared.pool_handles.PoolSeatHandle.{PoolSeatHandle as PoolSeatNow};
+ghost use Rattle.lfm_c.specs.contracts.pool_handles.PoolHandle.{the_row as pool_row};
+ghost use Rattle.lfm_c.specs.contracts.pool_handles.PoolSeatHandle.{the_row as pool_seat_row};
 ghost use Rattle.lfm_c.specs.Handles.{TellsAsk, TellsClose, TellsCount, TellsDepth, TellsGive, TellsLeft, TellsNumber, TellsOpen, TellsReceive, TellsTake, TellsTry, TellsUnlock};
 ghost use Rattle.lfm_c.specs.Leaves.{leaves};
+ghost use Rattle.lfm_c.specs.PoolHandles.{TellsPoolAsk, TellsPoolDepth, TellsPoolOpen, TellsPoolReceive, TellsPoolTake, TellsPoolTry, TellsPoolUnlock};
 
 mod calls;
 mod close;
 pub mod crossing;
 mod handles;
 mod open;
+mod pool_calls;
+mod pool_handles;
+mod pool_open;
 mod reading;
 mod status;
 
 use crate::handles::{MutexHandle, SeatHandle};
+use crate::pool_handles::{PoolHandle, PoolSeatHandle};
 use std::alloc::Global;
 use std::mem::{align_of, size_of};
 
@@ -225,4 +238,136 @@ pub unsafe extern "C" fn lfm_c_unlock(seat: *mut u8) -> u64
     ensures* { sem 𝓛 (leaves (λ (y : SeatNow). lies_at seat_row full_share seat y) (λ y. TellsUnlock x y result)) }
 {
     calls::unlock(&mut *(seat as *mut SeatHandle))
+}
+
+/// The size of a pool's handle, in bytes.
+#[unsafe(no_mangle)]
+pub extern "C" fn lfm_c_pool_size() -> usize
+    ensures { result ≡ capped (type_size pool_row) }
+{
+    size_of::<PoolHandle>()
+}
+
+/// The alignment of a pool's handle, in bytes.
+#[unsafe(no_mangle)]
+pub extern "C" fn lfm_c_pool_align() -> usize
+    ensures { result ≡ capped (align (layout pool_row)) }
+{
+    align_of::<PoolHandle>()
+}
+
+/// The size of the handle of a pool's seat, in bytes.
+#[unsafe(no_mangle)]
+pub extern "C" fn lfm_c_pool_seat_size() -> usize
+    ensures { result ≡ capped (type_size pool_seat_row) }
+{
+    size_of::<PoolSeatHandle>()
+}
+
+/// The alignment of the handle of a pool's seat, in bytes.
+#[unsafe(no_mangle)]
+pub extern "C" fn lfm_c_pool_seat_align() -> usize
+    ensures { result ≡ capped (align (layout pool_seat_row)) }
+{
+    align_of::<PoolSeatHandle>()
+}
+
+/// Writes the blank handle of a pool. C passes only the pointer, since an allocator has no bytes.
+#[unsafe(no_mangle)]
+pub unsafe extern "C" fn lfm_c_blank_pool(alloc: Global, pool: *mut u8)
+    requires* { sem 𝓛 (room_at pool_row pool) }
+    ensures* { sem 𝓛 (lies_at pool_row full_share pool (record { alloc = alloc; whole = None })) }
+{
+    (pool as *mut PoolHandle).write(pool_handles::blank_pool(alloc));
+}
+
+/// Writes the blank handle of a seat of a pool.
+#[unsafe(no_mangle)]
+pub unsafe extern "C" fn lfm_c_blank_pool_seat(seat: *mut u8)
+    requires* { sem 𝓛 (room_at pool_seat_row seat) }
+    ensures* { sem 𝓛 (lies_at pool_seat_row full_share seat (record { seated = None })) }
+{
+    (seat as *mut PoolSeatHandle).write(pool_handles::blank_seat());
+}
+
+/// Opens a pool of this many mutexes, 1 to 2^32 - 1, with this many seats, 1 to 4,095. Each seat may make 2^63 takes.
+///
+/// Returns Done, or Taken (the handle is not blank), Limit, Memory, which change nothing. No other export of a pool allocates.
+#[unsafe(no_mangle)]
+pub unsafe extern "C" fn lfm_c_pool_open(pool: *mut u8, mutexes: u64, seats: u64) -> u64
+    ghost x: { PoolNow }
+    requires* { sem 𝓛 (lies_at pool_row full_share pool x) }
+    ensures* { sem 𝓛 (leaves (λ (y : PoolNow). lies_at pool_row full_share pool y) (λ y. TellsPoolOpen x mutexes seats y result)) }
+{
+    pool_open::open(&mut *(pool as *mut PoolHandle), mutexes, seats)
+}
+
+/// Takes the next seat of the pool: the first is seat 1. No seat is given back, and no pool is closed.
+///
+/// Returns Done, or Taken (the seat's handle is not blank), Blank (the pool's handle is blank), NoSeat, which change nothing.
+#[unsafe(no_mangle)]
+pub unsafe extern "C" fn lfm_c_pool_take_seat(pool: *mut u8, seat: *mut u8) -> u64
+    ghost x: { PoolNow × PoolSeatNow }
+    requires* { sem 𝓛 (fsep (lies_at pool_row full_share pool x.0) (lies_at pool_seat_row full_share seat x.1)) }
+    ensures* { sem 𝓛 (leaves (λ (y : PoolNow × PoolSeatNow). fsep (lies_at pool_row full_share pool y.0) (lies_at pool_seat_row full_share seat y.1)) (λ y. TellsPoolTake x.0 x.1 y.0 y.1 result)) }
+{
+    pool_open::take_seat(
+        &mut *(pool as *mut PoolHandle),
+        &mut *(seat as *mut PoolSeatHandle),
+    )
+}
+
+/// Returns how many times the seat holds this mutex of its pool, 0 to 65,535, or 0 if the handle is blank or the pool has no
+/// mutex of this number.
+#[unsafe(no_mangle)]
+pub unsafe extern "C" fn lfm_c_pool_depth(seat: *mut u8, mutex: u64) -> u64
+    ghost x: { PoolSeatNow }
+    requires* { sem 𝓛 (lies_at pool_seat_row full_share seat x) }
+    ensures* { sem 𝓛 (leaves (λ (y : PoolSeatNow). lies_at pool_seat_row full_share seat y) (λ y. TellsPoolDepth x mutex y result)) }
+{
+    pool_calls::depth(&mut *(seat as *mut PoolSeatHandle), mutex)
+}
+
+/// `ask` of the seat in this mutex. Returns Done (it holds), Again (it holds once more), Asleep, Blank, Limit, or why it is
+/// refused. The number of the seat to be woken, or 0, is above the status.
+#[unsafe(no_mangle)]
+pub unsafe extern "C" fn lfm_c_pool_ask(seat: *mut u8, mutex: u64) -> u64
+    ghost x: { PoolSeatNow }
+    requires* { sem 𝓛 (lies_at pool_seat_row full_share seat x) }
+    ensures* { sem 𝓛 (leaves (λ (y : PoolSeatNow). lies_at pool_seat_row full_share seat y) (λ y. TellsPoolAsk x mutex y result)) }
+{
+    pool_calls::ask(&mut *(seat as *mut PoolSeatHandle), mutex)
+}
+
+/// `try_receive` of the seat in this mutex. Returns Done (it holds), Asleep (it has no grant), Blank, Limit, or why it is
+/// refused.
+#[unsafe(no_mangle)]
+pub unsafe extern "C" fn lfm_c_pool_receive(seat: *mut u8, mutex: u64) -> u64
+    ghost x: { PoolSeatNow }
+    requires* { sem 𝓛 (lies_at pool_seat_row full_share seat x) }
+    ensures* { sem 𝓛 (leaves (λ (y : PoolSeatNow). lies_at pool_seat_row full_share seat y) (λ y. TellsPoolReceive x mutex y result)) }
+{
+    pool_calls::receive(&mut *(seat as *mut PoolSeatHandle), mutex)
+}
+
+/// `try_lock` of the seat in this mutex. Returns Done (it holds), Again (it holds once more), Blank, Limit, or why it is
+/// refused.
+#[unsafe(no_mangle)]
+pub unsafe extern "C" fn lfm_c_pool_try_lock(seat: *mut u8, mutex: u64) -> u64
+    ghost x: { PoolSeatNow }
+    requires* { sem 𝓛 (lies_at pool_seat_row full_share seat x) }
+    ensures* { sem 𝓛 (leaves (λ (y : PoolSeatNow). lies_at pool_seat_row full_share seat y) (λ y. TellsPoolTry x mutex y result)) }
+{
+    pool_calls::try_lock(&mut *(seat as *mut PoolSeatHandle), mutex)
+}
+
+/// `unlock` of the seat in this mutex. Returns Still (it has one hold less and still holds), Done, Posted, Granted, Blank,
+/// Limit, or why it is refused. The number of the seat to be woken, or 0, is above the status.
+#[unsafe(no_mangle)]
+pub unsafe extern "C" fn lfm_c_pool_unlock(seat: *mut u8, mutex: u64) -> u64
+    ghost x: { PoolSeatNow }
+    requires* { sem 𝓛 (lies_at pool_seat_row full_share seat x) }
+    ensures* { sem 𝓛 (leaves (λ (y : PoolSeatNow). lies_at pool_seat_row full_share seat y) (λ y. TellsPoolUnlock x mutex y result)) }
+{
+    pool_calls::unlock(&mut *(seat as *mut PoolSeatHandle), mutex)
 }

@@ -23,7 +23,7 @@ pub enum Status {
     Blank,
     /// The handle is not blank.
     Taken,
-    /// The number of seats or the budget is outside its limits.
+    /// A number is outside its limits: of seats, mutexes or the budget, or the number of a mutex of a pool.
     Limit,
     /// The allocator had no memory.
     Memory,

@@ -103,7 +103,8 @@ test('each step, answer, refusal and place has a sentence, and what a call remem
       told(point.split(': ')[0]);
       assert(!/ (seen|for|as|after) /.test(point) || / as #0$/.test(point) || page.memoryOf(point) !== '', point);
     }
-    state.choices.forEach(({ refusals }) => refusals.forEach(({ why }) => told('check ' + why)));
+    state.choices.forEach(({ refusals }) => refusals.forEach(({ act, why }) =>
+      told(page.turnName({ act, turn: 'refused ' + why }))));
     page.eventsFrom(graph, node).forEach(({ act, step, turn }) => {
       if (act === '.') assert.match(page.outcomeOf(step), /^(It|The word) .*\.$/);
       if (page.isAnswer(turn)) told(page.turnName({ act, turn }));

@@ -155,7 +155,8 @@ static void add_often(unsigned thread) {
   }
 }
 
-static void loses_no_addition(unsigned count) {
+/* Returns whether a seat slept. */
+static bool loses_no_addition(unsigned count) {
   void *pool = open_pool(MUTEXES, count);
   uint64_t sum = 0;
   threads = count;
@@ -166,13 +167,19 @@ static void loses_no_addition(unsigned count) {
   for (int i = 0; i < MUTEXES; i++) sum += numbers[i];
   EXPECT(sum, (uint64_t)count * ROUNDS);
   EXPECT(received, named); /* each seat that slept was named by the answer that granted it the mutex, once */
-  EXPECT(received != 0, true);
+  return received != 0;
+}
+
+/* On a busy machine one thread may end before another begins, so that none has to sleep: then they add once more. */
+static void sleeps_and_loses_no_addition(unsigned count) {
+  int tries = 0;
+  while (!loses_no_addition(count)) EXPECT(++tries < 100, true);
 }
 
 int main(void) {
   opens_and_refuses();
   answers();
-  loses_no_addition(2);
-  loses_no_addition(4);
+  sleeps_and_loses_no_addition(2);
+  sleeps_and_loses_no_addition(4);
   return 0;
 }

@@ -31,7 +31,9 @@ use Rattle.lfm_pool.specs.Belongs.{IsMutex, IsNew, OfPool}
 use Rattle.lfm_pool.specs.Calls.{IsBetweenCalls}
 use Rattle.lfm_pool.specs.Counts.{CountsTakes, held_mutexes, one_hold}
 use Rattle.lfm_pool.specs.Depths.{HasDepthIn}
-use Rattle.lfm_pool.specs.NewSeats.{IsNewSeat}
+use Rattle.lfm_pool.specs.declared.free_seats.FreeSeats.{FreeSeats}
+use Rattle.lfm_pool.specs.NewSeats.{AreFreeSeats, IsNewSeat}
+pub use Rattle.lfm_pool.specs.NewSeats.{first_after, same_of_each}
 use Rattle.lfm_pool.specs.Seats.{state_of}
 
 -- A fact about each element of a list by its place, and about all elements
@@ -46,10 +48,7 @@ all_by_place P xs each i d less = each i (get_or xs i d) (read_at xs i d less)
 
 -- One mutex
 
--- the view of the first seat after it has split k seats off, and that of the next seat that it splits off
-abbrev pub first_after : Limits → ℕ → View ⊤
-first_after l k = record (first_view l tt) { made = k }
-
+-- the view of the next seat that the first seat splits off, after k others
 abbrev pub split_after : Limits → ℕ → View ⊤
 split_after l k = split_view (first_after l k)
 
@@ -83,10 +82,6 @@ split_may_try id l k few positive most =
     new_may_try (k + 2) id l (split_after l k) few positive refl refl refl refl (omega arith) most (λ e. absurd (omega (arith, e))) (λ e. absurd (omega (arith, e))) (λ e. absurd (omega (arith, e)))
 
 -- All mutexes
-
--- what a seat of a pool with this many mutexes knows, if it knows the same of each
-abbrev pub same_of_each : ℕ → View ⊤ → PoolView
-same_of_each mutexes v = record { parts = replicate mutexes (unnoted v); posts = 0; found = 0 }
 
 map_same : {A B : Type 0} (f : A → B) (n : ℕ) (x : A) → map f (replicate n x) ≡ replicate n (f x)
 map_same f zero x = refl
@@ -226,3 +221,39 @@ module _ (p : Pool) (mutexes : ℕ) (l : Limits) (first : PoolSeat) (later items
 
   pub all_new : (j : ℕ) (s : PoolSeat) → get_elem? items j ≡ some s → IsNewSeat (j + 1) p s × IsBetweenCalls s p
   all_new = and_first (λ j s. IsNewSeat (j + 1) p s × IsBetweenCalls s p) later items first items_are first_new later_new
+
+-- The seats that nobody has taken
+
+two_more : (k seats : ℕ) → k + 1 < seats → k + 2 ≤ seats
+two_more k seats more = omega (arith, more)
+
+one_taken : (k n seats : ℕ) → k + 1 < seats → n ≡ k + 1 → n < seats
+one_taken k n seats more is = omega (arith, more, is)
+
+module _ (f : FreeSeats) (p : Pool) (are : AreFreeSeats f p) where
+  -- the seat that is split off next
+  pub next_taken : (s : PoolSeat) → f.taken + 1 < p.limits.seats → s.table_seat.place.table_id ≡ f.first.place.table_id → s.table_seat.number ≡ f.taken + 2 → s.table_seat.place.me ≡ (right_view f.first.place.me.0, [])
+      → s.takes ≡ 0 → s.asleep_in ≡ None → IsNewSeat (f.taken + 2) p s × IsBetweenCalls s p
+  next_taken s more table number me no_take awake =
+      let seen : s.table_seat.place.me ≡ same_me p.mutexes (split_after p.limits f.taken) = me ∙ ap (λ (z : Me ℕ PoolView). (right_view z.0, [])) are.knows ∙ (λ i. (right_same p.mutexes p.limits f.taken i, [])) in
+      new_pool_seat s p (f.taken + 2) (split_after p.limits f.taken) (split_is_new s.table_seat p p.limits f.taken p.few.0 are.budget (two_more f.taken p.limits.seats more) (table ∙ are.table) refl number seen) no_take awake seen refl
+
+  -- the seats that are left then
+  pub others_free : (g : FreeSeats) → f.taken + 1 < p.limits.seats → g.taken ≡ f.taken + 1 → g.first.place.table_id ≡ f.first.place.table_id → g.first.place.id ≡ f.first.place.id → g.first.number ≡ f.first.number
+      → g.first.place.me ≡ (left_view f.first.place.me.0, f.first.place.me.1) → AreFreeSeats g p
+  others_free g more one table id number me = record {
+    table = table ∙ are.table;
+    id = id ∙ are.id;
+    number = number ∙ are.number;
+    knows = me ∙ ap (λ (z : Me ℕ PoolView). (left_view z.0, z.1)) are.knows ∙ (λ i. (left_same p.mutexes p.limits f.taken i, [])) ∙ (λ i. same_me p.mutexes (first_after p.limits (sym one i)));
+    left = one_taken f.taken g.taken p.limits.seats more one;
+    mutexes = are.mutexes;
+    budget = are.budget;
+  }
+
+  -- the last seat
+  pub last_taken : (s : PoolSeat) → f.taken + 1 ≡ p.limits.seats → s.table_seat ≡ f.first → s.takes ≡ 0 → s.asleep_in ≡ None → IsNewSeat 1 p s × IsBetweenCalls s p
+  last_taken s last is no_take awake =
+      let seen : s.table_seat.place.me ≡ same_me p.mutexes (first_after p.limits f.taken) = ap (λ (t : TableSeat). t.place.me) is ∙ are.knows in
+      new_pool_seat s p 1 (first_after p.limits f.taken)
+      (first_is_new s.table_seat p p.limits f.taken p.few.0 are.budget last (ap (λ (t : TableSeat). t.place.table_id) is ∙ are.table) (ap (λ (t : TableSeat). t.place.id) is ∙ are.id) refl (ap (λ (t : TableSeat). t.number) is ∙ are.number) seen) no_take awake seen refl

@@ -2,9 +2,10 @@
 //! all mutexes of a pool, and a seat has one link word and one wake word, whatever their number. A mutex of a pool guards no
 //! value.
 //!
-//! A program opens a pool by `Pool::new`, and gives each thread one of its seats. The calls are in three modules: those in
-//! `calls` never wait, those in `lock` may sleep, and those in `reading` tell who holds a mutex. Each is passed the number of
-//! the mutex. `any_depth` has what they are made of: the calls of a seat that is at rest, on the part of the seat that the table
+//! A program opens a pool by `Pool::new`, and gives each thread one of its seats; or by `Pool::with_free_seats`, which makes no
+//! list of the seats, since each is made when it is taken. The calls are in three modules: those in `calls` never wait, those in
+//! `lock` may sleep, and those in `reading` tell who holds a mutex and how many want it. Each is passed the number of the
+//! mutex. `any_depth` has what they are made of: the calls of a seat that is at rest, on the part of the seat that the table
 //! knows. Below it stand the calls of a seat that does not hold the mutex or holds it once (`try_lock`, `ask`, `finish_ask`,
 //! `ask_all`, `receive`, `unlock`), those of a seat that holds it already (`deepen`), and then single steps.
 //!
@@ -36,6 +37,7 @@ mod deepen;
 mod depth;
 mod fast_paths;
 mod finish_ask;
+pub mod free_seats;
 mod handoff;
 pub mod laws;
 pub mod layout;

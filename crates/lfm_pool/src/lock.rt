@@ -6,7 +6,7 @@
 //! nothing.
 //!
 //! The loads by which a thread polls or parks are no steps of its seat, and no proof learns anything from them. They are made
-//! only here, in calls that may wait.
+//! only here, in calls that may wait. Besides them, `count` of `reading` makes such a load, and no other call makes that one.
 ghost use Rattle.std.specs.Prelude.{◌≡◌, ◌≢◌, ◌<◌, ◌≤◌, ◌↔◌, Err, IfErr, IsTrue};
 ghost use Rattle.lfm_model.specs.declared.refusals.Refusal.{Refusal as RefusalNow};
 ghost use Rattle.lfm_pool.specs.Belongs.{IsMutex};

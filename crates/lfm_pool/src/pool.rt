@@ -75,13 +75,7 @@ impl Pool {
         ensures limit { IsPoolSize mutexes seats ≡ false → IfErr result (λ e. e ≡ NewFault.Limit) × IfOk result (λ _. ⊥) }
         ensures memory { IsPoolSize mutexes seats ≡ true → IfErr result (λ e. e ≡ NewFault.Memory) }
     {
-        let limits = Limits {
-            seats,
-            budget: MOST_TAKES,
-        };
-        if mutexes == 0 || mutexes >= MUTEXES_BOUND || seats == 0 || seats > MAX_SEATS {
-            return Err(NewFault::Limit);
-        }
+        let limits = Pool::usual_limits(mutexes, seats)?;
         let Ok(opened) = Pool::open(alloc, mutexes, limits) else {
             return Err(NewFault::Memory);
         };
@@ -106,6 +100,21 @@ impl Pool {
             limits: self.limits,
             polls,
         }
+    }
+
+    /// The limits of a new pool of this many mutexes and seats. Refuses with Limit if no pool has this size.
+    pub(crate) fn usual_limits(mutexes: usize, seats: u64) -> Result<Limits, NewFault>
+        ensures limits { IfOk result (λ l. l ≡ record { seats = seats; budget = most_takes }) }
+        ensures fits { IfOk result (λ _. (IsPoolSize mutexes seats ≡ true) × (0 < mutexes) × (mutexes < 2 ^ 32) × (0 < seats) × (seats ≤ max_seats)) }
+        ensures limit { IfErr result (λ e. (e ≡ NewFault.Limit) × (IsPoolSize mutexes seats ≡ false)) }
+    {
+        if mutexes == 0 || mutexes >= MUTEXES_BOUND || seats == 0 || seats > MAX_SEATS {
+            return Err(NewFault::Limit);
+        }
+        Ok(Limits {
+            seats,
+            budget: MOST_TAKES,
+        })
     }
 
     /// A pool as `new` makes it, each of whose seats may make as many takes as its limits say.
@@ -140,7 +149,7 @@ impl Pool {
     }
 
     /// A pool and its first seat.
-    fn with_first_seat(
+    pub(crate) fn with_first_seat(
         alloc: Global,
         mutexes: usize,
         limits: Limits,
@@ -174,7 +183,7 @@ impl Pool {
     }
 
     /// Splits one more seat off the first one, and gives it this number.
-    fn split_seat(&self, first: &mut TableSeat, number: u64) -> TableSeat
+    pub(crate) fn split_seat(&self, first: &mut TableSeat, number: u64) -> TableSeat
         requires table { (first.old.place.table_id ≡ self.now.table.shared.table_id) × (first.old.place.id ≡ 0) }
         requires inside { length first.old.place.me.0.parts ≡ self.now.mutexes }
         requires may { MaySplit first.old.place.me.0 }

@@ -1,4 +1,5 @@
-//! What a seat reads of a mutex between two calls: which seat owns it, and how many times the seat itself holds it.
+//! What a seat reads of a mutex between two calls: which seat owns it, and how many times the seat itself holds it; and how many
+//! seats hold a mutex or want it, which a thread can read without a seat.
 //!
 //! Nothing changes by these functions, neither in the pool nor in what the seat knows: no step of the protocol is made. None
 //! allocates or waits, and none refuses anything: a seat that sleeps may call them too.
@@ -8,8 +9,19 @@ ghost use Rattle.lfm_pool.specs.Calls.{IsBetweenCalls, SamePoolSeat};
 ghost use Rattle.lfm_pool.specs.Depths.{HasDepthIn, TellsOwner};
 ghost use Rattle.lfm_pool.specs.Tables.{part};
 
+use crate::layout::{COUNT, own_at};
 use crate::pool::Pool;
 use crate::seat::PoolSeat;
+
+/// How many seats hold this mutex or want it, by one load of its count. A queued seat is counted. The holder is counted twice
+/// while its `ask` adds a hold. The number is a hint, since it may change at once, and the contract promises nothing of it: the
+/// load is no step of any seat. No call of `calls` or `lock` makes it.
+#[inline(always)]
+pub fn count(pool: &Pool, mutex: usize) -> u64
+    requires mutex { IsMutex mutex pool.now }
+{
+    pool.table.shared.peek(own_at(mutex, COUNT))
+}
 
 /// Loads the owner word of this mutex. Returns the number of the seat that owns it, or 0 if none does. It is the caller's own
 /// number exactly if the caller holds the mutex. Another seat's number may be out of date when the caller reads it.

@@ -1,3 +1,4 @@
 pub mod BetweenCalls
+pub mod FreeSeats
 pub mod Places
 pub mod PoolOpening

@@ -1,7 +1,5 @@
 -- What each export of a pool does to its handles, and what its answer means. A handle is x before the call and y after it.
-use lib.ListN.{get_elem?}
-use mathlib.Core.Option.{some}
-use Rattle.std.specs.Prelude.{◌≡◌, ◌≢◌, ◌⊎◌, ℕ, ◌+◌, ◌≤◌, All, List, [], ◌∷◌, ◌++◌, length, map, reverse, true, false, Option, Some, None, Result, Ok, Err, vec_len}
+use Rattle.std.specs.Prelude.{◌≡◌, ◌≢◌, ◌⊎◌, ℕ, ◌+◌, ◌≤◌, length, true, false, Option, Some, None, Result, Ok, Err}
 use Rattle.std.specs.Arc.{arc_value}
 use Rattle.lfm_model.specs.declared.answers.Asked.{Asked}
 use Rattle.lfm_model.specs.declared.answers.How.{How}
@@ -10,6 +8,7 @@ use Rattle.lfm_model.specs.declared.refusals.NewFault.{NewFault}
 use Rattle.lfm_model.specs.declared.refusals.Refusal.{Refusal}
 use Rattle.lfm_words.specs.declared.pop_lists.Record.{Record}
 use Rattle.lfm_pool.specs.declared.any_depth.Release.{Release}
+use Rattle.lfm_pool.specs.declared.free_seats.FreeSeats.{FreeSeats}
 use Rattle.lfm_pool.specs.declared.pool.Pool.{Pool}
 use Rattle.lfm_pool.specs.declared.seat.PoolSeat.{PoolSeat}
 use Rattle.lfm_pool.specs.declared.unlock.Released.{Released}
@@ -20,7 +19,7 @@ use Rattle.lfm_pool.specs.Bounds.{most_takes}
 use Rattle.lfm_pool.specs.Calls.{Asks, Receives, SamePoolSeat, Tries, Unlocks}
 use Rattle.lfm_pool.specs.Depths.{HasDepthIn}
 use Rattle.lfm_pool.specs.Moves.{MakesAtMostIn}
-use Rattle.lfm_pool.specs.NewSeats.{IsNewSeat, IsPoolSize}
+use Rattle.lfm_pool.specs.NewSeats.{AreFreeSeats, IsPoolSize, TakesSeat}
 use Rattle.lfm_pool.specs.Seats.{popped_of}
 use Rattle.lfm_pool.specs.WakeUps.{WakesSeatOf}
 use Rattle.lfm_c.specs.declared.pool_handles.PoolHandle.{PoolHandle}
@@ -118,18 +117,36 @@ ReadsDepth m (Some a) (Some b) n = ReadsDepthIn m a b n
 abbrev pub TellsPoolDepth : PoolSeatHandle → ℕ → PoolSeatHandle → ℕ → Type 0
 TellsPoolDepth x m y n = ReadsDepth m x.seated y.seated n
 
+-- What a read leaves as it was
+
+-- a read of a seat's number: it returns 0 if the handle is blank
+abbrev pub ReadsPoolNumber : Option PoolSeated → ℕ → Type 0
+ReadsPoolNumber None n = n ≡ 0
+ReadsPoolNumber (Some a) n = n ≡ a.seat.table_seat.number
+
+abbrev pub TellsPoolNumber : PoolSeatHandle → PoolSeatHandle → ℕ → Type 0
+TellsPoolNumber x y n = (y ≡ x) × ReadsPoolNumber x.seated n
+
+-- a read of the count of mutex m: it returns 0 if the handle is blank or m is the number of no mutex, and nothing else is
+-- guaranteed of the result
+abbrev pub ReadsPoolCount : ℕ → Option PoolSeated → ℕ → Type 0
+ReadsPoolCount m None n = n ≡ 0
+ReadsPoolCount m (Some a) n = IsNoMutex m (arc_value a.pool) → n ≡ 0
+
+abbrev pub TellsPoolCount : PoolSeatHandle → ℕ → PoolSeatHandle → ℕ → Type 0
+TellsPoolCount x m y n = (y ≡ x) × ReadsPoolCount m x.seated n
+
 -- The pool and its seats
 
--- the seats of a new pool, in order, starting with seat 1
-abbrev pub AreNewSeats : Pool → List PoolSeat → Type 0
-AreNewSeats p all = (j : ℕ) (s : PoolSeat) → get_elem? all j ≡ some s → IsNewSeat (j + 1) p s
+-- these are all seats of this pool, none of which is taken
+abbrev pub AreAllFree : Option FreeSeats → Pool → Type 0
+AreAllFree None p = ⊥
+AreAllFree (Some f) p = AreFreeSeats f p × (f.taken ≡ 0)
 
--- A new pool with all its seats, each of which refers to this pool. The first seat is taken next, so it is the last of the
--- list.
+-- a new pool, none of whose seats is taken
 abbrev pub OpenedPool : ℕ → ℕ → WholePool → Type 0
 OpenedPool mutexes seats w =
-    ((arc_value w.pool).mutexes ≡ mutexes) × ((arc_value w.pool).limits ≡ record { seats = seats; budget = most_takes }) × (vec_len w.seats ≡ seats)
-    × All (λ a. arc_value a.pool ≡ arc_value w.pool) w.seats.items × AreNewSeats (arc_value w.pool) (reverse (map (λ a. a.seat) w.seats.items))
+    ((arc_value w.pool).mutexes ≡ mutexes) × ((arc_value w.pool).limits ≡ record { seats = seats; budget = most_takes }) × AreAllFree w.free (arc_value w.pool)
 
 -- why a pool could not be opened
 abbrev pub PoolFaults : ℕ → ℕ → NewFault → Type 0
@@ -147,11 +164,26 @@ OpensPoolInto (Some w) mutexes seats y n = (y ≡ Some w) × (n ≡ code Status.
 abbrev pub TellsPoolOpen : PoolHandle → ℕ → ℕ → PoolHandle → ℕ → Type 0
 TellsPoolOpen x mutexes seats y n = OpensPoolInto x.whole mutexes seats y.whole n
 
--- the last of the seats that are not taken is the next to be taken
+-- of the free seats of a pool one is taken, and the others are left
+abbrev pub TakesFree : Option FreeSeats → Pool → PoolSeat → Option FreeSeats → Type 0
+TakesFree None p s left = ⊥
+TakesFree (Some f) p s left = TakesSeat f p s left
+
+-- Why no seat is taken: NoSeat means that none is left. With Memory one is left, and the pool has too many references for one
+-- more.
+abbrev pub StaysWhole : Option FreeSeats → Status → Type 0
+StaysWhole None status = status ≡ Status.NoSeat
+StaysWhole (Some f) status = status ≡ Status.Memory
+
+-- a take of the next seat, which refers to the pool from then on
+abbrev pub TakesNext : WholePool → WholePool → Result PoolSeated Status → Type 0
+TakesNext w v (Ok a) = (v.pool ≡ w.pool) × (arc_value a.pool ≡ arc_value w.pool) × TakesFree w.free (arc_value w.pool) a.seat v.free
+TakesNext w v (Err status) = (v ≡ w) × StaysWhole w.free status
+
 abbrev pub TakesOfPool : WholePool → Option WholePool → Option PoolSeated → ℕ → Type 0
 TakesOfPool w None t n = ⊥
-TakesOfPool w (Some v) None n = (v ≡ w) × (vec_len w.seats ≡ 0) × (n ≡ code Status.NoSeat)
-TakesOfPool w (Some v) (Some a) n = (w.seats.items ≡ v.seats.items ++ a ∷ []) × (v.pool ≡ w.pool) × (n ≡ code Status.Done)
+TakesOfPool w (Some v) None n = (status : Status) × TakesNext w v (Err status) × (n ≡ code status)
+TakesOfPool w (Some v) (Some a) n = TakesNext w v (Ok a) × (n ≡ code Status.Done)
 
 abbrev pub TakesFromPool : Option WholePool → Option PoolSeated → Option WholePool → Option PoolSeated → ℕ → Type 0
 TakesFromPool w (Some a) v t n = (v ≡ w) × (t ≡ Some a) × (n ≡ code Status.Taken)

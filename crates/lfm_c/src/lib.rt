@@ -30,7 +30,7 @@ ghost use Rattle.lfm_c.specs.contracts.pool_handles.PoolHandle.{the_row as pool_
 ghost use Rattle.lfm_c.specs.contracts.pool_handles.PoolSeatHandle.{the_row as pool_seat_row};
 ghost use Rattle.lfm_c.specs.Handles.{TellsAsk, TellsClose, TellsCount, TellsDepth, TellsGive, TellsLeft, TellsNumber, TellsOpen, TellsReceive, TellsTake, TellsTry, TellsUnlock};
 ghost use Rattle.lfm_c.specs.Leaves.{leaves};
-ghost use Rattle.lfm_c.specs.PoolHandles.{TellsPoolAsk, TellsPoolDepth, TellsPoolOpen, TellsPoolReceive, TellsPoolTake, TellsPoolTry, TellsPoolUnlock};
+ghost use Rattle.lfm_c.specs.PoolHandles.{TellsPoolAsk, TellsPoolCount, TellsPoolDepth, TellsPoolNumber, TellsPoolOpen, TellsPoolReceive, TellsPoolTake, TellsPoolTry, TellsPoolUnlock};
 
 mod calls;
 mod close;
@@ -40,6 +40,7 @@ mod open;
 mod pool_calls;
 mod pool_handles;
 mod pool_open;
+mod pool_reading;
 mod reading;
 mod status;
 
@@ -302,9 +303,12 @@ pub unsafe extern "C" fn lfm_c_pool_open(pool: *mut u8, mutexes: u64, seats: u64
     pool_open::open(&mut *(pool as *mut PoolHandle), mutexes, seats)
 }
 
-/// Takes the next seat of the pool: the first is seat 1. No seat is given back, and no pool is closed.
+/// Takes the next seat of the pool: seat 2, 3 and so on up to the last one, and then seat 1. No seat is given back, and no pool
+/// is closed.
 ///
-/// Returns Done, or Taken (the seat's handle is not blank), Blank (the pool's handle is blank), NoSeat, which change nothing.
+/// Returns Done, or Taken (the seat's handle is not blank), Blank (the pool's handle is blank), NoSeat, Memory, which change
+/// nothing. Memory means that the pool has 2^63 - 1 references. With at most 4,095 seats it never has, but no contract of the
+/// reference says so.
 #[unsafe(no_mangle)]
 pub unsafe extern "C" fn lfm_c_pool_take_seat(pool: *mut u8, seat: *mut u8) -> u64
     ghost x: { PoolNow × PoolSeatNow }
@@ -315,6 +319,27 @@ pub unsafe extern "C" fn lfm_c_pool_take_seat(pool: *mut u8, seat: *mut u8) -> u
         &mut *(pool as *mut PoolHandle),
         &mut *(seat as *mut PoolSeatHandle),
     )
+}
+
+/// Returns the seat's number, 1 to 4,095, or 0 if the handle is blank.
+#[unsafe(no_mangle)]
+pub unsafe extern "C" fn lfm_c_pool_number(seat: *mut u8) -> u64
+    ghost x: { PoolSeatNow }
+    requires* { sem 𝓛 (lies_at pool_seat_row full_share seat x) }
+    ensures* { sem 𝓛 (leaves (λ (y : PoolSeatNow). lies_at pool_seat_row full_share seat y) (λ y. TellsPoolNumber x y result)) }
+{
+    pool_reading::number(&mut *(seat as *mut PoolSeatHandle))
+}
+
+/// Returns how many seats hold this mutex of the seat's pool or want it, by one load, or 0 if the handle is blank or the pool
+/// has no mutex of this number. A seat that sleeps may read it too.
+#[unsafe(no_mangle)]
+pub unsafe extern "C" fn lfm_c_pool_count(seat: *mut u8, mutex: u64) -> u64
+    ghost x: { PoolSeatNow }
+    requires* { sem 𝓛 (lies_at pool_seat_row full_share seat x) }
+    ensures* { sem 𝓛 (leaves (λ (y : PoolSeatNow). lies_at pool_seat_row full_share seat y) (λ y. TellsPoolCount x mutex y result)) }
+{
+    pool_reading::count(&mut *(seat as *mut PoolSeatHandle), mutex)
 }
 
 /// Returns how many times the seat holds this mutex of its pool, 0 to 65,535, or 0 if the handle is blank or the pool has no

@@ -2,11 +2,14 @@
 //! no pool, or no seat.
 //!
 //! A seat keeps only that there is a proof that no call of it is open, since the check does not see by itself that there is at
-//! most one. `proofs/BetweenCalls.antt` shows that, and so has the proof again for each call.
-ghost use Rattle.std.specs.Prelude.{◌≡◌, None, nat_lt};
+//! most one. `proofs/BetweenCalls.antt` shows that, and so has the proof again for each call. The same holds of the seats that
+//! nobody has taken, and of `proofs/FreeSeats.antt`.
+ghost use Rattle.std.specs.Prelude.{◌≡◌, IfSome, None, nat_lt};
 ghost use Rattle.std.specs.Arc.{arc_value};
 ghost use Rattle.lfm_pool.specs.Calls.{IsBetweenCalls};
+ghost use Rattle.lfm_pool.specs.NewSeats.{AreFreeSeats};
 
+use lfm_pool::free_seats::FreeSeats;
 use lfm_pool::pool::Pool;
 use lfm_pool::seat::PoolSeat;
 use std::alloc::Global;
@@ -36,11 +39,12 @@ pub struct PoolSeatHandle {
     pub seated: Option<PoolSeated>,
 }
 
-/// A pool with those of its seats that are not taken.
+/// A pool with those of its seats that are not taken, or None if all are.
 #[derive(Drop)]
 pub struct WholePool {
     pub pool: Arc<Pool, Global>,
-    pub seats: Vec<PoolSeated>,
+    pub free: Option<FreeSeats>,
+    pub ghost are_free: { ∥ IfSome free (λ f. AreFreeSeats f (arc_value pool)) ∥₁ },
 }
 
 /// A pool that the caller has opened, or none.

@@ -1,60 +1,30 @@
 //! How a pool is opened, and how its seats are taken.
-ghost use Rattle.std.specs.Prelude.{◌≡◌, All, ◌++◌, ◌∷◌, [], map, reverse, IfOk, IfErr, MatchOption, true, vec_len};
+ghost use Rattle.std.specs.Prelude.{◌≡◌, IfOk, IfErr, IfSome, true};
 ghost use Rattle.std.specs.Arc.{arc_value};
-ghost use Rattle.lfm_pool.specs.Calls.{IsBetweenCalls};
-ghost use Rattle.lfm_pool.specs.NewSeats.{IsPoolSize};
-ghost use Rattle.lfm_c.specs.PoolHandles.{OpenedPool, PoolFaults, TellsPoolOpen, TellsPoolTake};
+ghost use Rattle.lfm_pool.specs.NewSeats.{AreFreeSeats, IsPoolSize, TakesSeat};
+ghost use Rattle.lfm_c.specs.PoolHandles.{OpenedPool, PoolFaults, TakesNext, TellsPoolOpen, TellsPoolTake};
 
 use crate::pool_handles::{PoolHandle, PoolSeatHandle, PoolSeated, WholePool};
 use crate::status::Status;
 use lfm_model::NewFault;
+use lfm_pool::free_seats::FreeSeats;
 use lfm_pool::pool::Pool;
-use lfm_pool::seat::PoolSeat;
-use std::alloc::{AllocError, Global};
+use std::alloc::Global;
 use std::sync::Arc;
 
-/// A seat with a reference to its pool.
-fn paired(pool: &Arc<Pool, Global>, seat: PoolSeat) -> Result<PoolSeated, AllocError>
-    requires between { IsBetweenCalls seat (arc_value pool.now) }
-    ensures { IfOk result (λ a. (a.seat ≡ seat) × (arc_value a.pool ≡ arc_value pool.now)) }
-{
-    let pool = Arc::try_clone(pool)?;
-    Ok(PoolSeated { pool, seat })
-}
-
-/// Pairs each seat with a reference to the pool. The first seat is the last of the list.
-fn seated(
-    alloc: Global,
-    pool: &Arc<Pool, Global>,
-    seats: Vec<PoolSeat>,
-) -> Result<Vec<PoolSeated>, AllocError>
-    requires between { All (λ s. IsBetweenCalls s (arc_value pool.now)) seats.items }
-    ensures all { IfOk result (λ v. vec_len v ≡ vec_len seats) }
-    ensures pool { IfOk result (λ v. All (λ a. arc_value a.pool ≡ arc_value pool.now) v.items) }
-    ensures order { IfOk result (λ v. reverse (map (λ a. a.seat) v.items) ≡ seats.items) }
-{
-    let mut seats = seats;
-    let count = seats.len();
-    let mut all = Vec::with_capacity(alloc, count)?;
-    while let Some(seat) = seats.pop() {
-        all.push_reserved(paired(pool, seat)?);
-    }
-    Ok(all)
-}
-
-/// A new pool with all its seats.
+/// A new pool, none of whose seats is taken.
 fn opened(alloc: Global, mutexes: u64, seats: u64) -> Result<WholePool, NewFault>
     ensures ok { IfOk result (λ w. OpenedPool mutexes seats w × (IsPoolSize mutexes seats ≡ true)) }
     ensures fault { IfErr result (λ e. PoolFaults mutexes seats e) }
 {
-    let (pool, seats) = Pool::new(alloc, mutexes as usize, seats)?;
+    let (pool, free) = Pool::with_free_seats(alloc, mutexes as usize, seats)?;
     let Ok(pool) = Arc::new(alloc, pool) else {
         return Err(NewFault::Memory);
     };
-    let Ok(seats) = seated(alloc, &pool, seats) else {
-        return Err(NewFault::Memory);
-    };
-    Ok(WholePool { pool, seats })
+    Ok(WholePool {
+        pool,
+        free: Some(free),
+    })
 }
 
 /// Opens a pool if the handle is blank.
@@ -74,19 +44,34 @@ pub fn open(handle: &mut PoolHandle, mutexes: u64, seats: u64) -> u64
     }
 }
 
+/// The next of these free seats, with this reference to their pool, and the seats that are left.
+fn seated(pool: Arc<Pool, Global>, free: FreeSeats) -> (PoolSeated, Option<FreeSeats>)
+    requires free { AreFreeSeats free (arc_value pool) }
+    ensures pool { result.0.pool ≡ pool }
+    ensures takes { TakesSeat free (arc_value pool) result.0.seat result.1 }
+    ensures left { IfSome result.1 (λ f. AreFreeSeats f (arc_value pool)) }
+{
+    let (seat, left) = free.take(&pool);
+    (PoolSeated { pool, seat }, left)
+}
+
 impl WholePool {
-    /// Removes and returns the next seat to be taken.
-    fn next(&mut self) -> Option<PoolSeated>
-        ensures { MatchOption result ((self.new ≡ self.old) × (vec_len self.old.seats ≡ 0)) (λ a. (self.old.seats.items ≡ self.new.seats.items ++ a ∷ []) × (self.new.pool ≡ self.old.pool)) }
+    /// Takes the next seat. Refuses with NoSeat if none is left, and then with Memory if the pool has 2^63 - 1 references.
+    fn next(&mut self) -> Result<PoolSeated, Status>
+        ensures { TakesNext self.old self.new result }
     {
-        // This test comes first, so that the proof of the pop knows that the list is not empty.
-        if self.seats.is_empty() {
-            return None;
+        if self.free.is_none() {
+            return Err(Status::NoSeat);
         }
-        let Some(seated) = self.seats.pop() else {
+        let Ok(pool) = Arc::try_clone(&self.pool) else {
+            return Err(Status::Memory);
+        };
+        let Some(free) = self.free.take() else {
             unreachable!()
         };
-        Some(seated)
+        let (seated, left) = seated(pool, free);
+        self.free = left;
+        Ok(seated)
     }
 }
 
@@ -101,10 +86,10 @@ pub fn take_seat(pool: &mut PoolHandle, seat: &mut PoolSeatHandle) -> u64
         return Status::Blank.code();
     };
     match whole.next() {
-        Some(seated) => {
+        Ok(seated) => {
             seat.seated = Some(seated);
             Status::Done.code()
         }
-        None => Status::NoSeat.code(),
+        Err(status) => status.code(),
     }
 }

@@ -1,4 +1,5 @@
 pub mod Broadcasts
 pub mod Deliveries
 pub mod PlainSeats
+pub mod PoolCalls
 pub mod Quartiles

@@ -1,13 +1,18 @@
 //! The peers that are measured, and a round of each workload.
 
-use crate::measure::{Plan, Round, Start, StepTime};
+use crate::measure::{Plan, Round, Start, StepTime, Watching};
 use crate::workloads::alone::{Peers, round, round_of_all};
 use crate::workloads::handoffs::round_of_handoffs;
 use crate::workloads::hits::Hit;
 use crate::workloads::misses::Miss;
 use crate::workloads::pairs::{Addition, BargingPair, Pair};
+use crate::workloads::pool_calls::pool_round;
 use crate::workloads::recursive::Again;
-use crate::workloads::{Calls, Workload, broadcast, contended, ping_pong, polls, queue};
+use crate::workloads::route::{Load, Order};
+use crate::workloads::{
+    Calls, PoolWork, Work, Workload, broadcast, contended, many, ping_pong, polls, pool_turns,
+    queue,
+};
 use std::io;
 use std::sync::Wait;
 use std::thread::Threads;
@@ -54,15 +59,9 @@ impl Bench<'_> {
                 work,
                 watching,
             } => {
-                let load = contended::Load {
-                    threads,
-                    inside: step.steps(work.inside),
-                    outside: step.steps(work.outside),
-                    window: Duration::from_millis(self.plan.milliseconds),
-                    watching,
-                };
-                contended::round(rt, load)
-            }
+                let turns = self.turns(step, threads, work);
+                contended::round(rt, contended::Load { watching, ..turns })
+            },
             Workload::PingPong => {
                 ping_pong::round(rt, (calls / CALLS_OF_TRIP).max(FEWEST_TRIPS))
             }
@@ -80,6 +79,18 @@ impl Bench<'_> {
                 queue::round(rt, queue::Load { threads, numbers })
             }
             Workload::Alone(calls) => self.round_of_one_thread(rt, calls),
+            Workload::Pool(work) => self.round_of_pool(rt, step, work),
+        }
+    }
+
+    /// What this number of threads that take turns do.
+    fn turns(&self, step: StepTime, threads: u64, work: Work) -> contended::Load {
+        contended::Load {
+            threads,
+            inside: step.steps(work.inside),
+            outside: step.steps(work.outside),
+            window: Duration::from_millis(self.plan.milliseconds),
+            watching: Watching::Nothing,
         }
     }
 
@@ -100,6 +111,56 @@ impl Bench<'_> {
             Calls::Misses => round_of_all::<R, Miss>(rt, peers, Start::HeldByOther, many),
             Calls::Handoffs => round_of_handoffs(rt, peers, many),
             Calls::Polls => polls::round(rt, &mut peers.steps, many / CALLS_OF_POLL),
+        }
+    }
+
+    /// A round of calls at mutexes of a pool.
+    fn round_of_pool<R: Threads + Sync + Wait + Clock + CpuClock + AllocGlobal>(
+        &mut self,
+        rt: &R,
+        step: StepTime,
+        work: PoolWork,
+    ) -> io::Result<Round> {
+        match work {
+            PoolWork::Pairs { mutexes, order } => many::round(rt, self.load(mutexes, order)),
+            PoolWork::Recursive => self.round_of_recursive_calls(rt),
+            PoolWork::Misses => self.round_of_misses(rt),
+            PoolWork::Contended { threads, work } => {
+                pool_turns::round(rt, self.turns(step, threads, work))
+            }
+        }
+    }
+
+    /// A round of calls at a mutex that the thread already holds: of a pool of one, and of ours.
+    fn round_of_recursive_calls<R: Wait + CpuClock + AllocGlobal>(
+        &mut self,
+        rt: &R,
+    ) -> io::Result<Round> {
+        let load = self.load(1, Order::InTurn);
+        let round = round::<R, Again>(rt, &mut self.peers, Start::Held, load.calls)?;
+        Ok(Round {
+            pool: Some(pool_round::<R, Again>(rt, load, Start::Held)?),
+            ..round
+        })
+    }
+
+    /// A round of tries at a mutex that is held: of a pool of one, of ours, and of std's.
+    fn round_of_misses<R: Wait + CpuClock + AllocGlobal>(&mut self, rt: &R) -> io::Result<Round> {
+        let load = self.load(1, Order::InTurn);
+        let peers = &mut self.peers;
+        let round = round_of_all::<R, Miss>(rt, peers, Start::HeldByOther, load.calls)?;
+        Ok(Round {
+            pool: Some(pool_round::<R, Miss>(rt, load, Start::HeldByOther)?),
+            ..round
+        })
+    }
+
+    /// The calls of one thread at this number of mutexes.
+    fn load(&self, mutexes: usize, order: Order) -> Load {
+        Load {
+            mutexes,
+            order,
+            calls: self.plan.calls,
         }
     }
 }

@@ -1,5 +1,5 @@
-//! The program `lfm_bench` compares the running mutex with the bare atomic steps of its calls and with std's mutex, and the
-//! two kinds of running condvars with std's. It prints tables of medians.
+//! The program `lfm_bench` compares the running mutex with the bare atomic steps of its calls and with std's mutex, mutexes of a
+//! pool with both, and the two kinds of running condvars with std's. It prints tables of medians.
 //!
 //! It measures how fast they are on one machine. Nothing is proved about time.
 #![tactic(auto)]

@@ -5,7 +5,8 @@ use crate::measure::{
 };
 use crate::peers::ours::{FreeSeats, Users, new_mutex};
 use crate::workloads::alone::Peers;
-use crate::workloads::{Calls, Work, Workload};
+use crate::workloads::route::Order;
+use crate::workloads::{Calls, PoolWork, Work, Workload};
 use std::alloc::{AllocError, Global};
 use std::io;
 use std::sync::Wait;
@@ -36,6 +37,53 @@ const ALONE: [Shape; 8] = [
     ("a poll", Workload::Alone(Calls::Polls)),
 ];
 
+/// The rows of mutexes of a pool.
+const OF_POOL: [Shape; 7] = [
+    (
+        "lock and unlock, pool",
+        Workload::Pool(PoolWork::Pairs {
+            mutexes: 1,
+            order: Order::InTurn,
+        }),
+    ),
+    (
+        "one of 64 mutexes, pool",
+        Workload::Pool(PoolWork::Pairs {
+            mutexes: 64,
+            order: Order::InTurn,
+        }),
+    ),
+    (
+        "one of 4,096 mutexes, pool",
+        Workload::Pool(PoolWork::Pairs {
+            mutexes: 4_096,
+            order: Order::Shuffled,
+        }),
+    ),
+    (
+        "one of 65,536 mutexes, pool",
+        Workload::Pool(PoolWork::Pairs {
+            mutexes: 65_536,
+            order: Order::Shuffled,
+        }),
+    ),
+    (
+        "recursive lock and unlock, pool",
+        Workload::Pool(PoolWork::Recursive),
+    ),
+    (
+        "try_lock that is refused, pool",
+        Workload::Pool(PoolWork::Misses),
+    ),
+    (
+        "8 threads, short section, pool",
+        Workload::Pool(PoolWork::Contended {
+            threads: 8,
+            work: SHORT_SECTION,
+        }),
+    ),
+];
+
 /// The rows of condition variables.
 const CONDITIONS: [Shape; 5] = [
     ("ping-pong, a round trip", Workload::PingPong),
@@ -45,14 +93,17 @@ const CONDITIONS: [Shape; 5] = [
     ("bounded queue, 4 to 4", Workload::Queue(4)),
 ];
 
+/// A section that only adds 1.
+const SHORT_SECTION: Work = Work {
+    name: "short section",
+    inside: 0,
+    outside: 0,
+};
+
 /// The work of several threads. Each work has a row for each number of threads. There are no bare steps for them, since the
 /// steps of contending threads are no fixed sequence.
 const WORKS: [Work; 3] = [
-    Work {
-        name: "short section",
-        inside: 0,
-        outside: 0,
-    },
+    SHORT_SECTION,
     Work {
         name: "0.5 us section",
         inside: 500,
@@ -156,6 +207,22 @@ const VIEWS_OF_WAITS: [View<'static>; 2] = [
     },
 ];
 
+/// The figures of one thread are processor time, and those of several threads are of the wall clock.
+const VIEWS_OF_POOL: [View<'static>; 1] = [View {
+    head: "nanoseconds, pool",
+    measure: Measure::Cost,
+    columns: &[
+        Column::Median(Peer::Pool),
+        Column::Spread(Peer::Pool),
+        Column::Median(Peer::Ours),
+        Column::Spread(Peer::Ours),
+        Column::Ratio(Peer::Pool, Peer::Ours),
+        Column::Median(Peer::Standard),
+        Column::Spread(Peer::Standard),
+        Column::Ratio(Peer::Pool, Peer::Standard),
+    ],
+}];
+
 const VIEWS_OF_CONDITIONS: [View<'static>; 1] = [View {
     head: "nanoseconds",
     measure: Measure::Cost,
@@ -188,6 +255,7 @@ fn measure_all<R: Threads + Sync + Wait + Clock + CpuClock + AllocGlobal + Print
 ) -> io::Result<()> {
     let alloc = rt.alloc();
     measure_rows(rt, bench, rows_of(alloc, &ALONE)?, &VIEWS_ALONE)?;
+    measure_rows(rt, bench, rows_of(alloc, &OF_POOL)?, &VIEWS_OF_POOL)?;
     let together = rows_together(alloc, Watching::Nothing)?;
     measure_rows(rt, bench, together, &VIEWS_TOGETHER)?;
     let watched = rows_together(alloc, Watching::Waits)?;

@@ -4,14 +4,19 @@ pub mod broadcast;
 pub mod contended;
 pub mod handoffs;
 pub mod hits;
+pub mod many;
 pub mod misses;
 pub mod pairs;
 pub mod ping_pong;
 pub mod polls;
+pub mod pool_calls;
+pub mod pool_turns;
 pub mod queue;
 pub mod recursive;
+pub mod route;
 
 use crate::measure::Watching;
+use crate::workloads::route::Order;
 
 /// What is measured.
 #[derive(Clone, Copy)]
@@ -30,6 +35,21 @@ pub enum Workload {
     Broadcast(u64),
     /// This number of threads put numbers into a bounded queue, and as many take them out.
     Queue(u64),
+    /// The calls of threads at mutexes of a pool.
+    Pool(PoolWork),
+}
+
+/// What threads do at mutexes of a pool.
+#[derive(Clone, Copy)]
+pub enum PoolWork {
+    /// One thread locks and unlocks this number of mutexes, one after another in this order.
+    Pairs { mutexes: usize, order: Order },
+    /// One thread locks and unlocks a mutex while it already holds it.
+    Recursive,
+    /// One thread tries to acquire a mutex that is held, and fails.
+    Misses,
+    /// This number of threads take turns at one mutex.
+    Contended { threads: u64, work: Work },
 }
 
 /// The work of threads that take turns.

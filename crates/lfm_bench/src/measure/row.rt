@@ -16,6 +16,8 @@ pub enum Peer {
     InOrder,
     /// The same by `lock_barging`.
     Barging,
+    /// Our pool of mutexes.
+    Pool,
     /// Several threads that lock our mutex by `lock_barging`, and wait on plain condvars.
     Plain,
     /// The bare steps of our mutex's calls.
@@ -31,6 +33,7 @@ impl Peer {
             Peer::Ours => "ours",
             Peer::InOrder => "in order",
             Peer::Barging => "barging",
+            Peer::Pool => "pool",
             Peer::Plain => "plain",
             Peer::Bare => "bare",
             Peer::Standard => "std",
@@ -66,6 +69,7 @@ pub struct Round {
     pub ours: Option<Sample>,
     pub in_order: Option<Sample>,
     pub barging: Option<Sample>,
+    pub pool: Option<Sample>,
     pub plain: Option<Sample>,
     pub bare: Option<Sample>,
     pub standard: Option<Sample>,
@@ -77,6 +81,7 @@ impl Round {
         ours: None,
         in_order: None,
         barging: None,
+        pool: None,
         plain: None,
         bare: None,
         standard: None,
@@ -92,6 +97,7 @@ pub struct Row {
     ours: Figures,
     in_order: Figures,
     barging: Figures,
+    pool: Figures,
     plain: Figures,
     bare: Figures,
     standard: Figures,
@@ -106,6 +112,7 @@ impl Row {
             ours: Figures::new(alloc),
             in_order: Figures::new(alloc),
             barging: Figures::new(alloc),
+            pool: Figures::new(alloc),
             plain: Figures::new(alloc),
             bare: Figures::new(alloc),
             standard: Figures::new(alloc),
@@ -117,6 +124,7 @@ impl Row {
         self.ours.add_if_any(round.ours)?;
         self.in_order.add_if_any(round.in_order)?;
         self.barging.add_if_any(round.barging)?;
+        self.pool.add_if_any(round.pool)?;
         self.plain.add_if_any(round.plain)?;
         self.bare.add_if_any(round.bare)?;
         self.standard.add_if_any(round.standard)
@@ -127,6 +135,7 @@ impl Row {
         let exact = self.ours.is_exact()
             && self.in_order.is_exact()
             && self.barging.is_exact()
+            && self.pool.is_exact()
             && self.plain.is_exact()
             && self.bare.is_exact()
             && self.standard.is_exact();
@@ -176,6 +185,7 @@ impl Row {
             Peer::Ours => self.ours.quartiles(measure),
             Peer::InOrder => self.in_order.quartiles(measure),
             Peer::Barging => self.barging.quartiles(measure),
+            Peer::Pool => self.pool.quartiles(measure),
             Peer::Plain => self.plain.quartiles(measure),
             Peer::Bare => self.bare.quartiles(measure),
             Peer::Standard => self.standard.quartiles(measure),

@@ -39,6 +39,14 @@ impl Waits {
         Ok(Waits { counts, longest: 0 })
     }
 
+    /// No waits, which are not timed. It allocates nothing.
+    pub fn none(alloc: Global) -> Waits {
+        Waits {
+            counts: Vec::new(alloc),
+            longest: 0,
+        }
+    }
+
     /// The time at which a wait starts. None if it is not timed.
     #[inline(always)]
     pub fn begin<R: Clock>(&self, rt: &R) -> Option<Instant> {

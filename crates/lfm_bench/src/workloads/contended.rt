@@ -11,7 +11,7 @@ use std::thread::{Threads, join, map_vec};
 use std::time::{Clock, CpuClock, Duration};
 
 /// The most turns that a thread takes.
-const MOST_TURNS: u64 = 1 << 32;
+pub const MOST_TURNS: u64 = 1 << 32;
 
 /// What the threads do.
 #[derive(Clone, Copy)]
@@ -99,8 +99,8 @@ pub fn round<R: Threads + Sync + Wait + Clock + CpuClock + AllocGlobal>(
     })
 }
 
-/// A round with our mutex.
-fn ours<R: Threads + Sync + Wait + Clock + CpuClock + AllocGlobal>(
+/// A round with our mutex, which all threads lock in this way.
+pub fn ours<R: Threads + Sync + Wait + Clock + CpuClock + AllocGlobal>(
     rt: &R,
     load: Load,
     locking: Locking,
@@ -119,7 +119,7 @@ fn ours<R: Threads + Sync + Wait + Clock + CpuClock + AllocGlobal>(
 }
 
 /// A round with std's mutex.
-fn standard<R: Threads + Sync + Wait + Clock + CpuClock + AllocGlobal>(
+pub fn standard<R: Threads + Sync + Wait + Clock + CpuClock + AllocGlobal>(
     rt: &R,
     load: Load,
 ) -> io::Result<Sample> {

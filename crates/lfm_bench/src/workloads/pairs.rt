@@ -1,8 +1,13 @@
 //! One thread locks and unlocks a mutex that no other thread uses: in each way, and with an addition to its value in between.
+ghost use Rattle.lfm_bench.specs.PoolCalls.{MakesPair};
 
 use crate::measure::Steps;
 use crate::peers::ours::Users;
+use crate::peers::pools::{acquire, free};
 use crate::workloads::alone::{Call, StandardCall};
+use crate::workloads::pool_calls::PoolCall;
+use lfm_pool::pool::Pool;
+use lfm_pool::seat::PoolSeat;
 use std::sync::{Mutex, Wait};
 
 /// `lock` and `unlock`, or `lock` of std's mutex and the drop of its guard.
@@ -28,6 +33,16 @@ impl StandardCall for Pair {
     fn standard<R: Wait>(rt: &R, mutex: &Mutex<u64>) -> bool {
         drop(mutex.lock(rt));
         true
+    }
+}
+
+impl PoolCall for Pair {
+    ghost makes = { MakesPair };
+
+    /// `lock` and `unlock`.
+    #[inline(always)]
+    fn of_pool<R: Wait>(rt: &R, pool: &Pool, seat: &mut PoolSeat, mutex: usize) -> bool {
+        acquire(rt, pool, seat, mutex) && free(pool, seat, mutex)
     }
 }
 

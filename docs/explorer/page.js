@@ -139,10 +139,11 @@ function goTo(moment) {
   bringIntoSight();
 }
 
-// the seat makes one event, or all steps of its call. What came after this moment is dropped
+// the seat makes one event, or all steps of its call. What came after this moment is dropped, and what was said of it
 function choose(seat, act) {
   view.path.length = view.at;
   extend(view.graph, view.path, seat, act);
+  $('fault').textContent = '';
   goTo(view.path.length);
 }
 

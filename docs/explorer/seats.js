@@ -45,7 +45,7 @@ function idleText(view, sentences, { moves, refusals }, { depth, point }, seat) 
   if (view.graph.kind === 'path') return moves.length ? '' : '<p class="next">It does nothing next in this schedule.</p>';
   const only = moves.map(({ act }) => act).join(' or '), isAsleep = point.startsWith('sleeps');
   const rest = moves.length === 0 ? 'It can begin no call here.'
-    : isAsleep ? `It sleeps, and may call ${only} alone: a look for a grant.` : 'Choose the call that it begins.';
+    : isAsleep ? `It sleeps, and may only call ${only}, which looks for a grant.` : 'Choose the call that it begins.';
   const isLeftOut = depth > 0 && ![...moves, ...refusals].some(({ act }) => act === 'lock');
   return `<p class="next">${rest}</p>${refusedText(sentences, refusals, seat)}`
     + (isLeftOut ? '<p class="next">Left out here: a lock by a seat that holds already.</p>' : '');
@@ -66,7 +66,7 @@ function drawSeat(view, sentences, state, seat) {
   const text = isInCall(point) ? openText(view, sentences, point, seat) : idleText(view, sentences, choice, state.seats[seat - 1], seat);
   const token = `<circle cx="7" cy="8" r="6" class="token" data-at="seat.${seat}"/>`;
   const mark = has === 'carried' ? `<svg width="14" height="14" class="inline" aria-hidden="true">${token}</svg> ` : '';
-  const used = `${takes}${view.graph.budget === LARGEST_BUDGET ? '' : ' of ' + view.graph.budget} acquisitions used`;
+  const used = `acquisitions used: ${takes}${view.graph.budget === LARGEST_BUDGET ? '' : ' of ' + view.graph.budget}`;
   return `<section class="seat ${style}" aria-labelledby="seat${seat}">
 <h2 id="seat${seat}">${mark}Seat ${seat} <span>${is} <span class="uses">depth ${depth} · ${used}</span></span></h2>
 <div class="buttons">${buttonsOf(choice, seat, isInCall(point))}</div>${text}</section>`;

@@ -177,7 +177,7 @@ test('the present row is in sight, however long the path is', async () => {
   assert(await seen());
 });
 
-test('the schedule can be edited, and a line that leads nowhere is named', async () => {
+test('the schedule can be edited, and a line that leads nowhere is named until the next choice', async () => {
   await browser.click('#anew');
   await browser.run(`(() => {
     const schedule = document.getElementById('schedule');
@@ -186,6 +186,8 @@ test('the schedule can be edited, and a line that leads nowhere is named', async
   })()`);
   assert.match(await text('fault'), /^line 4 /);
   assert.strictEqual(await text('moment'), '3 of 3');
+  await browser.click('button[data-seat="2"][data-act="lock"]');
+  assert.strictEqual(await text('fault'), '');
 });
 
 test('each task is done when its event has happened, and not before', async () => {

@@ -271,6 +271,22 @@ test('take is said of posts alone', () => {
   return `${taken.length} sentences`;
 });
 
+test('the terms of the page explain each call, each value of a wake word, and what their heading names', () => {
+  const terms = /<details id="terms">[^]*?<\/details>/.exec(page.html)[0], explained = terms.match(/<dt>[^]*?<\/dl>/)[0];
+  const calls = new Set(), values = new Set();
+  for (const graph of right) for (let node = 0; node < graph.states.length; node++) {
+    const { seats, choices } = page.stateAt(graph, node);
+    seats.forEach(({ wake }) => values.add(wake.split('(')[0]));
+    choices.forEach(({ moves }) => moves.forEach(({ act }) => act !== '.' && calls.add(act.split(' ')[0])));
+  }
+  for (const call of calls) assert(explained.includes(`<code>${call}</code>`), call);
+  for (const value of values) assert.match(explained, new RegExp(`\\b${value}\\b`));
+  const named = /<summary>Terms: (.*) …<\/summary>/.exec(terms)[1].split(', ');
+  const heads = [...explained.matchAll(/<dt>(.*?)<\/dt>/g)].flatMap(([, head]) => head.split(', '));
+  named.forEach(name => assert(heads.includes(name), name));
+  return `${calls.size} calls, ${values.size} values`;
+});
+
 for (const graph of Object.values(graphs)) {
   test(`${graph.name}: the page has each state and event of the graph that its packer unpacks`, () => {
     const { texts, states } = statesOf(printed(graph.name));

@@ -39,10 +39,14 @@ function randomWalk(graph, most) {
 const tags = (text, name) => [...text.matchAll(new RegExp(`<${name} ([^>]*?)/?>`, 'g'))].map(([, attributes]) =>
   Object.fromEntries([...attributes.matchAll(/([a-z-]+)="([^"]*)"/g)].map(([, key, value]) => [key, value])));
 
-// what the trace of the path up to a moment has in its last line after the bar: count, owner, handoff, place and queue
-function lineAfter(view, moment) {
-  const lines = page.traceOf(view.graph, view.path.slice(0, moment)).trim().split('\n');
-  return lines.pop().split(' | ')[1].split(' ');
+// what the trace of the path up to a moment has in its last line after the bar: count, owner, handoff, place and queue. Each
+// trace is made once for each path
+const linesAfter = new Map();
+function lineAfter({ graph, path }, moment) {
+  const known = linesAfter.get(path) ?? [];
+  linesAfter.set(path, known);
+  known[moment] ??= page.traceOf(graph, path.slice(0, moment)).trim().split('\n').pop().split(' | ')[1].split(' ');
+  return known[moment];
 }
 
 // where the disc has to be, by the place of the trace

@@ -1,0 +1,58 @@
+/* libligdrosa_pthread.so: pthread's mutexes and condition variables over those of Ligdrosa, for programs that are not
+ * compiled anew, on Linux with glibc 2.34 or later:
+ *
+ *     LD_PRELOAD=/usr/local/lib/libligdrosa_pthread.so program
+ *
+ * Mutexes of all four kinds are Ligdrosa's, whether they are initialized by a call or by a constant, and so are condition
+ * variables. The calls answer what POSIX says. One of a thread that is the 4,096th in a process is refused as EAGAIN.
+ *
+ * What is passed on to the system:
+ *
+ *   - Mutexes that are robust, shared between processes, or have a protocol of priorities; and condition variables that are
+ *     waited at with such a mutex. A condition variable that the system's mutexes were used with is refused to others, as
+ *     EINVAL.
+ *   - All else of pthread: locks for reading and writing, barriers, semaphores, spin locks, pthread_once.
+ *   - What glibc locks inside itself, and C11's mtx_lock, cnd_wait and so on. glibc calls its own functions for these.
+ *   - What was linked statically.
+ *
+ * A mutex that lies in memory which processes share, but was not initialized as shared, is not known as one. It works in
+ * glibc, and not here.
+ *
+ * What differs from glibc:
+ *
+ *   - An unlock by a thread that doesn't hold is refused as EPERM also for a mutex of the normal kind. So such a mutex is no
+ *     semaphore which one thread takes and another one gives back.
+ *   - A second lock of a normal mutex by its holder sleeps for ever, as in glibc, but no other thread can end that.
+ *   - A recursive mutex is held at most 65,535 times. A wait at a condition variable gives up all holds of it, and takes them
+ *     again. That of glibc gives up one, so others are shut out.
+ *   - pthread_cond_destroy is refused as EBUSY while a thread waits, and doesn't wait for it.
+ *   - Threads wait in the order in which they came, and no wait ends without a wake, a signal or the end of its time.
+ *   - A thread that sleeps at a condition variable is not woken by pthread_cancel. It acts on that at its next cancellation
+ *     point after it was woken. A wait is one before it sleeps, and when its time is over.
+ *   - The memory of a mutex in the library is not given back if the program never destroys it, as those of std::mutex are not,
+ *     until another mutex lies in the same place. A mutex that was copied is another one, which nobody holds.
+ *
+ * In a forked child, a mutex that another thread of the parent held stays held. One that the forking thread held, or
+ * nobody, is made new by its first call, so the child goes on with it, also between handlers of pthread_atfork. A condition
+ * variable that others waited at is to be initialized anew, as with the system.
+ *
+ * Nothing here calls malloc, which may lock mutexes of its own by these calls.
+ *
+ * This is one compilation unit with the library, so that the fast paths are in line. A preloaded library has its
+ * thread-local memory from the start. It is initialized before all others (-z initfirst), so that its handlers of
+ * pthread_atfork are the last before a fork and the first after it. */
+#include "ligdrosa.c"
+
+#include <dlfcn.h>
+
+/* A test counts the calls that are made over Ligdrosa, and those that are passed on. */
+#ifndef COUNT_CALL
+#define COUNT_CALL(what) ((void)0)
+#endif
+
+#define EXPORTED __attribute__((visibility("default")))
+
+#include "pthread/system.h"     /* the calls of the system under the same names */
+#include "pthread/opened.h"     /* which mutex of the library belongs to which one of the program */
+#include "pthread/mutexes.h"    /* the calls of mutexes */
+#include "pthread/conditions.h" /* the calls of condition variables */

@@ -1,8 +1,8 @@
-/* Ligdrosa for C: all of include/ligdrosa.h that isn't proved. The calls named lfm_c_ are those of crates/lfm_c, and are
- * proved.
+/* Ligdrosa for C, over pools of mutexes: all of include/ligdrosa.h that isn't proved. The calls named lfm_c_ are those of
+ * crates/lfm_c, and are proved.
  *
- * This is one compilation unit in parts. Each part uses only parts above it. Its head says what it has, and what it leaves
- * to others. Who looks for the argument that no wake-up is lost finds it in bell.h, place.h, pass.h and condvar.h. */
+ * This is one compilation unit in parts. Each part uses only parts above it. Its head says what it has, and what it leaves to
+ * others. Who looks for the argument that no wake-up is lost finds it in bell.h, deputies.h and condvar.h. */
 #ifndef _GNU_SOURCE
 #define _GNU_SOURCE
 #endif
@@ -18,6 +18,7 @@
 #include <stdlib.h>
 #include <string.h>
 #include <sys/auxv.h>
+#include <sys/mman.h>
 #include <sys/syscall.h>
 #include <unistd.h>
 
@@ -33,22 +34,22 @@
 #define LFM_ROUNDS(count) (count)
 #endif
 
-#include "parts/proved.h"  /* the proved calls */
-#include "parts/futex.h"   /* sleeping on a word; clocks and deadlines */
-#include "parts/bell.h"    /* one thread waits for another */
-#include "parts/latch.h"   /* a lock for a few steps */
-#include "parts/tools.h"   /* what sanitizers are told; processors; memory */
-#include "parts/layout.h"  /* the fields of seats and cores */
-#include "parts/place.h"   /* the states of a seat's place in the queue */
-#include "parts/core.h"    /* the core of a mutex: opened, referred to, freed */
-#include "parts/pass.h"    /* a granted seat is woken, or its place passed by */
-#include "parts/seat.h"    /* seats: taken, given back, exchanged */
-#include "parts/waiter.h"  /* a wait at a condition variable */
-#include "parts/lock.h"    /* lock, try and unlock with a seat in hand */
-#include "parts/own.h"     /* each thread's table of seats */
-#include "parts/hand.h"    /* how seats in hand are taken and given back */
-#include "parts/here.h"    /* the calls that find the thread's seat */
-#include "parts/held.h"    /* the calls that end the program unless a seat holds */
-#include "parts/end.h"     /* closing, and forked children */
-#include "parts/condvar.h" /* condition variables */
-#include "parts/texts.h"   /* the version and the texts of statuses */
+#include "parts/proved.h"            /* the proved calls */
+#include "parts/futex.h"             /* sleeping on a word; clocks and deadlines */
+#include "parts/bell.h"              /* one thread waits for another */
+#include "parts/latch.h"             /* a lock for a few steps */
+#include "parts/tools.h"             /* what sanitizers are told; processors; memory */
+#include "parts/numbers.h"      /* numbers that any thread takes and gives back */
+#include "parts/layout.h"       /* the fields of participants, pools and seats */
+#include "parts/pools.h"        /* pools, and how mutexes of them are opened */
+#include "parts/participants.h" /* who takes part in mutexes */
+#include "parts/waiter.h"       /* a wait at a condition variable */
+#include "parts/deputies.h"     /* wake-ups, and who queues for a lock with a time limit */
+#include "parts/lock.h"         /* lock, try and unlock by a participant */
+#include "parts/hand.h"         /* seats in hand */
+#include "parts/threads.h"      /* the participant of each thread */
+#include "parts/here.h"         /* the calls that find the thread's participant */
+#include "parts/held.h"              /* the calls that end the program unless a seat holds */
+#include "parts/end.h"          /* closing, and forked children */
+#include "parts/condvar.h"      /* condition variables */
+#include "parts/texts.h"             /* the version and the texts of statuses */

@@ -298,8 +298,12 @@ static void tell_one_thread() {
   });
   tell({"try_lock that is refused"}, [](auto &lock) { return Figures{refused_try(lock)}; });
   for (size_t count : {64, 4096})
-    tell({"one among " + std::to_string(count)},
-         [=](auto &lock) { return Figures{among<std::decay_t<decltype(lock)>>(count)}; });
+    tell({"one among " + std::to_string(count)}, [=](auto &lock) {
+      using Lock = std::decay_t<decltype(lock)>;
+      // a process has no more seats in hand
+      if (std::is_same_v<Lock, InHand> && count > LFM_MOST_SEATS) return Figures{};
+      return Figures{among<Lock>(count)};
+    });
 }
 
 static void tell_threads() {
@@ -356,7 +360,7 @@ static Figures costs(uint64_t seats) {
 }
 
 static void tell_costs() {
-  for (uint64_t seats : {1, 8, 64, 4095}) {
+  for (uint64_t seats : {1, 8, 64}) {
     const char *const names[] = {"open", "close", "bytes", "bytes with all taken"};
     std::vector<Figures> of_rounds;
     for (int i = 0; i < rounds; i++) of_rounds.push_back(costs(seats));

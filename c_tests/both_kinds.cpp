@@ -10,11 +10,10 @@ void is_refused_without_exceptions();
 void is_refused_without_exceptions_in_a_template();
 void lock_without_exceptions(lfm_mutex *mutex);
 
-// The second lock is refused.
-static void lock_twice() {
-  lfm::recursive_mutex mutex(1, 1);
-  mutex.lock();
-  mutex.unlock();
+// The last lock is refused: a hold can't be deeper.
+static void lock_too_often() {
+  lfm::recursive_mutex mutex;
+  for (int depth = 0; depth < 65535; depth++) mutex.lock();
   std::unique_lock<lfm::recursive_mutex> lock(mutex);
 }
 
@@ -22,7 +21,7 @@ static void lock_twice() {
 
 void is_refused_without_exceptions() { lfm::recursive_mutex().unlock(); }
 
-void is_refused_without_exceptions_in_a_template() { lock_twice(); }
+void is_refused_without_exceptions_in_a_template() { lock_too_often(); }
 
 void lock_without_exceptions(lfm_mutex *mutex) { lfm::made(lfm_lock_here(mutex)); }
 
@@ -52,7 +51,7 @@ static int signal_of(void (*call)()) {
 
 int main() {
   EXPECT(refusal_of([] { lfm::recursive_mutex().unlock(); }), LFM_NOT_OWNER);
-  EXPECT(refusal_of(lock_twice), LFM_SPENT);
+  EXPECT(refusal_of(lock_too_often), LFM_DEPTH_FULL);
   EXPECT(signal_of(is_refused_without_exceptions), SIGABRT);
   EXPECT(signal_of(is_refused_without_exceptions_in_a_template), SIGABRT);
   lfm::recursive_mutex mutex;

@@ -1,22 +1,25 @@
 /* Forked children. One gives its seats back and closes its mutexes while threads of the parent take and give seats: it
  * doesn't hang. One makes a mutex new that its thread held in the fork, as pthread_atfork has it, or that nobody held. It
  * may have given its seat back before, or make the mutex new by another thread. One whose parent's other thread held it is
- * told so. */
+ * told so.
+ *
+ * The test has the C file of the library in it, to see how many are queued. */
 #define _GNU_SOURCE
+#include "../c/ligdrosa.c"
+#include <sched.h>
 #include <signal.h>
 #include <sys/wait.h>
-#include <unistd.h>
 #include "expect.h"
 
 enum { CHILDREN = 60, THREADS = 3, LIMIT = 60 };
 static lfm_mutex mutex = LFM_MUTEX_INIT, in_hand, free_one = LFM_MUTEX_INIT, never_called = LFM_MUTEX_INIT;
-static lfm_mutex of_others = LFM_MUTEX_INIT_WITH(1);
+static lfm_mutex of_others = LFM_MUTEX_INIT;
 static lfm_condvar condvar;
 static lfm_seat seat, spare;
 static int over, step;
 
-static void lock(lfm_mutex *of) { EXPECT(lfm_lock_here(of), LFM_DONE); }
-static void unlock(lfm_mutex *of) { EXPECT(lfm_is_refused(lfm_unlock_here(of)), false); }
+static void acquire(lfm_mutex *of) { EXPECT(lfm_lock_here(of), LFM_DONE); }
+static void release(lfm_mutex *of) { EXPECT(lfm_is_refused(lfm_unlock_here(of)), false); }
 
 /* The status with which the child ended, in which this was called. A child that hangs is ended by its alarm. */
 static int in_child(void (*act)(void)) {
@@ -39,8 +42,8 @@ static void *lock_once(void *at) {
   EXPECT(lfm_lock(own), LFM_DONE);
   EXPECT(lfm_is_refused(lfm_unlock(own)), false);
   EXPECT(lfm_seat_give(own), LFM_DONE);
-  lock(&mutex);
-  unlock(&mutex);
+  acquire(&mutex);
+  release(&mutex);
   return at;
 }
 
@@ -62,9 +65,9 @@ static void forget(void) {
 }
 
 static void *wake_all(void *at) {
-  lock(&mutex);
+  acquire(&mutex);
   EXPECT(lfm_wake_all(&condvar), LFM_DONE);
-  unlock(&mutex);
+  release(&mutex);
   return at;
 }
 
@@ -78,8 +81,8 @@ static void use_again(void) {
   EXPECT(lfm_after_fork(&free_one, NULL), LFM_DONE);
   EXPECT(lfm_after_fork(&never_called, NULL), LFM_DONE);
   EXPECT(lfm_after_fork(&of_others, NULL), LFM_DONE);
-  lock(&of_others);
-  unlock(&of_others);
+  acquire(&of_others);
+  release(&of_others);
   EXPECT(lfm_depth(&seat), 2);
   EXPECT(lfm_unlock(&seat), LFM_STILL);
   EXPECT(lfm_unlock(&seat), LFM_DONE);
@@ -88,9 +91,9 @@ static void use_again(void) {
   EXPECT(pthread_create(&thread, NULL, wake_all, NULL), 0);
   EXPECT(lfm_wait_here(&condvar, &mutex), LFM_DONE);
   EXPECT(pthread_join(thread, NULL), 0);
-  unlock(&mutex);
-  lock(&free_one);
-  unlock(&free_one);
+  release(&mutex);
+  acquire(&free_one);
+  release(&free_one);
   int number = THREADS;
   lock_once(&number);
   EXPECT(lfm_seat_give(&seat), LFM_DONE);
@@ -102,8 +105,8 @@ static void use_again(void) {
 static void give_and_use(void) {
   EXPECT(lfm_seat_give_here(&free_one), LFM_DONE);
   EXPECT(lfm_after_fork(&free_one, NULL), LFM_DONE);
-  lock(&free_one);
-  unlock(&free_one);
+  acquire(&free_one);
+  release(&free_one);
   EXPECT(lfm_mutex_close(&free_one), LFM_DONE);
 }
 
@@ -111,16 +114,16 @@ static void give_and_use(void) {
 static void use_found_seat(void) {
   lfm_status cause;
   EXPECT(lfm_after_fork(&free_one, lfm_seat_here(&free_one, &cause)), LFM_DONE);
-  lock(&free_one);
-  unlock(&free_one);
+  acquire(&free_one);
+  release(&free_one);
   EXPECT(lfm_mutex_close(&free_one), LFM_DONE);
 }
 
 /* A thread of the child makes the mutex new, and not the thread that forked, which has a seat of the parent's. */
 static void *make_new_and_use(void *at) {
   EXPECT(lfm_after_fork(&free_one, NULL), LFM_DONE);
-  lock(&free_one);
-  unlock(&free_one);
+  acquire(&free_one);
+  release(&free_one);
   return at;
 }
 
@@ -140,56 +143,58 @@ static void use_after_another(void) {
   EXPECT(pthread_create(&thread, NULL, make_new_and_use, NULL), 0);
   EXPECT(pthread_join(thread, NULL), 0);
   fill_freed_memory();
-  lock(&free_one);
-  unlock(&free_one);
+  acquire(&free_one);
+  release(&free_one);
   pthread_exit(NULL); /* the thread gives both seats back */
 }
 
-/* Another thread of the parent holds one mutex, and has the only seat of another. */
+/* Another thread of the parent holds one mutex, and has released another. */
 static void is_told(void) {
   EXPECT(lfm_after_fork(&free_one, NULL), LFM_BUSY);
-  EXPECT(lfm_after_fork(&of_others, NULL), LFM_BUSY);
+  EXPECT(lfm_try_lock_here(&free_one), LFM_BUSY);
+  EXPECT(lfm_after_fork(&free_one, NULL), LFM_BUSY);
+  EXPECT(lfm_after_fork(&of_others, NULL), LFM_DONE);
+  acquire(&of_others);
+  release(&of_others);
 }
 
 static void *use_once(void *at) {
-  lock(&of_others);
-  unlock(&of_others);
+  acquire(&of_others);
+  release(&of_others);
   return at;
 }
 
 static void *hold(void *at) {
-  lock(&free_one);
+  acquire(&free_one);
   use_once(at);
   __atomic_store_n(&step, 1, __ATOMIC_SEQ_CST);
   while (__atomic_load_n(&step, __ATOMIC_SEQ_CST) != 2) sched_yield();
-  unlock(&free_one);
+  release(&free_one);
   return at;
 }
 
-/* Other threads have seats, some are queued, and some have left their place by time. The child makes the mutex new: no seat
- * is queued then. */
+/* Other threads are queued, and some have left their place by time. The child makes the mutex new: nobody is queued then. */
 enum { WAITERS = 20 };
 static lfm_mutex waited_for = LFM_MUTEX_INIT;
 
 static void *wait_in_queue(void *at) {
   if (*(int *)at % 2) {
-    EXPECT(lfm_try_lock_for_here(&waited_for, 1000000), LFM_BUSY);
+    do EXPECT(lfm_try_lock_for_here(&waited_for, 1000000), LFM_BUSY);
+    while (!own.by->deputies || state_of(own.by->deputies) != ABANDONED);
     __atomic_fetch_add(&step, 1, __ATOMIC_SEQ_CST);
     while (__atomic_load_n(&step, __ATOMIC_SEQ_CST) < 1000) sched_yield();
     return NULL;
   }
-  lfm_status cause;
-  EXPECT(lfm_seat_here(&waited_for, &cause) == NULL, false);
   __atomic_fetch_add(&step, 1, __ATOMIC_SEQ_CST);
   EXPECT(lfm_lock_in_order_here(&waited_for), LFM_DONE);
-  unlock(&waited_for);
+  release(&waited_for);
   return NULL;
 }
 
 static void make_new_beside_seats(void) {
   EXPECT(lfm_after_fork(&waited_for, NULL), LFM_DONE);
   EXPECT(lfm_depth_here(&waited_for), 1);
-  unlock(&waited_for);
+  release(&waited_for);
   int number = 0;
   EXPECT(wait_in_queue(&number) == NULL, true);
   EXPECT(lfm_mutex_close(&waited_for), LFM_DONE);
@@ -199,15 +204,15 @@ static void seats_of_others(void) {
   pthread_t waiters[WAITERS];
   int numbers[WAITERS];
   step = 0;
-  lock(&waited_for);
+  acquire(&waited_for);
   for (int i = 0; i < WAITERS; i++) {
     numbers[i] = i;
     EXPECT(pthread_create(&waiters[i], NULL, wait_in_queue, &numbers[i]), 0);
   }
   while (__atomic_load_n(&step, __ATOMIC_SEQ_CST) < WAITERS) sched_yield();
-  usleep(50000); /* so that most of them sleep in the queue */
+  while (__atomic_load_n(&info_of(load_mutex(&waited_for))->queued, __ATOMIC_SEQ_CST) != WAITERS / 2) sched_yield();
   EXPECT(in_child(make_new_beside_seats), 0);
-  unlock(&waited_for);
+  release(&waited_for);
   __atomic_store_n(&step, 1000, __ATOMIC_SEQ_CST);
   for (int i = 0; i < WAITERS; i++) EXPECT(pthread_join(waiters[i], NULL), 0);
   EXPECT(lfm_mutex_close(&waited_for), LFM_DONE);
@@ -218,8 +223,8 @@ int main(void) {
   int numbers[THREADS];
   EXPECT(lfm_mutex_new(&in_hand, 8, LFM_MOST_TAKES), LFM_DONE);
   EXPECT(lfm_seat_take(&in_hand, &seat), LFM_DONE);
-  lock(&free_one);
-  unlock(&free_one);
+  acquire(&free_one);
+  release(&free_one);
   EXPECT(in_child(give_and_use), 0);
   EXPECT(in_child(use_found_seat), 0);
   EXPECT(in_child(use_after_another), 0);
@@ -231,13 +236,13 @@ int main(void) {
   }
   for (int i = 0; i < CHILDREN; i++) {
     EXPECT(in_child(forget), 0);
-    lock(&mutex);
+    acquire(&mutex);
     EXPECT(lfm_lock(&seat), LFM_DONE);
     EXPECT(lfm_lock(&seat), LFM_AGAIN);
     EXPECT(in_child(use_again), 0);
     EXPECT(lfm_unlock(&seat), LFM_STILL);
     EXPECT(lfm_is_refused(lfm_unlock(&seat)), false);
-    unlock(&mutex);
+    release(&mutex);
   }
   __atomic_store_n(&over, 1, __ATOMIC_SEQ_CST);
   for (int i = 0; i < THREADS; i++) EXPECT(pthread_join(threads[i], NULL), 0);

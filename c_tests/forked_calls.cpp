@@ -1,6 +1,6 @@
-// Children are forked beside four threads that contend, leave their seats queued, and take and give seats. In a child no
-// handle that one of these threads had in a call is given to a proved call: the child makes the mutexes new, or is told
-// that it can't, uses them and closes them.
+// Children are forked beside four threads that contend, leave their places queued, take and give seats, and start threads that
+// end. In a child no handle that one of these threads had in a call is given to a proved call: the child calls mutexes that
+// are free, makes others new or is told that it can't, uses them and closes them.
 //
 // The test wraps the proved calls. A thread marks its handles while a call has them, and a child compares.
 #include <sched.h>
@@ -58,28 +58,38 @@ private:
     const call marked(mutex, seat);          \
     return __real_##name(handle);            \
   }
-#define WRAP_OF_SEAT(name) WRAP_OF_ONE(uint64_t, name, nullptr, handle)
-#define WRAP_OF_TWO(name)                          \
-  uint64_t __real_##name(void *mutex, void *seat); \
-  uint64_t __wrap_##name(void *mutex, void *seat); \
-  uint64_t __wrap_##name(void *mutex, void *seat) { \
-    const call marked(mutex, seat);                \
-    return __real_##name(mutex, seat);             \
+#define WRAP_OF_SEAT(name)                            \
+  uint64_t __real_##name(void *seat, uint64_t index); \
+  uint64_t __wrap_##name(void *seat, uint64_t index); \
+  uint64_t __wrap_##name(void *seat, uint64_t index) { \
+    const call marked(nullptr, seat);                 \
+    return __real_##name(seat, index);                \
   }
 
 extern "C" {
-WRAP_OF_ONE(void, lfm_c_blank_seat, nullptr, handle)
-WRAP_OF_ONE(uint64_t, lfm_c_close, handle, nullptr)
-WRAP_OF_TWO(lfm_c_take_seat)
-WRAP_OF_TWO(lfm_c_give_seat)
-WRAP_OF_SEAT(lfm_c_number)
-WRAP_OF_SEAT(lfm_c_depth)
-WRAP_OF_SEAT(lfm_c_left)
-WRAP_OF_SEAT(lfm_c_count)
-WRAP_OF_SEAT(lfm_c_ask)
-WRAP_OF_SEAT(lfm_c_receive)
-WRAP_OF_SEAT(lfm_c_try_lock)
-WRAP_OF_SEAT(lfm_c_unlock)
+WRAP_OF_ONE(void, lfm_c_blank_pool, handle, nullptr)
+WRAP_OF_ONE(void, lfm_c_blank_pool_seat, nullptr, handle)
+WRAP_OF_ONE(uint64_t, lfm_c_pool_number, nullptr, handle)
+WRAP_OF_SEAT(lfm_c_pool_depth)
+WRAP_OF_SEAT(lfm_c_pool_count)
+WRAP_OF_SEAT(lfm_c_pool_ask)
+WRAP_OF_SEAT(lfm_c_pool_receive)
+WRAP_OF_SEAT(lfm_c_pool_try_lock)
+WRAP_OF_SEAT(lfm_c_pool_unlock)
+
+uint64_t __real_lfm_c_pool_open(void *pool, uint64_t mutexes, uint64_t seats);
+uint64_t __wrap_lfm_c_pool_open(void *pool, uint64_t mutexes, uint64_t seats);
+uint64_t __wrap_lfm_c_pool_open(void *pool, uint64_t mutexes, uint64_t seats) {
+  const call marked(pool, nullptr);
+  return __real_lfm_c_pool_open(pool, mutexes, seats);
+}
+
+uint64_t __real_lfm_c_pool_take_seat(void *pool, void *seat);
+uint64_t __wrap_lfm_c_pool_take_seat(void *pool, void *seat);
+uint64_t __wrap_lfm_c_pool_take_seat(void *pool, void *seat) {
+  const call marked(pool, seat);
+  return __real_lfm_c_pool_take_seat(pool, seat);
+}
 }
 
 static lfm_mutex mutex = LFM_MUTEX_INIT, of_others = LFM_MUTEX_INIT, in_hand = LFM_MUTEX_INIT;
@@ -100,11 +110,17 @@ static void contend(int own_number) {
     EXPECT(lfm_seat_take(&in_hand, &seat), LFM_DONE);
     if (lfm_try_lock_for(&seat, 20000) == LFM_DONE) EXPECT(is_released(lfm_unlock(&seat)), true);
     EXPECT(lfm_seat_give(&seat), LFM_DONE);
+    std::thread([own_number] {
+      number = own_number;
+      EXPECT(lfm_lock_here(&of_others), LFM_DONE);
+      EXPECT(is_released(lfm_unlock_here(&of_others)), true);
+    }).join();
   }
 }
 
 // Makes a mutex new, if that is possible, and uses it.
 static void use_in_child(lfm_mutex *each, lfm_seat *seat, uint64_t depth) {
+  if (depth == 0 && lfm_try_lock_here(each) == LFM_DONE) EXPECT(is_released(lfm_unlock_here(each)), true);
   const lfm_status status = lfm_after_fork(each, seat);
   if (status == LFM_BUSY && depth == 0) return;
   EXPECT(status, LFM_DONE);

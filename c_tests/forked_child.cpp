@@ -1,9 +1,8 @@
-// A child that is forked while other threads take seats ends at once. Its one thread has seats of the same mutexes, and
-// destroys mutexes. If it gave the seats back, or closed the mutexes, it would wait for the other threads, which the child
-// doesn't have.
+// A child that is forked while other threads take seats goes on at once. The fork waits until they have taken them, since what
+// they change would be half done in the child. The child's threads take seats of the same pool, and destroy mutexes.
 //
-// The test wraps the library's call that takes a seat: once the first thread has its seats, a call stops until the child has
-// ended.
+// The test wraps the library's call that takes a seat: once the first thread has its seats, such calls stop until the thread
+// that forks has begun to.
 #include <signal.h>
 #include <sys/wait.h>
 #include <unistd.h>
@@ -19,17 +18,20 @@ static std::atomic<bool> stops{false};
 static std::atomic<int> stopped{0};
 
 extern "C" {
-uint64_t __real_lfm_c_take_seat(void *mutex, void *seat);
-uint64_t __wrap_lfm_c_take_seat(void *mutex, void *seat);
+uint64_t __real_lfm_c_pool_take_seat(void *mutex, void *seat);
+uint64_t __wrap_lfm_c_pool_take_seat(void *mutex, void *seat);
 
-uint64_t __wrap_lfm_c_take_seat(void *mutex, void *seat) {
-  const uint64_t answer = __real_lfm_c_take_seat(mutex, seat);
+uint64_t __wrap_lfm_c_pool_take_seat(void *mutex, void *seat) {
+  const uint64_t answer = __real_lfm_c_pool_take_seat(mutex, seat);
   if (!stops) return answer;
   stopped++;
   while (stops) std::this_thread::yield();
   return answer;
 }
 }
+
+// Called by a fork before the library's own handler.
+static void let_go() { stops = false; }
 
 // The status with which the child ends, or -1 if it doesn't end within 20 seconds and is killed.
 static int end_of(pid_t child) {
@@ -54,17 +56,31 @@ static void lock_all() {
   std::lock_guard<lfm::seat_lock> third(seat);
 }
 
+// Tries those that a thread of the parent may hold, and locks one of the child.
+static void lock_in_child() {
+  lfm::recursive_mutex of_child;
+  std::lock_guard<lfm::recursive_mutex> lock(of_child);
+  for (lfm::recursive_mutex *mutex : {&found, ends_with_the_program.get()})
+    if (mutex->try_lock()) mutex->unlock();
+}
+
+static void act_in_child() {
+  lock_in_child();
+  std::thread(lock_in_child).join();
+  std::exit(0);
+}
+
 int main() {
+  EXPECT(pthread_atfork(let_go, nullptr, nullptr), 0);
   lock_all();
   stops = true;
   std::thread threads[] = {std::thread([] { std::lock_guard<lfm::recursive_mutex> lock(found); }),
                            std::thread([] { std::lock_guard<lfm::recursive_mutex> lock(*ends_with_the_program); }),
                            std::thread([] { EXPECT(own.depth(), 0u); })};
-  while (stopped != 3) std::this_thread::yield();
+  while (stopped == 0) std::this_thread::yield();
   const pid_t child = fork();
-  if (child == 0) std::exit(0);
+  if (child == 0) act_in_child();
   const int status = end_of(child);
-  stops = false;
   for (std::thread &thread : threads) thread.join();
   EXPECT(status, 0);
   lock_all();

@@ -1,5 +1,6 @@
 /* A thread wakes another while it holds the mutex, so the ring is put off, and forks. The child doesn't have the thread that
- * waits, and another thread's stack may lie there by then. So when the child's thread ends, it changes nothing there. */
+ * waits, and another thread's stack may lie there by then. So when the child's thread releases the mutex, or ends while it
+ * holds, it changes nothing there. */
 #define _GNU_SOURCE
 #include <sys/wait.h>
 #include <unistd.h>
@@ -41,20 +42,32 @@ static void end_in_child(void) {
   pthread_exit(NULL);
 }
 
+static void release_in_child(void) {
+  memcpy(in_fork, stack, STACK);
+  EXPECT(lfm_after_fork(&mutex, NULL), LFM_DONE);
+  EXPECT(lfm_unlock_here(&mutex), LFM_DONE);
+  end_with_answer();
+}
+
+static void expect_end(void (*act)(void)) {
+  int status;
+  pid_t child = fork();
+  EXPECT(child >= 0, true);
+  if (child == 0) act();
+  EXPECT(waitpid(child, &status, 0), child);
+  EXPECT(status, 0);
+}
+
 int main(void) {
   pthread_t thread;
   pthread_attr_t with_stack;
-  int status;
   EXPECT(pthread_attr_init(&with_stack), 0);
   EXPECT(pthread_attr_setstack(&with_stack, stack, STACK), 0);
   EXPECT(pthread_create(&thread, &with_stack, wait_once, NULL), 0);
   lock_when_it_waits();
   EXPECT(lfm_wake_one(&condvar), LFM_DONE);
-  pid_t child = fork();
-  EXPECT(child >= 0, true);
-  if (child == 0) end_in_child();
-  EXPECT(waitpid(child, &status, 0), child);
-  EXPECT(status, 0);
+  expect_end(end_in_child);
+  expect_end(release_in_child);
   EXPECT(lfm_is_refused(lfm_unlock_here(&mutex)), false);
   EXPECT(pthread_join(thread, NULL), 0);
   EXPECT(lfm_mutex_close(&mutex), LFM_DONE);

@@ -6,20 +6,18 @@
 #include <unistd.h>
 #include "expect.h"
 
-static lfm_mutex mutex = LFM_MUTEX_INIT_WITH(2), crowded = LFM_MUTEX_INIT_WITH(1), zero;
+enum { DEEPEST = 65535 };
+static lfm_mutex mutex = LFM_MUTEX_INIT, deep = LFM_MUTEX_INIT, zero;
 
 static void try_beside_holder(unsigned thread) {
   (void)thread;
   EXPECT(lfm_try_acquire_here(&mutex), false);
-  EXPECT(lfm_acquire_here(&crowded), false); /* no seat is free */
-  EXPECT(lfm_try_acquire_here(&crowded), false);
   EXPECT(lfm_depth_here(&mutex), 0);
 }
 
 static void acquire_here(void) {
   EXPECT(lfm_acquire_here(NULL), false);
   EXPECT(lfm_acquire_here(&zero), false);
-  EXPECT(lfm_acquire_here(&crowded), true);
   EXPECT(lfm_acquire_here(&mutex), true);
   lfm_assert_held_here(&mutex);
   EXPECT(lfm_acquire_here(&mutex), true); /* LFM_AGAIN is a success */
@@ -32,18 +30,27 @@ static void acquire_here(void) {
   }
   EXPECT(lfm_try_acquire_here(&mutex), true);
   EXPECT(lfm_unlock_here(&mutex), LFM_DONE);
-  EXPECT(lfm_unlock_here(&crowded), LFM_DONE);
+}
+
+/* A hold can't be deeper than this. */
+static void acquire_too_deep(void) {
+  for (int depth = 0; depth < DEEPEST; depth++) EXPECT(lfm_acquire_here(&deep), true);
+  EXPECT(lfm_acquire_here(&deep), false);
+  EXPECT(lfm_try_acquire_here(&deep), false);
+  EXPECT(lfm_depth_here(&deep), DEEPEST);
+  for (int depth = DEEPEST; depth > 1; depth--) EXPECT(lfm_unlock_here(&deep), LFM_STILL);
+  EXPECT(lfm_unlock_here(&deep), LFM_DONE);
 }
 
 static void acquire_by_seats(void) {
-  lfm_mutex spent = {0};
+  lfm_mutex own = {0};
   lfm_seat seat = {0}, other = {0};
   EXPECT(lfm_acquire(NULL), false);
   EXPECT(lfm_acquire(&seat), false);
   EXPECT(lfm_try_acquire(&seat), false);
-  EXPECT(lfm_mutex_new(&spent, 2, 2), LFM_DONE);
-  EXPECT(lfm_seat_take(&spent, &seat), LFM_DONE);
-  EXPECT(lfm_seat_take(&spent, &other), LFM_DONE);
+  EXPECT(lfm_mutex_new(&own, 2, 2), LFM_DONE);
+  EXPECT(lfm_seat_take(&own, &seat), LFM_DONE);
+  EXPECT(lfm_seat_take(&own, &other), LFM_DONE);
   EXPECT(lfm_acquire(&seat), true);
   EXPECT(lfm_try_acquire(&seat), true);
   EXPECT(lfm_try_acquire(&other), false);
@@ -53,12 +60,11 @@ static void acquire_by_seats(void) {
   EXPECT(lfm_unlock(&seat), LFM_DONE);
   EXPECT(lfm_try_acquire(&seat), true);
   EXPECT(lfm_unlock(&seat), LFM_DONE);
-  EXPECT(lfm_acquire(&seat), false); /* it has made both takes, and no seat is free */
   EXPECT(lfm_acquire(&other), true);
   EXPECT(lfm_unlock(&other), LFM_DONE);
   EXPECT(lfm_seat_give(&seat), LFM_DONE);
   EXPECT(lfm_seat_give(&other), LFM_DONE);
-  EXPECT(lfm_mutex_close(&spent), LFM_DONE);
+  EXPECT(lfm_mutex_close(&own), LFM_DONE);
 }
 
 /* What doesn't hold. The child that asserts it makes its own mutexes and seats, since those of the parent are not its. */
@@ -105,12 +111,13 @@ static void expect_end(void (*assertion)(void)) {
 
 int main(void) {
   acquire_here();
+  acquire_too_deep();
   acquire_by_seats();
   expect_end(assert_seat_that_released);
   expect_end(assert_null_seat);
   expect_end(assert_null_mutex);
   expect_end(assert_other_seat);
   EXPECT(lfm_mutex_close(&mutex), LFM_DONE);
-  EXPECT(lfm_mutex_close(&crowded), LFM_DONE);
+  EXPECT(lfm_mutex_close(&deep), LFM_DONE);
   return 0;
 }

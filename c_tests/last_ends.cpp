@@ -1,7 +1,7 @@
 // The thread that acquires a mutex last destroys it at once, though the unlock of the thread before it may not have returned.
-// And the memory of such mutexes is freed, once the threads that used them take other seats or end.
+// And such mutexes make room for later ones: all of them are of the first pool.
 //
-// The test wraps the calls of the library that open and close a mutex, to count those that are open.
+// The test wraps the call of the library that opens a pool, to count the pools.
 #include <atomic>
 #include <chrono>
 #include <thread>
@@ -10,22 +10,15 @@
 #include "expect.hpp"
 #include "ligdrosa.hpp"
 
-static std::atomic<long> open_mutexes{0};
+static std::atomic<int> pools{0};
 
 extern "C" {
-uint64_t __real_lfm_c_open(void *mutex, uint64_t seats, uint64_t budget);
-uint64_t __real_lfm_c_close(void *mutex);
-uint64_t __wrap_lfm_c_open(void *mutex, uint64_t seats, uint64_t budget);
-uint64_t __wrap_lfm_c_close(void *mutex);
+uint64_t __real_lfm_c_pool_open(void *pool, uint64_t mutexes, uint64_t seats);
+uint64_t __wrap_lfm_c_pool_open(void *pool, uint64_t mutexes, uint64_t seats);
 
-uint64_t __wrap_lfm_c_open(void *mutex, uint64_t seats, uint64_t budget) {
-  open_mutexes++;
-  return __real_lfm_c_open(mutex, seats, budget);
-}
-
-uint64_t __wrap_lfm_c_close(void *mutex) {
-  open_mutexes--;
-  return __real_lfm_c_close(mutex);
+uint64_t __wrap_lfm_c_pool_open(void *pool, uint64_t mutexes, uint64_t seats) {
+  pools++;
+  return __real_lfm_c_pool_open(pool, mutexes, seats);
 }
 }
 
@@ -62,7 +55,6 @@ static std::atomic<shared *> objects[ROUNDS];
 
 // In each round the threads meet at the object of that round. `is_owner` is whether the first waits for the others.
 static void meet(bool is_owner) {
-  std::atomic<long> most_open{0};
   std::atomic<int> arrived{0};
   for (auto &object : objects) object = nullptr;
   auto begun = std::chrono::steady_clock::now();
@@ -78,14 +70,12 @@ static void meet(bool is_owner) {
         wait_and_end(object);
       else
         give_up(object);
-      if (number == 0 && open_mutexes > most_open) most_open = open_mutexes.load();
     }
   };
   std::vector<std::thread> threads;
   for (int number = 0; number < THREADS; number++) threads.emplace_back(work, number);
   for (std::thread &thread : threads) thread.join();
-  EXPECT(open_mutexes.load(), 0);
-  EXPECT(most_open < 100, true);
+  EXPECT(pools.load(), 1);
 }
 
 int main() {

@@ -3,9 +3,9 @@
  *
  * The test has the C file of the library in it, with a take of a seat that is slow in some threads. On a busy machine a call
  * may end late for other reasons, so one of a few calls has to end in time. */
-#define lfm_c_take_seat take_slowly
+#define lfm_c_pool_take_seat take_slowly
 #include "../c/ligdrosa.c"
-#undef lfm_c_take_seat
+#undef lfm_c_pool_take_seat
 #include "expect.h"
 
 enum { LIMIT = 200000000, CALLS = 5 };
@@ -13,11 +13,11 @@ static lfm_mutex mutex = LFM_MUTEX_INIT;
 static _Thread_local bool is_slow;
 static unsigned in_time;
 
-uint64_t lfm_c_take_seat(void *held, void *seat);
-uint64_t take_slowly(void *held, void *seat) {
+uint64_t lfm_c_pool_take_seat(void *pool, void *seat);
+uint64_t take_slowly(void *pool, void *seat) {
   uint64_t begun = nanoseconds();
   while (is_slow && nanoseconds() - begun < LIMIT) nap_for(LIMIT / 10);
-  return lfm_c_take_seat(held, seat);
+  return lfm_c_pool_take_seat(pool, seat);
 }
 
 static void try_for_limit(unsigned thread) {

@@ -1,7 +1,7 @@
-// One thread locks thousands of mutexes. A first lock of a mutex takes about as long among 4,000 of them as among 100, and so
-// do later locks. And the memory of mutexes that another thread destroyed is freed while the thread goes on.
+// One thread locks thousands of mutexes. A first lock of a mutex takes about as long among 4,000 of them as among 100, and so do
+// later locks. And mutexes that another thread destroyed make room for later ones: no further pool is opened for them.
 //
-// The test wraps the calls of the library that open and close a mutex, to count those that are open.
+// The test wraps the call of the library that opens a pool, to count the mutexes of all pools.
 #include <time.h>
 
 #include <algorithm>
@@ -12,22 +12,15 @@
 #include "expect.hpp"
 #include "ligdrosa.hpp"
 
-static std::atomic<size_t> open_mutexes{0};
+static std::atomic<size_t> room{0}; // how many mutexes the pools have
 
 extern "C" {
-uint64_t __real_lfm_c_open(void *mutex, uint64_t seats, uint64_t budget);
-uint64_t __real_lfm_c_close(void *mutex);
-uint64_t __wrap_lfm_c_open(void *mutex, uint64_t seats, uint64_t budget);
-uint64_t __wrap_lfm_c_close(void *mutex);
+uint64_t __real_lfm_c_pool_open(void *pool, uint64_t mutexes, uint64_t seats);
+uint64_t __wrap_lfm_c_pool_open(void *pool, uint64_t mutexes, uint64_t seats);
 
-uint64_t __wrap_lfm_c_open(void *mutex, uint64_t seats, uint64_t budget) {
-  open_mutexes++;
-  return __real_lfm_c_open(mutex, seats, budget);
-}
-
-uint64_t __wrap_lfm_c_close(void *mutex) {
-  open_mutexes--;
-  return __real_lfm_c_close(mutex);
+uint64_t __wrap_lfm_c_pool_open(void *pool, uint64_t mutexes, uint64_t seats) {
+  room += mutexes;
+  return __real_lfm_c_pool_open(pool, mutexes, seats);
 }
 }
 
@@ -58,7 +51,9 @@ static double locks(std::vector<lfm::recursive_mutex> &all, size_t begin, int ti
 
 static void mutexes_that_live() {
   std::vector<lfm::recursive_mutex> all(MANY);
-  for (lfm::recursive_mutex &mutex : all) std::thread([&] { lock_and_unlock(mutex); }).join(); // opens it
+  std::thread([&] {
+    for (lfm::recursive_mutex &mutex : all) lock_and_unlock(mutex); // opens it
+  }).join();
   std::vector<double> first;
   double later_among_few = 0;
   for (size_t i = 0; i < MANY; i += FEW) {
@@ -67,12 +62,12 @@ static void mutexes_that_live() {
   }
   EXPECT(*std::min_element(first.end() - 5, first.end()) < 5 * *std::min_element(first.begin(), first.begin() + 5), true);
   EXPECT(locks(all, MANY - FEW, 20) < 10 * later_among_few, true);
+  EXPECT(room >= MANY, true);
+  EXPECT(room < 3 * MANY, true);
 }
 
 // Another thread destroys each mutex that this one has locked.
 static void mutexes_that_end() {
-  const size_t before = open_mutexes;
-  size_t most = 0;
   for (size_t i = 0; i < MANY; i++) {
     lfm::recursive_mutex *mutex = new lfm::recursive_mutex(2);
     lock_and_unlock(*mutex);
@@ -80,16 +75,19 @@ static void mutexes_that_end() {
       std::thread([=] { delete mutex; }).join();
     else
       delete mutex;
-    most = std::max(most, open_mutexes.load());
   }
-  EXPECT(most <= 2 * before + 100, true);
 }
 
 int main() {
   mutexes_that_end();
+  const size_t before = room;
   std::vector<lfm::recursive_mutex> living(10);
   for (lfm::recursive_mutex &mutex : living) lock_and_unlock(mutex);
   mutexes_that_end();
+  EXPECT(room.load(), before);
   mutexes_that_live();
+  const size_t grown = room;
+  mutexes_that_live();
+  EXPECT(room.load(), grown);
   return 0;
 }

@@ -1,28 +1,36 @@
-/* How much memory a mutex takes. And each request for memory is refused in turn: the call answers LFM_NO_MEMORY, has changed
- * nothing, and leaks nothing. It is linked with --wrap for malloc, calloc, realloc, free and posix_memalign. */
+/* Each request for memory is refused in turn: the call answers LFM_NO_MEMORY, has changed nothing but what it says, leaves errno
+ * as it was, and leaks nothing. And how much memory is asked for: by the first mutex of a pool, by the first participant, and by
+ * lfm_seat_here; all other calls ask for none. It is linked with --wrap for mmap, munmap, malloc, calloc, realloc, free and
+ * posix_memalign. */
 #include <errno.h>
 #include <malloc.h>
+#include <sys/mman.h>
 #include "expect.h"
 
+enum { SET_BEFORE = 77, FIRST_POOL = 512, SHORT = 1000 };
 static long allowed = -1; /* how many more requests are granted; all of them if it is below 0 */
 static long given;        /* how many blocks are not given back */
-static size_t bytes;      /* how many bytes these have */
+static long mapped;       /* how many bytes of the system are not given back */
 
 void *__real_malloc(size_t);
 void *__real_calloc(size_t, size_t);
 void *__real_realloc(void *, size_t);
 int __real_posix_memalign(void **, size_t, size_t);
 void __real_free(void *);
+void *__real_mmap(void *, size_t, int, int, int, off_t);
+int __real_munmap(void *, size_t);
 
 static bool is_refused(void) {
-  if (allowed == 0) return true;
+  if (allowed == 0) {
+    errno = ENOMEM;
+    return true;
+  }
   if (allowed > 0) allowed--;
   return false;
 }
 
 static void *counted(void *block) {
   if (block) given++;
-  bytes += malloc_usable_size(block);
   return block;
 }
 
@@ -33,118 +41,138 @@ int __wrap_posix_memalign(void **block, size_t align, size_t size) {
   if (error == 0) counted(*block);
   return error;
 }
-
 void *__wrap_realloc(void *block, size_t size) {
   if (is_refused()) return NULL;
-  if (!block) return counted(__real_malloc(size));
-  size_t before = malloc_usable_size(block);
-  void *moved = __real_realloc(block, size);
-  if (moved) bytes += malloc_usable_size(moved) - before;
-  return moved;
+  return block ? __real_realloc(block, size) : counted(__real_malloc(size));
 }
-
 void __wrap_free(void *block) {
   if (block) given--;
-  bytes -= malloc_usable_size(block);
   __real_free(block);
 }
 
-/* of a mutex: 7 of the library's mutex, as scripts/gate/refuse_memory counts, and one each for what its seats share, a list
- * of them, and what ligdrosa.c keeps */
-enum { REQUESTS = 10 };
-static lfm_mutex mutex, *called;
-static lfm_seat seat;
+void *__wrap_mmap(void *at, size_t bytes, int protection, int flags, int file, off_t offset) {
+  if (is_refused()) return MAP_FAILED;
+  void *made = __real_mmap(at, bytes, protection, flags, file, offset);
+  if (made != MAP_FAILED) mapped += (long)bytes;
+  return made;
+}
+int __wrap_munmap(void *at, size_t bytes) {
+  mapped -= (long)bytes;
+  return __real_munmap(at, bytes);
+}
 
+static lfm_mutex mutex, many[FIRST_POOL + 1];
+static lfm_condvar condvar;
+static lfm_seat seat, *found;
+
+/* Makes the call until it is not refused, each time with one more request granted: how many it needs. */
 static long refuse_each(lfm_status (*make)(void)) {
-  long before = given;
+  long blocks = given, bytes = mapped;
   for (long granted = 0;; granted++) {
+    errno = SET_BEFORE;
     allowed = granted;
     lfm_status status = make();
+    long left = allowed;
     allowed = -1;
-    if (status == LFM_DONE) return granted;
+    EXPECT(errno, SET_BEFORE);
+    if (status == LFM_DONE) return granted - left;
     EXPECT(status, LFM_NO_MEMORY);
-    EXPECT(given, before);
+    EXPECT(given, blocks);
+    EXPECT(mapped, bytes);
   }
 }
 
 static lfm_status make_mutex(void) { return lfm_mutex_new(&mutex, 3, 100); }
-static lfm_status lock_here(void) { return lfm_lock_here(called); }
-
-/* With this many seats it takes no more than ligdrosa.h says. */
-static void take_memory(uint64_t seats) {
-  EXPECT(lfm_mutex_new(&mutex, seats, 100), LFM_DONE);
-  EXPECT(bytes <= 700 + 153 * seats, true);
-  EXPECT(lfm_mutex_close(&mutex), LFM_DONE);
-  EXPECT(bytes, 0);
+static lfm_status take_seat(void) { return lfm_seat_take(&mutex, &seat); }
+static lfm_status make_last(void) { return lfm_lock_here(&many[FIRST_POOL]); }
+static lfm_status find_seat(void) {
+  lfm_status cause = LFM_DONE;
+  found = lfm_seat_here(&mutex, &cause);
+  return found ? LFM_DONE : cause;
 }
 
-/* One of few seats takes little, with what malloc adds to each block. */
-static void take_little(void) {
-  enum { FEW = 8, ADDED = 8 };
-  EXPECT(lfm_mutex_new(&mutex, FEW, LFM_MOST_TAKES), LFM_DONE);
-  printf("a mutex of %d seats takes %zu bytes in %ld blocks\n", FEW, bytes + ADDED * (size_t)given + sizeof mutex, given);
-  EXPECT(bytes + ADDED * (size_t)given + sizeof mutex <= 1640, true);
-  EXPECT(lfm_mutex_close(&mutex), LFM_DONE);
+/* A lock of a mutex that is not open, when nothing may be asked for: it stays as it was. */
+static void open_nothing(void) {
+  lfm_mutex own = LFM_MUTEX_INIT, before = own;
+  allowed = 0;
+  EXPECT(lfm_lock_here(&own), LFM_NO_MEMORY);
+  EXPECT(lfm_seat_take(&own, &seat), LFM_NO_MEMORY);
+  EXPECT(memcmp(&own, &before, sizeof own), 0);
+  EXPECT(lfm_number(&seat), 0);
+  allowed = -1;
 }
 
-static void seats_in_hand(void) {
-  EXPECT(refuse_each(make_mutex), REQUESTS);
-  allowed = 0; /* no other call with a seat in hand asks for memory, except an exchange */
-  EXPECT(lfm_seat_take(&mutex, &seat), LFM_DONE);
+static void lock_nested(void) {
   EXPECT(lfm_lock(&seat), LFM_DONE);
   EXPECT(lfm_lock(&seat), LFM_AGAIN);
   EXPECT(lfm_unlock(&seat), LFM_STILL);
-  EXPECT(lfm_unlock(&seat), LFM_DONE);
-  for (int i = 1; i < 100; i++) {
-    EXPECT(lfm_lock(&seat), LFM_DONE);
-    EXPECT(lfm_unlock(&seat), LFM_DONE);
-  }
-  EXPECT(lfm_lock(&seat), LFM_SPENT);
-  allowed = -1;
-  EXPECT(lfm_lock(&seat), LFM_DONE);
-  EXPECT(lfm_unlock(&seat), LFM_DONE);
-  EXPECT(lfm_seat_give(&seat), LFM_DONE);
-  EXPECT(lfm_mutex_close(&mutex), LFM_DONE);
-  EXPECT(given, 0);
+  EXPECT(lfm_wait_for(&condvar, &seat, SHORT), LFM_TIMED_OUT);
+  EXPECT(lfm_try_lock_for_here(&mutex, 100 * SHORT), LFM_BUSY);
+  EXPECT(lfm_mutex_close(&mutex), LFM_NOT_BACK);
+  EXPECT(lfm_is_refused(lfm_unlock(&seat)), false);
+  EXPECT(lfm_lock_in_order_here(&mutex), LFM_DONE);
+  EXPECT(lfm_wake_all(&condvar), LFM_NOBODY);
+  EXPECT(lfm_unlock_here(&mutex), LFM_DONE);
 }
 
-/* The first call of a thread takes memory for the mutex, for the thread's table, and for the seat. */
-static void own_seats(void) {
-  enum { MANY = 40 };
-  static lfm_mutex all[MANY];
-  const lfm_mutex new_one = LFM_MUTEX_INIT_WITH(3);
+/* Of a thread that has not called before. */
+static void lock_first(unsigned thread) {
+  (void)thread;
+  long before = allowed;
   allowed = 0;
-  for (int i = 0; i < MANY; i++) {
-    all[i] = new_one;
-    called = &all[i];
-    EXPECT(lfm_lock_here(called), LFM_NO_MEMORY);
-    EXPECT(called->core == NULL, true);
-    allowed = REQUESTS; /* the mutex is opened, and stays so if more is refused */
-    EXPECT(lfm_lock_here(called), LFM_NO_MEMORY);
-    bool grows = i == 0 || i == 3 || i == 7 || i == 15 || i == 31;
-    allowed = 1;
-    if (grows) EXPECT(lfm_lock_here(called), LFM_NO_MEMORY); /* the table has grown, and stays so */
-    allowed = 0;
-    EXPECT(refuse_each(lock_here), 1);
-    allowed = 0;
-    EXPECT(lfm_lock_here(called), LFM_AGAIN);
-    EXPECT(lfm_unlock_here(called), LFM_STILL);
-    EXPECT(lfm_depth_here(&all[i / 2]), 1); /* the table has kept what it had */
+  EXPECT(lfm_lock_here(&mutex), LFM_DONE);
+  EXPECT(lfm_unlock_here(&mutex), LFM_DONE);
+  allowed = before;
+}
+
+static void calls_without_memory(void) {
+  allowed = 0;
+  lock_nested();
+  for (int i = 0; i < FIRST_POOL - 1; i++) {
+    const lfm_mutex new_one = LFM_MUTEX_INIT;
+    many[i] = new_one;
+    EXPECT(lfm_lock_here(&many[i]), LFM_DONE);
+    EXPECT(lfm_unlock_here(&many[i]), LFM_DONE);
   }
-  for (int i = 0; i < MANY; i++) {
-    EXPECT(lfm_unlock_here(&all[i]), LFM_DONE);
-    EXPECT(lfm_mutex_close(&all[i]), LFM_DONE);
-  }
-  EXPECT(given, 1); /* the table */
   allowed = -1;
+  in_threads(1, lock_first);
+}
+
+/* The first pool is full. While another one is refused, the mutexes that are open go on, and one that is closed makes room. */
+static void grow(void) {
+  const lfm_mutex new_one = LFM_MUTEX_INIT;
+  many[FIRST_POOL] = new_one;
+  allowed = 0;
+  EXPECT(lfm_lock_here(&many[FIRST_POOL]), LFM_NO_MEMORY);
+  EXPECT(many[FIRST_POOL].core == NULL, true);
+  lock_nested();
+  EXPECT(lfm_mutex_close(&many[0]), LFM_DONE);
+  EXPECT(lfm_lock_here(&many[FIRST_POOL]), LFM_DONE);
+  EXPECT(lfm_unlock_here(&many[FIRST_POOL]), LFM_DONE);
+  many[0] = many[FIRST_POOL];
+  many[FIRST_POOL] = new_one;
+  allowed = -1;
+  printf("a further pool is opened by %ld requests, for ", refuse_each(make_last));
+  EXPECT(lfm_unlock_here(&many[FIRST_POOL]), LFM_DONE);
+  lock_nested();
 }
 
 int main(void) {
-  take_little();
-  take_memory(1);
-  take_memory(64);
-  take_memory(4095);
-  seats_in_hand();
-  own_seats();
+  open_nothing();
+  long requests = refuse_each(make_mutex);
+  EXPECT(requests >= 2, true); /* for what the library keeps of a pool, and for its words */
+  printf("the first pool is opened by %ld requests, for %ld bytes of addresses\n", requests, mapped);
+  EXPECT(refuse_each(take_seat), 1);
+  calls_without_memory();
+  long bytes = mapped;
+  grow();
+  printf("%ld bytes of addresses\n", mapped - bytes);
+  EXPECT(given, 0);
+  EXPECT(refuse_each(find_seat), 1);
+  EXPECT(given, 1);
+  EXPECT(lfm_seat_give(found), LFM_DONE);
+  EXPECT(given, 0);
+  EXPECT(lfm_seat_give(&seat), LFM_DONE);
+  EXPECT(lfm_mutex_close(&mutex), LFM_DONE);
   return 0;
 }

@@ -1,15 +1,18 @@
-/* Seats that find themselves. Threads come and go, more than there are seats. Mutexes are opened by their first calls,
- * nested, and many: a call takes about as long among 10,000 as among 10. A mutex is destroyed by the thread that acquires it
- * last, at once. The library's own memory goes back as threads take other seats, and when they end. Destructors of
- * thread-specific data lock too. */
+/* Seats that find themselves. Threads come and go, more than there are numbers. Mutexes are opened by their first calls, nested,
+ * and many: a call takes about as long among 10,000 as among 10. A mutex is destroyed by the thread that acquires it last, at
+ * once. A thread gives back what lfm_seat_here has answered, and destructors of thread-specific data lock too. */
 #define _GNU_SOURCE
-#include <malloc.h>
 #include "delayed.h"
 #include "expect.h"
 
-enum { MANY = 10000, FEW = 10, LOCKS = 20000, THREADS = 8, COMERS = 2000, ROUNDS = 20000, ENDED = 200 };
+#if defined(__SANITIZE_THREAD__)
+enum { LOCKS = 4000 };
+#else
+enum { LOCKS = 20000 };
+#endif
+enum { MANY = 10000, FEW = 10, THREADS = 8, COMERS = 2000, ROUNDS = 20000 };
 enum { LIMIT = 2000000000 /* nanoseconds: on a busy machine, or with a sanitizer, there are fewer rounds */ };
-static lfm_mutex mutex = LFM_MUTEX_INIT_WITH(THREADS), inner = LFM_MUTEX_INIT_WITH(THREADS);
+static lfm_mutex mutex = LFM_MUTEX_INIT, inner = LFM_MUTEX_INIT;
 static uint64_t total, nested_total;
 
 static void lock(lfm_mutex *of) { EXPECT(lfm_lock_here(of), LFM_DONE); }
@@ -37,7 +40,7 @@ static void *count_once(void *at) {
   return at;
 }
 
-/* Of 8 seats as many threads use one at a time, and give it back as they end. */
+/* Each thread gives its number back as it ends: on a quiet machine there are four times as many threads as numbers. */
 static void come_and_go(void) {
   pthread_t threads[THREADS];
   uint64_t begun = nanoseconds_now(), rounds = 0;
@@ -68,7 +71,7 @@ static double among(lfm_mutex *all, unsigned count) {
 
 static void many_mutexes(void) {
   lfm_mutex *all = (lfm_mutex *)calloc(MANY, sizeof *all);
-  const lfm_mutex new_one = LFM_MUTEX_INIT_WITH(2);
+  const lfm_mutex new_one = LFM_MUTEX_INIT;
   EXPECT(all == NULL, false);
   for (int i = 0; i < MANY; i++) all[i] = new_one;
   double few = among(all, FEW), many = among(all, MANY);
@@ -86,7 +89,7 @@ typedef struct shared {
 static shared *passed, the_end;
 
 static shared *new_shared(void) {
-  const lfm_mutex new_one = LFM_MUTEX_INIT_WITH(2);
+  const lfm_mutex new_one = LFM_MUTEX_INIT;
   shared *at = (shared *)calloc(1, sizeof *at);
   at->mutex = new_one;
   at->users = 2;
@@ -133,111 +136,68 @@ static void share(unsigned thread) {
     receive_shared();
 }
 
-/* A thread that lives on gives seats of ended mutexes back as it takes others. */
-static lfm_mutex *ended;
-static int step;
-
-static void wait_for_step(int wanted) {
-  while (__atomic_load_n(&step, __ATOMIC_SEQ_CST) < wanted) sched_yield();
-}
-
-static void live_on(unsigned thread) {
-  for (int i = 0; i < ENDED; i++) {
-    if (thread == 0) {
-      wait_for_step(2 * i);
-      lock(&ended[i]);
-      unlock(&ended[i]);
-      __atomic_store_n(&step, 2 * i + 1, __ATOMIC_SEQ_CST);
-    } else {
-      wait_for_step(2 * i + 1);
-      EXPECT(lfm_mutex_close(&ended[i]), LFM_DONE);
-      __atomic_store_n(&step, 2 * i + 2, __ATOMIC_SEQ_CST);
-    }
-  }
-}
-
-static long bytes_in_use(void) {
-  struct mallinfo2 all = mallinfo2();
-  return (long)(all.uordblks + all.hblkhd);
-}
-
-static void memory_of_ended(void) {
-  ended = (lfm_mutex *)calloc(ENDED, sizeof *ended);
-  long before = bytes_in_use();
-  for (int i = 0; i < ENDED; i++) EXPECT(lfm_mutex_new(&ended[i], 4095, 100), LFM_DONE);
-  long opened = bytes_in_use();
-  in_threads(2, live_on);
-  EXPECT(bytes_in_use() - before <= (opened - before) / 20, true);
-  free(ended);
-}
-
-/* A living thread gives its seat back, and another takes it. No thread gives back what another has found. */
-static void *give_of_other(void *seat) {
-  EXPECT(lfm_seat_give((lfm_seat *)seat), LFM_FOREIGN);
-  return NULL;
-}
-
-static void *lock_apart(void *at) {
-  EXPECT(lfm_lock_here(&inner), at ? LFM_NO_SEAT : LFM_DONE);
-  EXPECT(lfm_unlock_here(&inner), at ? LFM_NOT_OWNER : LFM_DONE);
-  if (!at) return NULL;
-  EXPECT(lfm_seat_give_here(&inner), LFM_BLANK);
-  return NULL;
-}
-
-static void apart(void *at) {
-  pthread_t thread;
-  EXPECT(pthread_create(&thread, NULL, lock_apart, at), 0);
-  EXPECT(pthread_join(thread, NULL), 0);
-}
-
 /* A seat that its thread found is given back also as one in hand is, and not by another thread. */
 static void *give_of_another(void *seat) {
   EXPECT(lfm_seat_give((lfm_seat *)seat), LFM_FOREIGN);
   return NULL;
 }
 
-static void give_found_seat(void) {
+static void give_to_another(lfm_seat *seat) {
   pthread_t thread;
-  lfm_status cause;
-  lfm_seat *seat = lfm_seat_here(&inner, &cause);
   EXPECT(pthread_create(&thread, NULL, give_of_another, seat), 0);
   EXPECT(pthread_join(thread, NULL), 0);
+}
+
+static lfm_seat *found_seat(void) {
+  lfm_status cause = LFM_DONE;
+  lfm_seat *seat = lfm_seat_here(&inner, &cause);
+  EXPECT(seat == NULL || cause != LFM_DONE, false);
+  return seat;
+}
+
+static void give_found_seat(void) {
+  lfm_seat *seat = found_seat();
+  EXPECT(found_seat() == seat, true);
+  give_to_another(seat);
   EXPECT(lfm_lock(seat), LFM_DONE);
+  EXPECT(lfm_lock_here(&inner), LFM_AGAIN);
   EXPECT(lfm_seat_give(seat), LFM_HOLDING);
-  EXPECT(lfm_unlock(seat), LFM_DONE);
+  EXPECT(lfm_seat_give_here(&inner), LFM_HOLDING);
+  EXPECT(lfm_unlock(seat), LFM_STILL);
+  EXPECT(lfm_unlock_here(&inner), LFM_DONE);
   EXPECT(lfm_seat_give(seat), LFM_DONE);
-  EXPECT(lfm_seat_give_here(&inner), LFM_BLANK);
   lock(&inner);
   unlock(&inner);
 }
 
+/* The thread keeps its number: what it gives back is the seat that it found. */
 static void give_here(void) {
-  static lfm_mutex never_opened;
-  const lfm_mutex new_one = LFM_MUTEX_INIT_WITH(1);
-  EXPECT(lfm_mutex_close(&inner), LFM_DONE);
-  inner = new_one;
+  static lfm_mutex zero;
   EXPECT(lfm_seat_give_here(NULL), LFM_BLANK);
-  EXPECT(lfm_seat_give_here(&never_opened), LFM_BLANK);
-  EXPECT(lfm_seat_give_here(&inner), LFM_BLANK);
+  EXPECT(lfm_seat_give_here(&zero), LFM_BLANK);
+  uint64_t number = lfm_number(found_seat());
   for (int i = 0; i < 3; i++) {
-    lock(&inner);
-    EXPECT(lfm_seat_give_here(&inner), LFM_HOLDING);
-    unlock(&inner);
-    apart(&inner);
-    pthread_t thread;
-    lfm_status cause;
-    lfm_seat *seat = lfm_seat_here(&inner, &cause);
-    EXPECT(pthread_create(&thread, NULL, give_of_other, seat), 0);
-    EXPECT(pthread_join(thread, NULL), 0);
-    EXPECT(i == 1 ? lfm_seat_give(seat) : lfm_seat_give_here(&inner), LFM_DONE);
-    EXPECT(lfm_seat_give_here(&inner), LFM_BLANK);
+    EXPECT(lfm_seat_give_here(&inner), LFM_DONE);
     EXPECT(lfm_unlock_here(&inner), LFM_NOT_OWNER);
-    apart(NULL);
+    give_to_another(found_seat());
+    EXPECT(lfm_number(found_seat()), number);
   }
 }
 
-/* A destructor of thread-specific data locks again and again, also after the thread's seats were given back. */
+/* The mutex is closed with a seat that the thread found, which goes with it. */
+static void close_found(void) {
+  const lfm_mutex new_one = LFM_MUTEX_INIT;
+  for (int i = 0; i < 3; i++) {
+    EXPECT(lfm_lock(found_seat()), LFM_DONE);
+    EXPECT(lfm_mutex_close(&inner), LFM_HOLDING);
+    EXPECT(lfm_unlock_here(&inner), LFM_DONE);
+    EXPECT(lfm_mutex_close(&inner), LFM_DONE);
+    EXPECT(lfm_seat_give_here(&inner), LFM_BLANK);
+    inner = new_one;
+  }
+}
+
+/* A destructor of thread-specific data locks again and again, also after the thread's number was given back. */
 static pthread_key_t key;
 static unsigned locked_late;
 static void lock_late(void *at) {
@@ -270,10 +230,10 @@ int main(void) {
   ends();
   many_mutexes();
   in_threads(2, share);
-  memory_of_ended();
   give_here();
   give_found_seat();
-  EXPECT(lfm_mutex_close(&inner), LFM_DONE);
+  close_found();
+  EXPECT(lfm_number(found_seat()) != 0, true); /* a search for leaks finds a seat that is not given back */
   EXPECT(lfm_mutex_close(&mutex), LFM_DONE);
   return 0;
 }

@@ -1,6 +1,6 @@
-/* The exports of a pool of mutexes, of which ligdrosa.h has no call yet: what each answers, with one thread, and that no two
- * threads hold one mutex, with two and with four. No thread sleeps here: one whose seat sleeps tries to receive until it has
- * been granted the mutex. */
+/* The exports of a pool of mutexes, of which the calls of ligdrosa.h are made: what each answers, with one thread, and that no
+ * two threads hold one mutex, with two and with four. No thread sleeps here: one whose seat sleeps tries to receive until it
+ * has been granted the mutex. */
 #define _GNU_SOURCE
 #include "expect.h"
 #include <sched.h>
@@ -9,7 +9,7 @@
 enum { MUTEXES = 3, MOST_DEPTH = 65535, ROUNDS = 20000, MOST_THREADS = 4, NO_MUTEX = MUTEXES };
 
 /* No pool is closed, so the handles stay where a search for leaks finds them. */
-enum { MOST_ROOMS = 32 };
+enum { MOST_ROOMS = LFM_MOST_SEATS + 1024 };
 static void *rooms[MOST_ROOMS];
 static unsigned count_of_rooms;
 
@@ -51,11 +51,13 @@ static void refuses(void *seat, uint64_t mutex, lfm_status status) {
   EXPECT(lfm_c_pool_receive(seat, mutex), status);
   EXPECT(lfm_c_pool_unlock(seat, mutex), status);
   EXPECT(lfm_c_pool_depth(seat, mutex), 0);
+  EXPECT(lfm_c_pool_count(seat, mutex), 0);
 }
 
 static void opens_and_refuses(void) {
   void *pool = blank_pool(), *seat = blank_seat();
   refuses(seat, 0, LFM_BLANK);
+  EXPECT(lfm_c_pool_number(seat), 0);
   EXPECT(lfm_c_pool_take_seat(pool, seat), LFM_BLANK);
   EXPECT(lfm_c_pool_open(pool, 0, 1), LFM_LIMIT);
   EXPECT(lfm_c_pool_open(pool, (uint64_t)1 << 32, 1), LFM_LIMIT);
@@ -65,10 +67,28 @@ static void opens_and_refuses(void) {
   EXPECT(lfm_c_pool_open(pool, MUTEXES, 2), LFM_TAKEN);
   EXPECT(lfm_c_pool_take_seat(pool, seat), LFM_DONE);
   EXPECT(lfm_c_pool_take_seat(pool, seat), LFM_TAKEN);
+  EXPECT(lfm_c_pool_number(seat), 2);
   refuses(seat, NO_MUTEX, LFM_LIMIT);
   refuses(seat, UINT64_MAX, LFM_LIMIT);
-  EXPECT(lfm_c_pool_take_seat(pool, blank_seat()), LFM_DONE);
+  EXPECT(lfm_c_pool_number(taken_seat(pool)), 1);
   EXPECT(lfm_c_pool_take_seat(pool, blank_seat()), LFM_NO_SEAT);
+}
+
+/* Of a pool of any size the seats are taken with the numbers 2, 3 and so on, and then 1. Each works. */
+static void takes_each_seat(uint64_t seats) {
+  void *pool = open_pool(1, seats), *last = NULL;
+  for (uint64_t taken = 1; taken <= seats; taken++) {
+    void *seat = taken_seat(pool);
+    EXPECT(lfm_c_pool_number(seat), taken < seats ? taken + 1 : 1);
+    EXPECT(lfm_c_pool_try_lock(seat, 0), LFM_DONE);
+    if (last) EXPECT(lfm_c_pool_try_lock(last, 0), LFM_BUSY);
+    EXPECT(lfm_c_pool_unlock(seat, 0), LFM_DONE);
+    last = seat;
+  }
+  void *seat = blank_seat();
+  EXPECT(lfm_c_pool_take_seat(pool, seat), LFM_NO_SEAT);
+  EXPECT(lfm_c_pool_take_seat(pool, seat), LFM_NO_SEAT);
+  EXPECT(lfm_c_pool_number(seat), 0);
 }
 
 static void deepens(void *seat, uint64_t mutex) {
@@ -87,7 +107,9 @@ static void deepens(void *seat, uint64_t mutex) {
 /* The first seat hands a mutex over to the second, which sleeps. */
 static void hands_over(void *first, void *second, uint64_t mutex) {
   uint64_t other = (mutex + 1) % MUTEXES;
+  EXPECT(lfm_c_pool_count(first, mutex), 0);
   EXPECT(lfm_c_pool_try_lock(first, mutex), LFM_DONE);
+  EXPECT(lfm_c_pool_count(first, mutex), 1);
   EXPECT(lfm_c_pool_try_lock(first, mutex), LFM_AGAIN);
   EXPECT(lfm_c_pool_try_lock(second, mutex), LFM_BUSY);
   EXPECT(lfm_c_pool_unlock(second, mutex), LFM_NOT_OWNER);
@@ -99,10 +121,13 @@ static void hands_over(void *first, void *second, uint64_t mutex) {
   EXPECT(lfm_c_pool_unlock(second, other), LFM_SEAT_ASLEEP);
   EXPECT(lfm_c_pool_receive(second, other), LFM_NOT_WAITING);
   EXPECT(lfm_c_pool_receive(second, mutex), LFM_ASLEEP);
+  EXPECT(lfm_c_pool_count(second, mutex), 2);
+  EXPECT(lfm_c_pool_count(second, other), 1);
   EXPECT(lfm_c_pool_depth(second, mutex), 0);
   EXPECT(lfm_c_pool_depth(second, other), 1);
   EXPECT(lfm_c_pool_unlock(first, mutex), LFM_STILL);
-  EXPECT(lfm_c_pool_unlock(first, mutex), LFM_GRANTED + 256 * 2);
+  EXPECT(lfm_c_pool_unlock(first, mutex), LFM_GRANTED + 256 * lfm_c_pool_number(second));
+  EXPECT(lfm_c_pool_count(first, mutex), 1);
   EXPECT(lfm_c_pool_receive(second, mutex), LFM_DONE);
   EXPECT(lfm_c_pool_depth(second, mutex), 1);
   EXPECT(lfm_c_pool_unlock(second, mutex), LFM_DONE);
@@ -178,6 +203,9 @@ static void sleeps_and_loses_no_addition(unsigned count) {
 
 int main(void) {
   opens_and_refuses();
+  takes_each_seat(1);
+  takes_each_seat(5);
+  takes_each_seat(LFM_MOST_SEATS);
   answers();
   sleeps_and_loses_no_addition(2);
   sleeps_and_loses_no_addition(4);

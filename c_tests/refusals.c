@@ -1,51 +1,12 @@
-/* Each refusal, in one thread: a refused call changes nothing. And memory of calloc is aligned enough. Refused memory has a
- * test of its own.
+/* Each refusal of a call of an open mutex, in one thread: a refused call changes nothing. What is refused as a mutex is opened,
+ * refused memory, and numbers that are all taken have tests of their own.
  *
- * The test has the C file of the library in it, and makes some of its calls itself. It wraps those that tell the sizes of
- * handles, so that the library can seem to be of another version. */
-#define lfm_c_mutex_size seen_mutex_size
-#define lfm_c_mutex_align seen_mutex_align
-#define lfm_c_seat_size seen_seat_size
-#define lfm_c_seat_align seen_seat_align
+ * The test has the C file of the library in it, and makes some of its calls itself. */
 #include "../c/ligdrosa.c"
-#undef lfm_c_mutex_size
-#undef lfm_c_mutex_align
-#undef lfm_c_seat_size
-#undef lfm_c_seat_align
 #include "expect.h"
-size_t lfm_c_mutex_size(void);
-size_t lfm_c_mutex_align(void);
-size_t lfm_c_seat_size(void);
-size_t lfm_c_seat_align(void);
 
 static lfm_mutex mutex;
 static lfm_seat first, second, third;
-
-enum { MUTEX_SIZE, MUTEX_ALIGN, SEAT_SIZE, SEAT_ALIGN, ALL };
-static int too_much = ALL; /* which of these is one more than the header has room for */
-
-static size_t seen(int which, size_t told, size_t room) { return which == too_much ? room + 1 : told; }
-size_t seen_mutex_size(void) { return seen(MUTEX_SIZE, lfm_c_mutex_size(), MUTEX_BYTES); }
-size_t seen_mutex_align(void) { return seen(MUTEX_ALIGN, lfm_c_mutex_align(), ALIGNMENT); }
-size_t seen_seat_size(void) { return seen(SEAT_SIZE, lfm_c_seat_size(), SEAT_BYTES); }
-size_t seen_seat_align(void) { return seen(SEAT_ALIGN, lfm_c_seat_align(), ALIGNMENT); }
-
-/* It is refused before there is a handle, for which there may be too little room. */
-static void a_library_of_another_version(void) {
-  static lfm_mutex own;
-  static const lfm_mutex blank;
-  for (too_much = 0; too_much < ALL; too_much++) {
-    EXPECT(lfm_mutex_new(&own, 1, 1), LFM_OTHER_HEADER);
-    EXPECT(memcmp(&own, &blank, sizeof own), 0);
-  }
-  EXPECT(lfm_mutex_open(&own, 1, 1, LFM_VERSION + 100), LFM_OTHER_HEADER);
-  EXPECT(memcmp(&own, &blank, sizeof own), 0);
-  EXPECT(lfm_mutex_new(&own, 1, 1), LFM_DONE);
-  EXPECT(lfm_mutex_close(&own), LFM_DONE);
-  EXPECT(memcmp(&own, &blank, sizeof own), 0);
-  static lfm_mutex other = {NULL, 4, LFM_VERSION + 100};
-  EXPECT(lfm_lock_here(&other), LFM_OTHER_HEADER);
-}
 
 static void what_is_blank(void) {
   static lfm_mutex blank;
@@ -93,39 +54,20 @@ static void what_is_blank(void) {
 
 /* A call makes a handle blank, whatever bytes lay there. */
 static void what_the_library_calls_blank(void) {
-  static unsigned char a[MUTEX_BYTES] __attribute__((aligned(16))), b[SEAT_BYTES] __attribute__((aligned(16)));
+  static unsigned char a[POOL_BYTES] __attribute__((aligned(LINE))), b[SEAT_BYTES] __attribute__((aligned(LINE)));
   memset(a, 0xA5, sizeof a);
   memset(b, 0xA5, sizeof b);
-  lfm_c_blank_mutex(a);
-  lfm_c_blank_seat(b);
-  EXPECT(lfm_c_take_seat(a, b), LFM_BLANK);
-  EXPECT(lfm_c_give_seat(a, b), LFM_BLANK);
-  EXPECT(lfm_c_close(a), LFM_BLANK);
-  EXPECT(lfm_c_ask(b), LFM_BLANK);
-  EXPECT(lfm_c_receive(b), LFM_BLANK);
-  EXPECT(lfm_c_try_lock(b), LFM_BLANK);
-  EXPECT(lfm_c_unlock(b), LFM_BLANK);
-  EXPECT(lfm_c_number(b) + lfm_c_depth(b) + lfm_c_left(b) + lfm_c_count(b), 0);
-  EXPECT(lfm_c_open(a, 1, 1), LFM_DONE);
-  EXPECT(lfm_c_open(a, 1, 1), LFM_TAKEN);
-  EXPECT(lfm_c_take_seat(a, b), LFM_DONE);
-  EXPECT(lfm_c_give_seat(a, b), LFM_DONE);
-  EXPECT(lfm_c_close(a), LFM_DONE);
+  lfm_c_blank_pool(a);
+  lfm_c_blank_pool_seat(b);
+  EXPECT(lfm_c_pool_take_seat(a, b), LFM_BLANK);
+  EXPECT(lfm_c_pool_ask(b, 0), LFM_BLANK);
+  EXPECT(lfm_c_pool_receive(b, 0), LFM_BLANK);
+  EXPECT(lfm_c_pool_try_lock(b, 0), LFM_BLANK);
+  EXPECT(lfm_c_pool_unlock(b, 0), LFM_BLANK);
+  EXPECT(lfm_c_pool_number(b) + lfm_c_pool_depth(b, 0) + lfm_c_pool_count(b, 0), 0);
 }
 
-static void limits(void) {
-  EXPECT(lfm_mutex_new(&mutex, 0, 1), LFM_LIMIT);
-  EXPECT(lfm_mutex_new(&mutex, 4096, 1), LFM_LIMIT);
-  EXPECT(lfm_mutex_new(&mutex, UINT64_MAX, 1), LFM_LIMIT);
-  EXPECT(lfm_mutex_new(&mutex, 1, 0), LFM_LIMIT);
-  EXPECT(lfm_mutex_new(&mutex, 1, ((uint64_t)1 << 36) + 1), LFM_LIMIT);
-  EXPECT(lfm_mutex_new(&mutex, 4095, (uint64_t)1 << 36), LFM_DONE);
-  EXPECT(lfm_mutex_close(&mutex), LFM_DONE);
-  static lfm_mutex none = LFM_MUTEX_INIT_WITH(0), many = LFM_MUTEX_INIT_WITH(4096);
-  EXPECT(lfm_lock_here(&none), LFM_LIMIT);
-  EXPECT(lfm_lock_here(&many), LFM_LIMIT);
-}
-
+/* How many seats there are is not limited by the mutex. */
 static void seats_taken_and_back(void) {
   EXPECT(lfm_mutex_new(&mutex, 2, 100), LFM_DONE);
   EXPECT(lfm_mutex_new(&mutex, 2, 100), LFM_TAKEN);
@@ -133,23 +75,23 @@ static void seats_taken_and_back(void) {
   EXPECT(lfm_seat_take(&mutex, &first), LFM_DONE);
   EXPECT(lfm_seat_take(&mutex, &first), LFM_TAKEN);
   EXPECT(lfm_seat_take(&mutex, &second), LFM_DONE);
-  EXPECT(lfm_seat_take(&mutex, &third), LFM_NO_SEAT);
-  EXPECT(lfm_number(&first), 1);
-  EXPECT(lfm_number(&second), 2);
+  EXPECT(lfm_seat_take(&mutex, &third), LFM_DONE);
   EXPECT(lfm_lock(&first), LFM_DONE);
   EXPECT(lfm_seat_give(&first), LFM_HOLDING);
   EXPECT(lfm_mutex_close(&mutex), LFM_NOT_BACK);
-  EXPECT(lfm_c_close(mutex.core->handle), LFM_NOT_BACK + 256 * 1);
   EXPECT(lfm_depth(&first), 1);
   EXPECT(lfm_unlock(&first), LFM_DONE);
-  EXPECT(lfm_left(&first), 99);
+  uint64_t number = lfm_number(&first);
+  EXPECT(number != 0 && number != lfm_number(&second) && number != lfm_number(&third), true);
   EXPECT(lfm_seat_give(&first), LFM_DONE);
+  EXPECT(lfm_number(&first), 0);
   EXPECT(lfm_seat_give(&first), LFM_BLANK);
+  EXPECT(lfm_seat_give(&third), LFM_DONE);
   EXPECT(lfm_mutex_close(&mutex), LFM_NOT_BACK);
-  EXPECT(lfm_c_close(mutex.core->handle), LFM_NOT_BACK + 256 * 2);
   EXPECT(lfm_seat_take(&mutex, &third), LFM_DONE);
-  EXPECT(lfm_number(&third), 1);
-  EXPECT(lfm_left(&third), 99);
+  EXPECT(lfm_seat_take(&mutex, &first), LFM_DONE);
+  EXPECT(lfm_number(&first), number); /* that which was given back last is taken first */
+  EXPECT(lfm_seat_give(&first), LFM_DONE);
   EXPECT(lfm_seat_give(&third), LFM_DONE);
   EXPECT(lfm_seat_give(&second), LFM_DONE);
   EXPECT(lfm_mutex_close(&mutex), LFM_DONE);
@@ -157,8 +99,22 @@ static void seats_taken_and_back(void) {
   EXPECT(lfm_seat_take(&mutex, &first), LFM_BLANK);
 }
 
-static void two_seats_of(uint64_t budget) {
-  EXPECT(lfm_mutex_new(&mutex, 2, budget), LFM_DONE);
+/* What is left is told as if nothing were ever used up, by seats and by mutexes. */
+static void what_is_left(void) {
+  EXPECT(lfm_mutex_new(&mutex, 3, 2), LFM_DONE);
+  EXPECT(lfm_seat_take(&mutex, &first), LFM_DONE);
+  for (int i = 0; i < 10; i++) {
+    EXPECT(lfm_lock(&first), LFM_DONE);
+    EXPECT(lfm_left(&first), LFM_MOST_TAKES);
+    EXPECT(lfm_unlock(&first), LFM_DONE);
+  }
+  EXPECT(lfm_takes_left(&mutex), 3 * LFM_MOST_TAKES);
+  EXPECT(lfm_seat_give(&first), LFM_DONE);
+  EXPECT(lfm_mutex_close(&mutex), LFM_DONE);
+}
+
+static void two_seats(void) {
+  EXPECT(lfm_mutex_new(&mutex, 2, 100), LFM_DONE);
   EXPECT(lfm_seat_take(&mutex, &first), LFM_DONE);
   EXPECT(lfm_seat_take(&mutex, &second), LFM_DONE);
 }
@@ -169,61 +125,34 @@ static void both_back(void) {
   EXPECT(lfm_mutex_close(&mutex), LFM_DONE);
 }
 
-/* As many seats are given back as the mutex has, and one of them is another mutex's, with a number that is back already. So a
- * seat of its own is missing, whether it holds or not. Once each seat is back at its mutex, both mutexes close. */
-static void a_seat_of_another_mutex(void) {
-  static lfm_mutex other;
-  two_seats_of(10);
-  EXPECT(lfm_mutex_new(&other, 2, 10), LFM_DONE);
-  EXPECT(lfm_seat_take(&other, &third), LFM_DONE);
-  EXPECT(lfm_seat_give(&first), LFM_DONE);
-  EXPECT(lfm_c_give_seat(mutex.core->handle, third.handle), LFM_DONE);
-  EXPECT(lfm_mutex_close(&mutex), LFM_NOT_BACK);
-  EXPECT(lfm_c_close(mutex.core->handle), LFM_NOT_BACK + 256 * 2);
-  EXPECT(lfm_c_close(other.core->handle), LFM_NOT_BACK + 256 * 1);
-  EXPECT(lfm_lock(&second), LFM_DONE);
-  EXPECT(lfm_mutex_close(&mutex), LFM_NOT_BACK);
-  EXPECT(lfm_depth(&second), 1);
-  EXPECT(lfm_unlock(&second), LFM_DONE);
-  EXPECT(lfm_seat_give(&second), LFM_FOREIGN);
-  EXPECT(lfm_c_take_seat(mutex.core->handle, third.handle), LFM_DONE);
-  EXPECT(lfm_number(&third), 1);
-  EXPECT(lfm_seat_give(&third), LFM_DONE);
-  EXPECT(lfm_seat_give(&second), LFM_DONE);
-  EXPECT(lfm_mutex_close(&other), LFM_DONE);
-  EXPECT(lfm_mutex_close(&mutex), LFM_DONE);
-}
-
 static void calls_of_a_seat(void) {
-  two_seats_of(3);
+  two_seats();
   EXPECT(lfm_unlock(&first), LFM_NOT_OWNER);
   EXPECT(lfm_lock(&first), LFM_DONE);
   EXPECT(lfm_try_lock(&second), LFM_BUSY);
-  EXPECT(lfm_left(&second), 3);
   EXPECT(lfm_unlock(&second), LFM_NOT_OWNER);
   for (uint64_t depth = 2; depth <= 65535; depth++) EXPECT(lfm_lock(&first), LFM_AGAIN);
   EXPECT(lfm_lock(&first), LFM_DEPTH_FULL);
   EXPECT(lfm_try_lock(&first), LFM_DEPTH_FULL);
+  EXPECT(lfm_lock_in_order(&first), LFM_DEPTH_FULL);
+  EXPECT(lfm_try_lock_for(&first, 1), LFM_DEPTH_FULL);
   EXPECT(lfm_depth(&first), 65535);
   for (uint64_t depth = 65534; depth >= 1; depth--) EXPECT(lfm_unlock(&first), LFM_STILL);
   EXPECT(lfm_unlock(&first), LFM_DONE);
-  EXPECT(lfm_left(&first), 2);
   EXPECT(lfm_try_lock(&first), LFM_DONE);
   EXPECT(lfm_unlock(&first), LFM_DONE);
-  EXPECT(lfm_lock(&first), LFM_DONE);
-  EXPECT(lfm_unlock(&first), LFM_DONE);
-  EXPECT(lfm_lock(&first), LFM_SPENT);
-  EXPECT(lfm_try_lock(&first), LFM_SPENT);
   both_back();
 }
 
 /* A seat sleeps while it waits for the mutex: here the halves of a lock are called one by one. */
 static void calls_of_a_sleeping_seat(void) {
   static lfm_condvar condvar;
-  two_seats_of(10);
+  two_seats();
+  void *holder = seat_in(first.by, first.mutex), *sleeper = seat_in(second.by, second.mutex);
+  uint64_t index = index_of(first.mutex);
   EXPECT(lfm_lock(&first), LFM_DONE);
-  EXPECT(lfm_c_ask(second.handle), LFM_ASLEEP);
-  EXPECT(lfm_c_receive(second.handle), LFM_ASLEEP);
+  EXPECT(lfm_c_pool_ask(sleeper, index), LFM_ASLEEP);
+  EXPECT(lfm_c_pool_receive(sleeper, index), LFM_ASLEEP);
   EXPECT(lfm_lock(&second), LFM_SEAT_ASLEEP);
   EXPECT(lfm_try_lock(&second), LFM_SEAT_ASLEEP);
   EXPECT(lfm_unlock(&second), LFM_SEAT_ASLEEP);
@@ -231,9 +160,11 @@ static void calls_of_a_sleeping_seat(void) {
   EXPECT(lfm_lock_in_order(&second), LFM_SEAT_ASLEEP);
   EXPECT(lfm_try_lock_for(&second, 1), LFM_SEAT_ASLEEP);
   EXPECT(lfm_wait(&condvar, &second), LFM_SEAT_ASLEEP);
-  EXPECT(lfm_c_unlock(first.handle), LFM_GRANTED + 256 * 2);
-  EXPECT(lfm_c_receive(second.handle), LFM_DONE);
-  EXPECT(lfm_c_receive(second.handle), LFM_NOT_WAITING);
+  EXPECT(lfm_c_pool_unlock(holder, index), LFM_GRANTED + 256 * lfm_c_pool_number(sleeper));
+  first.by->holds--;
+  EXPECT(lfm_c_pool_receive(sleeper, index), LFM_DONE);
+  EXPECT(lfm_c_pool_receive(sleeper, index), LFM_NOT_WAITING);
+  second.by->holds++;
   EXPECT(lfm_unlock(&second), LFM_DONE);
   both_back();
 }
@@ -241,11 +172,10 @@ static void calls_of_a_sleeping_seat(void) {
 /* A wait that a seat refuses says why; nothing is listed then, and the seat holds as before. */
 static void waits_that_a_seat_refuses(void) {
   static lfm_condvar condvar;
-  two_seats_of(1);
+  two_seats();
   EXPECT(lfm_wait(&condvar, &first), LFM_NOT_OWNER);
   EXPECT(lfm_lock(&first), LFM_DONE);
   EXPECT(lfm_wait(&condvar, &second), LFM_NOT_OWNER);
-  EXPECT(lfm_wait(&condvar, &first), LFM_SPENT);
   EXPECT(lfm_depth(&first), 1);
   EXPECT(lfm_lock(&first), LFM_AGAIN);
   EXPECT(lfm_wait(&condvar, &first), LFM_NESTED);
@@ -261,7 +191,7 @@ static void waits_that_a_seat_refuses(void) {
 static void times_that_are_refused(void) {
   static lfm_condvar condvar;
   const struct timespec whole = {0, 0}, below = {0, -1}, above = {0, 1000000000};
-  two_seats_of(10);
+  two_seats();
   EXPECT(lfm_lock(&first), LFM_DONE);
   for (int clock = -1; clock < 12; clock++) {
     bool is_known = clock == LFM_REALTIME || clock == LFM_MONOTONIC;
@@ -283,9 +213,10 @@ static void times_that_are_refused(void) {
 }
 
 /* A thread that has no seat takes none by calls of the holder alone. */
-static void calls_of_a_thread_without_seat(void) {
-  static lfm_mutex own_mutex = LFM_MUTEX_INIT_WITH(1);
+static void calls_of_a_thread_without_seat(unsigned thread) {
+  static lfm_mutex own_mutex = LFM_MUTEX_INIT;
   static lfm_condvar condvar;
+  (void)thread;
   EXPECT(lfm_unlock_here(&own_mutex), LFM_NOT_OWNER);
   EXPECT(lfm_wait_here(&condvar, &own_mutex), LFM_NOT_OWNER);
   EXPECT(lfm_wait_for_here(&condvar, &own_mutex, 1), LFM_NOT_OWNER);
@@ -293,11 +224,13 @@ static void calls_of_a_thread_without_seat(void) {
   EXPECT(lfm_seat_take(&own_mutex, &first), LFM_DONE);
   EXPECT(lfm_unlock_here(&own_mutex), LFM_NOT_OWNER);
   EXPECT(lfm_depth_here(&own_mutex), 0);
-  EXPECT(lfm_lock_here(&own_mutex), LFM_NO_SEAT);
+  EXPECT(lfm_seat_give_here(&own_mutex), LFM_BLANK);
+  EXPECT(lfm_wake_all(&condvar), LFM_NOBODY);
+  EXPECT(own.by == &nobody, true);
+  EXPECT(lfm_lock_here(&own_mutex), LFM_DONE);
+  EXPECT(lfm_try_lock(&first), LFM_BUSY);
   EXPECT(lfm_mutex_close(&own_mutex), LFM_NOT_BACK);
   EXPECT(lfm_seat_give(&first), LFM_DONE);
-  EXPECT(lfm_lock_here(&own_mutex), LFM_DONE);
-  EXPECT(lfm_seat_take(&own_mutex, &first), LFM_NO_SEAT);
   EXPECT(lfm_mutex_close(&own_mutex), LFM_HOLDING);
   EXPECT(lfm_depth_here(&own_mutex), 1);
   EXPECT(lfm_unlock_here(&own_mutex), LFM_DONE);
@@ -317,35 +250,16 @@ static void texts(void) {
   EXPECT(lfm_version(), LFM_VERSION);
 }
 
-/* What calloc gives is aligned to 16 bytes, and need not be to a cache line. */
-static void memory_of_calloc(void) {
-  char *room = (char *)calloc(1, sizeof(lfm_mutex) + sizeof(lfm_seat) + 2 * LINE);
-  EXPECT(room == NULL, 0);
-  char *odd = room + (LINE + 16 - (uintptr_t)room % LINE) % LINE;
-  lfm_mutex *own = (lfm_mutex *)(void *)odd;
-  lfm_seat *seat = (lfm_seat *)(void *)(odd + 16 * (sizeof(lfm_mutex) / 16));
-  EXPECT(lfm_mutex_new(own, 1, 100), LFM_DONE);
-  EXPECT(lfm_seat_take(own, seat), LFM_DONE);
-  EXPECT(lfm_lock(seat), LFM_DONE);
-  EXPECT(lfm_unlock(seat), LFM_DONE);
-  EXPECT(lfm_seat_give(seat), LFM_DONE);
-  EXPECT(lfm_mutex_close(own), LFM_DONE);
-  free(room);
-}
-
 int main(void) {
   what_is_blank();
   what_the_library_calls_blank();
-  a_library_of_another_version();
-  limits();
+  in_threads(1, calls_of_a_thread_without_seat);
   seats_taken_and_back();
-  a_seat_of_another_mutex();
+  what_is_left();
   calls_of_a_seat();
   calls_of_a_sleeping_seat();
   waits_that_a_seat_refuses();
   times_that_are_refused();
-  calls_of_a_thread_without_seat();
   texts();
-  memory_of_calloc();
   return 0;
 }

@@ -1,5 +1,5 @@
-// Which calls are refused, and that a refusal is an error of the standard library. And seats: seats in hand, more threads than
-// a mutex has seats, and a mutex that is destroyed before the threads that used it end.
+// Which calls are refused, and that a refusal is an error of the standard library. And seats: seats in hand, more of them and
+// more threads than a mutex was made for, and a mutex that is destroyed before the threads that used it end.
 #include <atomic>
 #include <thread>
 #include <vector>
@@ -12,6 +12,8 @@ static_assert(sizeof(lfm::condition_variable) == 32, "and so has a condition var
 static_assert(std::is_nothrow_default_constructible<lfm::recursive_mutex>::value, "");
 static_assert(std::is_nothrow_default_constructible<lfm::condition_variable>::value, "");
 static_assert(std::is_nothrow_move_constructible<lfm::seat>::value, "");
+
+static const int DEEPEST = 65535;
 
 // Why a call is refused, or LFM_DONE.
 template <class Call> static lfm_status refusal_of(Call call) {
@@ -62,7 +64,7 @@ static void seats_that_move() {
   seats.emplace_back(mutex);
   EXPECT(seats[0].depth(), 1u);
   first.unlock();
-  EXPECT(refusal_of([&] { lfm::seat third(mutex); }), LFM_NO_SEAT);
+  EXPECT(refusal_of([&] { lfm::seat third(mutex); }), LFM_DONE);
   seats.pop_back();
   lfm::seat again(mutex), moved(std::move(again));
   EXPECT(moved.left() > 0, true);
@@ -71,14 +73,37 @@ static void seats_that_move() {
 
 static void refusals_of_seats() {
   EXPECT(refusal_of([] { lfm::mutex none(0); }), LFM_LIMIT);
+  EXPECT(refusal_of([] { lfm::mutex many(4096); }), LFM_LIMIT);
   lfm::mutex mutex(1, 1);
-  lfm::seat only(mutex);
-  EXPECT(refusal_of([&] { lfm::seat another(mutex); }), LFM_NO_SEAT);
-  lfm::seat_lock lock(only);
-  lock.lock();
-  lock.unlock();
-  EXPECT(refusal_of([&] { lock.lock(); }), LFM_SPENT);
-  EXPECT(refusal_of([&] { (void)lock.try_lock(); }), LFM_SPENT);
+  lfm::seat first(mutex), second(mutex);
+  lfm::seat_lock lock(first), other(second);
+  for (int depth = 0; depth < DEEPEST; depth++) lock.lock();
+  EXPECT(refusal_of([&] { lock.lock(); }), LFM_DEPTH_FULL);
+  EXPECT(refusal_of([&] { (void)lock.try_lock(); }), LFM_DEPTH_FULL);
+  EXPECT(refusal_of([&] { EXPECT(other.try_lock(), false); }), LFM_DONE);
+  EXPECT(refusal_of([&] { other.unlock(); }), LFM_NOT_OWNER);
+  for (int depth = 0; depth < DEEPEST; depth++) lock.unlock();
+}
+
+// More seats are in hand at a time than the process has numbers. When one is given back, there is one more.
+static void all_numbers() {
+  lfm::mutex mutex(1);
+  std::vector<lfm::seat> seats;
+  const auto take = [&] { return refusal_of([&] { seats.emplace_back(mutex); }); };
+  seats.reserve(LFM_MOST_SEATS);
+  lfm_status status = LFM_DONE;
+  while (status == LFM_DONE && seats.size() < LFM_MOST_SEATS) status = take();
+  EXPECT(status, LFM_NO_SEAT);
+  EXPECT(seats.size() > LFM_MOST_SEATS - 100, true);
+  lfm::recursive_mutex other;
+  std::thread([&] {
+    EXPECT(refusal_of([&] { other.lock(); }), LFM_NO_SEAT);
+    lfm::condition_variable().notify_all();
+  }).join();
+  seats.pop_back();
+  std::thread([&] { EXPECT(refusal_of([&] { lfm::guard hold(other); }), LFM_DONE); }).join();
+  EXPECT(take(), LFM_DONE);
+  EXPECT(take(), LFM_NO_SEAT);
 }
 
 static void refusals_of_threads() {
@@ -97,47 +122,45 @@ static void refusals_of_threads() {
   lock.unlock();
   again.unlock();
   EXPECT(refusal_of([&] { mutex.unlock(); }), LFM_NOT_OWNER);
-  for (int i = 0; i < 2; i++) lfm::guard of_mutex(mutex);
-  EXPECT(refusal_of([&] { mutex.lock(); }), LFM_SPENT);
-  EXPECT(refusal_of([&] { (void)mutex.try_lock(); }), LFM_SPENT);
-  EXPECT(refusal_of([&] { (void)mutex.try_lock_for(std::chrono::seconds(1)); }), LFM_SPENT);
-  // a thread without a seat can't lock, but may wake
+  for (int depth = 0; depth < DEEPEST; depth++) mutex.lock();
+  EXPECT(refusal_of([&] { mutex.lock(); }), LFM_DEPTH_FULL);
+  EXPECT(refusal_of([&] { (void)mutex.try_lock(); }), LFM_DEPTH_FULL);
+  EXPECT(refusal_of([&] { (void)mutex.try_lock_for(std::chrono::seconds(1)); }), LFM_DEPTH_FULL);
+  for (int depth = 0; depth < DEEPEST; depth++) mutex.unlock();
+  // a thread that has not called yet may wake
   std::thread([&] {
-    EXPECT(refusal_of([&] { mutex.lock(); }), LFM_NO_SEAT);
     condition.notify_one();
     condition.notify_all();
   }).join();
 }
 
-// As many threads as a mutex has seats can use it at a time, and many more one after another.
-static void one_thread_too_many() {
+// More threads than a mutex was made for use it at a time, and many more one after another.
+static void more_threads_than_seats() {
+  const int AT_A_TIME = 3 * LFM_USUAL_SEATS, LATER = 10;
   lfm::recursive_mutex mutex;
-  std::atomic<int> seated{0};
-  int after = 0;
-  std::atomic<bool> may_end{false}, may_all_end{false};
+  std::atomic<int> arrived{0};
+  std::atomic<bool> may_end{false};
+  int total = 0;
+  const auto count = [&] {
+    lfm::guard hold(mutex);
+    total++;
+  };
   std::vector<std::thread> threads;
-  for (int i = 0; i < LFM_USUAL_SEATS; i++)
-    threads.emplace_back([&, i] {
-      mutex.lock();
-      mutex.unlock();
-      seated++;
-      while (!(i == 0 ? may_end : may_all_end)) std::this_thread::sleep_for(std::chrono::milliseconds(1));
+  for (int i = 0; i < AT_A_TIME; i++)
+    threads.emplace_back([&] {
+      count();
+      arrived++;
+      while (!may_end) std::this_thread::sleep_for(std::chrono::milliseconds(1));
     });
-  while (seated != LFM_USUAL_SEATS) std::this_thread::yield();
-  EXPECT(refusal_of([&] { mutex.lock(); }), LFM_NO_SEAT);
+  while (arrived != AT_A_TIME) std::this_thread::yield();
+  count();
+  for (int i = 0; i < LATER; i++) std::thread(count).join();
   may_end = true;
-  threads[0].join();
-  for (int i = 0; i < 10; i++)
-    std::thread([&] {
-      std::lock_guard<lfm::recursive_mutex> lock(mutex);
-      after++;
-    }).join();
-  EXPECT(after, 10);
-  may_all_end = true;
-  for (int i = 1; i < LFM_USUAL_SEATS; i++) threads[size_t(i)].join();
+  for (std::thread &thread : threads) thread.join();
+  EXPECT(total, AT_A_TIME + 1 + LATER);
 }
 
-// Two threads use the only seat of a mutex in turn.
+// A thread that gives its seat back doesn't keep another thread from the mutex, nor itself.
 static void a_living_thread_gives_its_seat_back() {
   lfm::recursive_mutex mutex(1);
   const auto of_a_thread = [&] {
@@ -149,7 +172,7 @@ static void a_living_thread_gives_its_seat_back() {
   mutex.lock();
   EXPECT(refusal_of([&] { mutex.give_seat(); }), LFM_HOLDING);
   mutex.unlock();
-  EXPECT(of_a_thread(), LFM_NO_SEAT);
+  EXPECT(of_a_thread(), LFM_DONE);
   mutex.give_seat();
   EXPECT(of_a_thread(), LFM_DONE);
   mutex.lock();
@@ -185,8 +208,9 @@ int main() {
   seats_that_move();
   refusals_of_seats();
   refusals_of_threads();
-  one_thread_too_many();
+  more_threads_than_seats();
   a_living_thread_gives_its_seat_back();
   mutexes_that_end();
+  all_numbers();
   return 0;
 }

@@ -135,21 +135,21 @@ static void wakes_tell_whether_one_waited() {
   }
 }
 
+// No take is used up.
 static void takes_that_are_left() {
   lfm::mutex of_seats(3, 10);
-  EXPECT(of_seats.takes_left(), 30u);
+  EXPECT(of_seats.takes_left(), 3 * LFM_MOST_TAKES);
   {
     lfm::seat seat(of_seats);
     lfm::seat_lock lock(seat);
-    lock.lock();
-    lock.unlock();
-    EXPECT(seat.left(), 9u);
+    for (int i = 0; i < 20; i++) lock.lock(), lock.unlock();
+    EXPECT(seat.left(), LFM_MOST_TAKES);
   }
-  EXPECT(of_seats.takes_left(), 29u);
+  EXPECT(of_seats.takes_left(), 3 * LFM_MOST_TAKES);
   lfm::recursive_mutex mutex(2, 10);
-  for (int i = 0; i < 3; i++) mutex.lock(), mutex.unlock();
+  for (int i = 0; i < 20; i++) mutex.lock(), mutex.unlock();
   mutex.give_seat();
-  EXPECT(mutex.takes_left(), 17u);
+  EXPECT(mutex.takes_left(), 2 * LFM_MOST_TAKES);
 }
 
 // Expects that the call ends a child, with the text of a failed assertion.

@@ -5,11 +5,11 @@
  * That is rare, so the test has the C file of the library in it and wraps its asks: it prints how many seats they named, and
  * how many of these slept. */
 #define LFM_SPIN_NANOSECONDS 0
-#define lfm_c_ask seen_ask
+#define lfm_c_pool_ask seen_ask
 #include "../c/ligdrosa.c"
-#undef lfm_c_ask
+#undef lfm_c_pool_ask
 #include "expect.h"
-uint64_t lfm_c_ask(void *seat);
+uint64_t lfm_c_pool_ask(void *seat, uint64_t index);
 
 enum { MOST = 64, OUTSIDE = 300 };
 static lfm_mutex mutex;
@@ -18,13 +18,13 @@ static uint64_t guarded, counted[MOST];
 static uint64_t named, named_asleep; /* the seats that asks have named, and those that slept */
 static int over;
 
-uint64_t seen_ask(void *seat) {
-  uint64_t answer = lfm_c_ask(seat);
+uint64_t seen_ask(void *seat, uint64_t index) {
+  uint64_t answer = lfm_c_pool_ask(seat, index);
   uint64_t number = answer >> 8;
   if (number != 0) {
-    EXPECT(number <= mutex.core->seats, true);
+    EXPECT(number <= MOST_PARTICIPANTS, true);
     __atomic_fetch_add(&named, 1, __ATOMIC_RELAXED);
-    lfm_seat *granted = seat_at(mutex.core->places[number - 1]);
+    struct participant *granted = participant_of(load_mutex(&mutex), number);
     if (bell_of(&granted->bell) == LISTENED) __atomic_fetch_add(&named_asleep, 1, __ATOMIC_RELAXED);
   }
   return answer;

@@ -10,14 +10,14 @@
  * the next instruction is an atomic operation that is not allowed yet. So the test needs an x86-64. */
 #define _GNU_SOURCE
 #define LFM_SPIN_NANOSECONDS 0
-#define lfm_c_ask stopped_ask
+#define lfm_c_pool_ask stopped_ask
 #include "../c/ligdrosa.c"
-#undef lfm_c_ask
+#undef lfm_c_pool_ask
 #include "expect.h"
 #include <signal.h>
 #include <ucontext.h>
 #include <x86intrin.h>
-uint64_t lfm_c_ask(void *seat);
+uint64_t lfm_c_pool_ask(void *seat, uint64_t index);
 
 enum { STOPS = 9, ALL = 1 << 20, LIMIT = 30, TRAP_FLAG = 0x100 };
 
@@ -55,14 +55,14 @@ static void before_instruction(int number, siginfo_t *info, void *context) {
   while (self->begun > seen(&self->allowed)) sched_yield();
 }
 
-uint64_t stopped_ask(void *handle) {
+uint64_t stopped_ask(void *handle, uint64_t index) {
   if (self) __writeeflags(__readeflags() | TRAP_FLAG);
-  uint64_t answer = lfm_c_ask(handle);
+  uint64_t answer = lfm_c_pool_ask(handle, index);
   if (self) __writeeflags(__readeflags() & ~(uint64_t)TRAP_FLAG);
   uint64_t number = answer >> 8;
   if (number != 0) {
     __atomic_fetch_add(&named, 1, __ATOMIC_SEQ_CST);
-    lfm_seat *granted = seat_at(mutex.core->places[number - 1]);
+    struct participant *granted = participant_of(load_mutex(&mutex), number);
     if (bell_of(&granted->bell) == LISTENED) __atomic_fetch_add(&named_asleep, 1, __ATOMIC_SEQ_CST);
   }
   return answer;
@@ -80,7 +80,7 @@ static void *call(void *at) {
 /* Allows the thread this many operations, and waits until it has been stopped, sleeps or is done. */
 static void allow(caller *c, int operations) {
   set(&c->allowed, operations);
-  while (seen(&c->begun) <= operations && !seen(&c->is_done) && bell_of(&c->seat->bell) != LISTENED) sched_yield();
+  while (seen(&c->begun) <= operations && !seen(&c->is_done) && bell_of(&c->seat->by->bell) != LISTENED) sched_yield();
 }
 
 static void begin(caller *c, lfm_seat *seat, int operations) {

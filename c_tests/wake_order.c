@@ -8,14 +8,14 @@
 #define _GNU_SOURCE
 #endif
 #define syscall seen_syscall
-#define lfm_c_unlock seen_unlock
+#define lfm_c_pool_unlock seen_unlock
 #include "../c/ligdrosa.c"
 #undef syscall
-#undef lfm_c_unlock
+#undef lfm_c_pool_unlock
 #include "expect.h"
 #include <stdarg.h>
 long syscall(long number, ...);
-uint64_t lfm_c_unlock(void *seat);
+uint64_t lfm_c_pool_unlock(void *seat, uint64_t index);
 
 enum { WAITERS = 5, SECOND = 1000000000 };
 static lfm_mutex mutex = LFM_MUTEX_INIT;
@@ -25,14 +25,14 @@ static unsigned wakes, unlocks_of_waits, turn;
 static _Thread_local bool waits, wakes_others;
 static unsigned returned[WAITERS], count_returned;
 
-uint64_t seen_unlock(void *handle) {
+uint64_t seen_unlock(void *handle, uint64_t index) {
   if (waits) {
     __atomic_fetch_add(&unlocks_of_waits, 1, __ATOMIC_SEQ_CST);
     if (__atomic_load_n(&condvar.oldest, __ATOMIC_SEQ_CST)) __atomic_fetch_add(&listed_at_unlock, 1, __ATOMIC_SEQ_CST);
     if (!__atomic_load_n(&condvar.latch, __ATOMIC_SEQ_CST)) __atomic_fetch_add(&free_at_unlock, 1, __ATOMIC_SEQ_CST);
     waits = false;
   }
-  return lfm_c_unlock(handle);
+  return lfm_c_pool_unlock(handle, index);
 }
 
 long seen_syscall(long number, ...) {

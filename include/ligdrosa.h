@@ -15,42 +15,47 @@
  * lfm_is_refused, and not against 0: each one below LFM_BLANK is a success, as LFM_AGAIN of a thread that held before.
  * lfm_status_text has its meaning in words. A program that goes on after a refused lock may call lfm_acquire_here, which
  * answers a bool. Null, a mutex that is not open and a seat that is not taken are answered by LFM_BLANK. A call that is
- * refused has changed nothing, unless it says so; but it may have opened an LFM_MUTEX_INIT and taken the thread's seat.
+ * refused has changed nothing, unless it says so; but it may have opened an LFM_MUTEX_INIT and taken the thread's number.
  *
- * A thread calls a mutex through a seat. Calls whose names end in `here` find the calling thread's seat by themselves. The
- * others are given a seat (lfm_seat_take), for programs that want to keep nothing in thread-local memory. Then memory is
- * taken only by calls that open a mutex or make it new after a fork, by a lock or wait that exchanges a spent seat, by a
- * give of a seat that a timed lock has left queued, and, for its own duration, by the call with which a mutex ends.
+ * A thread has one number for all mutexes, from its first call until it ends. The calls whose names end in `here` find it.
+ * The others are given a seat (lfm_seat_take), for programs that keep nothing in thread-local memory. Each such seat has a
+ * number of its own, and so has each lock with a time limit that queues. A process has 4,095 numbers at a time. Only a call
+ * that needs one more is refused as LFM_NO_SEAT.
  *
- * Only these may change errno: calls that open or close a mutex, make it new after a fork, take, exchange or give back a
- * seat, or count takes, the first call of a thread for a mutex, and calls by destructors of thread-specific data, which may
- * give seats back.
+ * The library keeps its memory until the process ends: 80 bytes for each mutex of a pool, up to 1.1 kB for each number, and
+ * up to some 360 kB more for each pool. The first pool has 512 mutexes, and each other one twice as many as the one before.
+ * Memory is requested only by calls that open a mutex or make it new after a fork, by the first call of a thread, and by
+ * lfm_seat_take and lfm_seat_here.
+ *
+ * Only these may change errno: calls that open or close a mutex, make it new after a fork, take or give back a seat, the
+ * first call of a thread, and calls by destructors of thread-specific data.
  *
  * What is proved
  *
  * The inner calls are proved: they lock and unlock, but neither sleep nor wake. Proved are their answers and refusals, their
  * steps, how many these are at most (a lock makes two more for each push that fails), and which seat they grant the mutex.
  * That no two seats hold at once follows, in every sequentially consistent interleaving. The rest, which makes these calls,
- * is only tested: it puts threads to sleep and wakes them, tries before it queues, passes by seats whose time is over, finds
- * seats, opens and ends mutexes, and has the condition variables. Its source argues why no wake-up is lost, and why nothing
- * is touched after its end. Trusted are the prover with its library, the compilers, the linker, the C library and Linux.
+ * is only tested: it puts threads to sleep and wakes them, tries before it queues, waits by the clock, gives out mutexes and
+ * numbers, and has the condition variables. Its source argues why no wake-up is lost, and why nothing is touched after its
+ * end. Trusted are the prover with its library, the compilers, the linker, the C library and Linux.
  *
  * What a program promises, and nothing checks
  *
  *   - An lfm_mutex is zero or LFM_MUTEX_INIT, and an lfm_seat and lfm_condvar zero, before their first call. They are
  *     touched by these calls alone. A mutex and a condition variable are moved only between calls, and a seat not while it
  *     is taken. All three are of one process: they don't lie in memory that processes share. All parts of a program that
- *     share a mutex call one copy of the library, as libligdrosa.so, since each copy finds seats of its own.
+ *     share a mutex call one copy of the library, as libligdrosa.so, since each copy has mutexes of its own.
  *   - A seat is in one call at a time. It goes from one thread to another by a lock, a thread's start or join, or the like.
  *     If all files of a program are compiled with -DLFM_CHECKED, two threads in one seat of lfm_seat_take end it with a
- *     text. This does not check lfm_depth, lfm_left and lfm_assert_held.
- *   - No call comes from a signal handler. From a forked child come calls of a mutex only after lfm_after_fork, but its
- *     seats may be given back and it may be closed: then the child only forgets it. If other threads of the parent may have
- *     waited at a condition variable or been in a call of it, the child sets it to zero before it calls it: it has none of
- *     these threads. A child has another pid than the process that opened the mutex. It may have the same in a new namespace
- *     of pids, or if that process has ended and its pid has come again: then the child is not known as one.
- *   - If the parent of a forked child had other threads, malloc is usable in the child, as that of glibc is. The proved
- *     calls take memory, so their proof excludes such a child. What it calls after lfm_after_fork rests on this promise.
+ *     text. This does not check lfm_depth and lfm_assert_held.
+ *   - No call comes from a signal handler.
+ *   - A forked child calls a mutex that the thread which forked held only after lfm_after_fork, and doesn't call one that
+ *     another thread held, asked for or was releasing. All others it calls as its parent does. It may close each mutex and
+ *     give back each seat. If other threads of the parent may have waited at a condition variable or been in a call of it,
+ *     the child sets it to zero before it calls it: it has none of these threads. The child is one of fork: the library
+ *     doesn't see those of _Fork, vfork and clone.
+ *   - A proved call that opens a pool takes memory, so its proof excludes a child whose parent had other threads. The
+ *     library takes it from the system, which such a child may ask. For lfm_seat_here malloc has to be usable there.
  *   - While a mutex is opened by lfm_mutex_new or closed, no other call of it begins. See lfm_mutex_close.
  *   - A call that has begun returns: no signal handler jumps out of it, and its thread is not cancelled asynchronously. No
  *     call is a cancellation point.
@@ -94,7 +99,7 @@ typedef enum lfm_status {
   LFM_TAKEN = 17,        /* the mutex is open, or the seat taken, already */
   LFM_LIMIT = 18,        /* a number is outside its limits */
   LFM_NO_MEMORY = 19,    /* memory was refused */
-  LFM_NO_SEAT = 20,      /* all seats are taken by threads that have not ended or given them back */
+  LFM_NO_SEAT = 20,      /* threads, seats and locks with a time limit have all 4,095 numbers */
   LFM_NOT_BACK = 21,     /* some seats are not given back */
   LFM_HOLDING = 22,      /* the seat holds the mutex, or for a close: some seat holds it or asks for it */
   LFM_FOREIGN = 23,      /* the seat is of another mutex or thread */
@@ -105,7 +110,7 @@ typedef enum lfm_status {
   LFM_NOT_OWNER = 33,    /* the seat doesn't hold the mutex */
   LFM_NESTED = 34,       /* the seat holds more than once, and a wait releases one hold alone */
   LFM_DEPTH_FULL = 35,   /* the seat holds 65,535 times already */
-  LFM_SPENT = 36,        /* the seat has no take left, and no seat that has some is free, or memory for it was refused */
+  LFM_SPENT = 36,        /* the mutex has had 2^48 - 2^13 queued locks, or the seat 2^47 posts: after years */
   LFM_NO_SUCH_SEAT = 37, /* no seat has this number; no call of this header answers it */
   LFM_NOT_WAITING = 38,  /* the seat doesn't sleep; no call of this header answers it */
   /* at some moment of the call another seat held the mutex, asked for it or was releasing it; or a lock's time was over */
@@ -145,27 +150,29 @@ static inline bool lfm_is_refused(lfm_status status) { return status >= LFM_BLAN
 /* The clocks that a call with a time limit takes: CLOCK_REALTIME and CLOCK_MONOTONIC of Linux. */
 enum { LFM_REALTIME = 0, LFM_MONOTONIC = 1 };
 
+/* How many numbers a process has, and how many seats LFM_MUTEX_INIT names. */
 enum { LFM_MOST_SEATS = 4095, LFM_USUAL_SEATS = 64 };
-/* The greatest number of takes that a seat may be allowed. */
-#define LFM_MOST_TAKES ((uint64_t)1 << 36)
+/* The greatest budget that may be named. */
+#define LFM_MOST_TAKES (UINT64_C(1) << 36)
 
 struct lfm_core;
 struct lfm_waiter;
 
-/* A mutex, of 16 bytes. While `core` is null it is not open, but LFM_MUTEX_INIT is opened by its first lock or seat. */
+/* A mutex, of 16 bytes. `core` is no address: it says which mutex of the library this is. While it is null the mutex is not
+ * open, but LFM_MUTEX_INIT is opened by its first lock or seat. */
 typedef struct LFM_CAPABILITY lfm_mutex {
   struct lfm_core *core;
   uint32_t seats;
   uint32_t version;
 } lfm_mutex;
 
-/* A mutex that is opened by its first lock or seat, with this many seats, each of which has LFM_MOST_TAKES takes. If memory
- * is refused, that call is refused. A static one need never be closed. */
+/* A mutex that is opened by its first lock or seat. If memory is refused, that call is refused. A static one need never be
+ * closed. The number of seats is 1 to 4,095, and limits nothing: any thread may call the mutex. */
 #define LFM_MUTEX_INIT_WITH(seats) {NULL, (seats), LFM_VERSION}
 #define LFM_MUTEX_INIT LFM_MUTEX_INIT_WITH(LFM_USUAL_SEATS)
 
-/* A thread's handle of a mutex, of 256 bytes. It is aligned as memory of malloc is, and ends with bytes that nothing uses,
- * so that no two of them share a cache line wherever they lie. */
+/* A handle of a mutex, of 256 bytes, for one thread at a time. It is aligned as memory of malloc is, and ends with bytes
+ * that nothing uses, so that no two of them share a cache line wherever they lie. */
 typedef struct lfm_seat lfm_seat;
 #ifndef LFM_IN_LIBRARY /* which has the fields */
 struct lfm_seat {
@@ -189,9 +196,8 @@ LFM_API const char *lfm_status_text(lfm_status status);
 
 /* Mutexes */
 
-/* Opens a mutex with this many seats, 1 to 4,095, each of which may take it as often as the budget says, 1 to
- * LFM_MOST_TAKES. `version` is LFM_VERSION. It keeps at most 153 bytes for each seat and 700 more, and takes up to 257 for
- * each meanwhile.
+/* Opens a mutex. `version` is LFM_VERSION. The number of seats is 1 to 4,095, and the budget 1 to LFM_MOST_TAKES; neither
+ * limits anything. It takes a few atomic operations, unless a pool is opened.
  * Refused: LFM_BLANK (null), LFM_TAKEN, LFM_OTHER_HEADER, LFM_LIMIT, LFM_NO_MEMORY. */
 LFM_API lfm_status lfm_mutex_open(lfm_mutex *mutex, uint64_t seats, uint64_t budget, int version);
 /* The same for programs that have this header. */
@@ -202,62 +208,53 @@ static inline lfm_status lfm_mutex_new(lfm_mutex *mutex, uint64_t seats, uint64_
 /* Ends the mutex, which is zero then, also if it was LFM_MUTEX_INIT: a later call doesn't open it anew, and is refused as
  * LFM_BLANK. A thread may close it as soon as it has acquired it last and released it, though calls of others that released
  * it before have not returned yet, and then give back the memory of the lfm_mutex. It may also be closed during the last
- * lfm_seat_give, and then the memory of that lfm_seat may go too. The memory of the library itself goes back when no thread
- * has a seat: threads that found their seats by themselves give them back as they take others, or when they end. It may
- * sleep until a seat is taken or given back.
+ * lfm_seat_give, and then the memory of that lfm_seat may go too.
  * Refused: LFM_BLANK, LFM_NOT_BACK if a seat of lfm_seat_take is not given back, LFM_HOLDING, also if a timed lock has left
- * its seat queued. The last is not seen if all seats are taken by living threads and the calling thread has none. */
+ * its number queued. The last is not seen if the calling thread has no number and is refused one. */
 LFM_API lfm_status lfm_mutex_close(lfm_mutex *mutex);
 
-/* How many takes the seats of the mutex had left, each when it was last taken or given back: an upper bound, and exact while
- * all are back. A mutex is spent only if all its seats are: a seat that has no take left is exchanged for another by
- * itself. */
+/* For programs that call it: LFM_MOST_TAKES times the number of seats that was named, whatever was locked. */
 LFM_API uint64_t lfm_takes_left(lfm_mutex *mutex);
 
-/* In a forked child, makes a mutex new that the thread which forked held, or that no seat held: that thread holds it as
- * often as before. `seat` is that thread's seat, or null if it finds its seat by itself. It may get another number, and has
- * all takes of the budget again, less one if it holds. Other seats of it are forgotten: an lfm_seat is set to zero before it
- * is taken anew. What the library had of the parent's mutex stays taken, with 64 seats some 10 kB: a thread that the child
- * doesn't have may have been changing it. In the process that opened the mutex it changes nothing.
- * Refused: LFM_BLANK, LFM_FOREIGN, LFM_NO_MEMORY, and LFM_BUSY if another thread held the mutex, asked for it or was
- * releasing it when the parent forked, if a timed lock had left the thread's own seat queued, or if the thread has no seat
- * by which it could see that, and all were taken or another thread was just taking or giving one. */
+/* In a forked child, makes a mutex new that the thread which forked held, or that no seat held or asked for: that thread
+ * holds it as often as before. `seat` is the seat by which it held, or null if it calls those that end in `here`. Other
+ * seats in hand of the mutex are forgotten: an lfm_seat is set to zero before it is taken anew. What the library had of the
+ * parent's mutex stays taken. In the process that opened the mutex it changes nothing.
+ * Refused: LFM_BLANK, LFM_FOREIGN, LFM_NO_SEAT, LFM_NO_MEMORY, and LFM_BUSY if another seat held the mutex, asked for it or
+ * was releasing it when the parent forked. */
 LFM_NODISCARD lfm_status lfm_after_fork(lfm_mutex *mutex, lfm_seat *seat);
 
 /* Seats in hand */
 
-/* Takes a seat of the mutex: the one that was given back last, or else the next that was never taken. If none is free, it
- * adopts one that was given back while queued, with its place in the queue: as if a timed lock of this seat had left it
- * there. Other threads may take and give back seats at the same time: each may sleep until the other is done.
- * Refused: LFM_BLANK, LFM_TAKEN, LFM_NO_SEAT, and as lfm_mutex_open if it opens the mutex. */
+/* Takes a seat of the mutex, with a number of its own. It may sleep while another thread takes a number or opens a pool.
+ * Refused: LFM_BLANK, LFM_TAKEN, LFM_NO_SEAT, LFM_NO_MEMORY, and as lfm_mutex_open if it opens the mutex. */
 LFM_API lfm_status lfm_seat_take(lfm_mutex *mutex, lfm_seat *seat);
 LFM_API lfm_status lfm_seat_take_checked(lfm_mutex *mutex, lfm_seat *seat);
 #ifdef LFM_CHECKED
 #define lfm_seat_take lfm_seat_take_checked
 #endif
 
-/* Gives the seat back. It may sleep until another thread has taken or given one. If a timed lock has left the seat queued,
- * its place is left, with a copy of some 200 bytes, to the thread that passes it by, or to one that finds no free seat and
- * adopts it. If memory for the copy is refused, the call sleeps until the seat's turn comes: for ever if the calling thread
- * holds the mutex by another seat. A seat of lfm_seat_here is given back as by lfm_seat_give_here.
- * Refused: LFM_BLANK, LFM_HOLDING, LFM_SEAT_ASLEEP, and LFM_FOREIGN if another thread has that seat. */
+/* Gives the seat back. A place that a timed lock of it has left in the queue is passed by in its turn. A seat of
+ * lfm_seat_here is given back as by lfm_seat_give_here. It never sleeps.
+ * Refused: LFM_BLANK, LFM_HOLDING, LFM_SEAT_ASLEEP, and LFM_FOREIGN of a seat that lfm_seat_here has answered another
+ * thread. */
 LFM_API lfm_status lfm_seat_give(lfm_seat *seat);
 
-/* The seat's number, 1 and on, or 0 of a seat that is not taken. lfm_after_fork and an exchange of a spent seat change
- * it. */
+/* The seat's number, 1 to 4,095, or 0 of a seat that is not taken. No two that are taken have the same, except those of
+ * lfm_seat_here, which have the number of their thread. */
 LFM_API uint64_t lfm_number(lfm_seat *seat);
 /* How many times the seat holds. */
 LFM_API uint64_t lfm_depth(lfm_seat *seat);
 /* Ends the program with a text unless the seat holds the mutex, and else changes nothing. It never sleeps. */
 LFM_API void lfm_assert_held(lfm_seat *seat);
-/* How many takes the seat has left, or 0 of a seat that is not taken. */
+/* For programs that call it: LFM_MOST_TAKES, or 0 of a seat that is not taken. */
 LFM_API uint64_t lfm_left(lfm_seat *seat);
 
 /* Locks */
 
-/* Acquires the mutex, for one take, or deepens the hold: LFM_DONE or LFM_AGAIN. It sleeps until then. It first tries a
- * bounded number of times, between pauses and naps, and so may come before threads that came earlier. Then it queues, and
- * from there on no thread that queues later is served before it.
+/* Acquires the mutex or deepens the hold: LFM_DONE or LFM_AGAIN. It sleeps until then. It first tries a bounded number of
+ * times, between pauses and naps, and so may come before threads that came earlier. Then it queues, and from there on no
+ * thread that queues later is served before it.
  * Refused: LFM_BLANK, LFM_SEAT_ASLEEP, LFM_DEPTH_FULL, LFM_SPENT. */
 LFM_NODISCARD lfm_status lfm_lock(lfm_seat *seat);
 
@@ -265,21 +262,19 @@ LFM_NODISCARD lfm_status lfm_lock(lfm_seat *seat);
 LFM_NODISCARD lfm_status lfm_lock_in_order(lfm_seat *seat);
 
 /* Acquires the mutex or deepens the hold, and never waits for a holder: LFM_DONE or LFM_AGAIN. It may come before seats that
- * are queued. Only to exchange a spent seat it may sleep, until another thread has taken or given one.
- * Refused: LFM_BLANK, LFM_SEAT_ASLEEP, LFM_DEPTH_FULL, LFM_SPENT, and LFM_BUSY, which gives the take back. */
+ * are queued.
+ * Refused: LFM_BLANK, LFM_SEAT_ASLEEP, LFM_DEPTH_FULL, LFM_SPENT and LFM_BUSY. */
 LFM_NODISCARD lfm_status lfm_try_lock(lfm_seat *seat);
 
 /* Locks as lfm_lock does, but at most until this many nanoseconds have passed, or until this time on this clock. It queues,
- * so other threads that queue don't keep it from its turn. If the time is over before it queues, LFM_BUSY gives the take
- * back.
+ * so other threads that queue don't keep it from its turn. It queues by another number, which the seat keeps for its next
+ * such lock until it is given back or its thread ends.
  *
- * If the time is over later, LFM_BUSY uses the take, and the seat stays queued. The seat's next lock, with a time limit or
- * without, waits from the same place, for no other take. Until then another thread may pass the place by as its turn comes.
- * Then the seat is free again, and its next lock begins anew. While the seat is queued, its other calls answer as for a seat
- * that doesn't hold, lfm_try_lock answers LFM_BUSY, and lfm_mutex_close LFM_HOLDING. It may be given back. If another thread
- * is waking the seat or passing it by at the end of the time, the call waits until that is done.
- * Refused: as lfm_lock, LFM_LIMIT (no such clock, or not 0 to 999,999,999 nanoseconds in `time`), and LFM_BUSY, which tells
- * that the time is over. */
+ * If the time is over while it is queued, that number alone stays queued. The seat's next lock, with a time limit or
+ * without, waits from the same place, unless an unlock has passed it by, since its turn came first. Until then
+ * lfm_mutex_close answers LFM_HOLDING. If its turn comes as the time ends, the call acquires the mutex.
+ * Refused: as lfm_lock, LFM_LIMIT (no such clock, or not 0 to 999,999,999 nanoseconds in `time`), LFM_NO_SEAT, and LFM_BUSY,
+ * which tells that the time is over. */
 LFM_NODISCARD lfm_status lfm_try_lock_for(lfm_seat *seat, uint64_t nanoseconds);
 LFM_NODISCARD lfm_status lfm_try_lock_until(lfm_seat *seat, int clock, const struct timespec *time);
 
@@ -291,29 +286,30 @@ static inline LFM_MUST_TEST bool lfm_try_acquire(lfm_seat *seat) { return !lfm_i
 /* Releases one hold: LFM_STILL if the seat still holds, else LFM_DONE, LFM_POSTED or LFM_GRANTED. It never sleeps. It makes
  * at most two calls of the system: one to wake the next thread that asked, if one has, and the rest for the threads at
  * condition variables that were woken in the hold, however many these are. If the system refuses FUTEX_WAKE_OP, as a sandbox
- * may, an unlock that finds this out makes up to six. On its way to the next thread that waits, it passes by the seats that
- * timed locks have left queued, each with one more call at most, and LFM_GRANTED counts these too. No number bounds these: a
- * seat that was passed by may be queued and left again before the unlock ends. The same holds of a lock that wakes another
- * thread.
+ * may, an unlock that finds this out makes up to six. On its way to the next thread that waits, it passes by the places that
+ * timed locks have left in the queue, and LFM_GRANTED counts these too. No number bounds these: more may be left before the
+ * unlock ends. The same holds of a lock that wakes another thread.
  * Refused: LFM_BLANK, LFM_SEAT_ASLEEP, LFM_NOT_OWNER. */
 LFM_API lfm_status lfm_unlock(lfm_seat *seat);
 
-/* Seats that find themselves */
+/* Threads */
 
-/* The calling thread's seat of the mutex, or null if it is refused, with the cause. `cause` is not null, and it is to be
- * read only then. A thread takes a seat by its first call of a mutex, which takes some 250 bytes, and gives it back when it
- * ends, unless it holds then, or the system had no thread-specific key left. If none is free, it adopts one as
- * lfm_seat_take does. So as many threads may use a mutex at a time as it has seats. Destructors of thread-specific data may
- * call too. Only a seat that this call takes in the last round of them, the fourth in glibc, is not given back. To find a
- * seat takes about as long however many mutexes there are. */
+/* The calling thread's number as a seat of the mutex, or null if it is refused, with the cause. `cause` is not null, and it
+ * is to be read only then. The seat ends by lfm_seat_give_here, when the thread closes the mutex, or with the thread. The
+ * more such seats the thread has, the longer it takes to find one.
+ *
+ * A thread takes its number by its first call of a mutex, and gives it back when it ends, unless it holds then, or the
+ * system had no thread-specific key left. Destructors of thread-specific data may call too. In them a seat of lfm_seat_here
+ * ends with the thread's next call whose name ends in `here`, if that leaves it without a hold. Only a number that
+ * lfm_seat_here takes in the last round of destructors, the fourth in glibc, is not given back. */
 LFM_API lfm_seat *lfm_seat_here(lfm_mutex *mutex, lfm_status *cause);
 
-/* Gives the calling thread's seat back before the thread ends, so that another thread can take it: as lfm_seat_give, and
- * LFM_BLANK if the thread has none. A later call of the thread takes a seat anew. */
+/* Ends what lfm_seat_here has answered of this mutex. The thread keeps its number until it ends.
+ * Refused: LFM_HOLDING, and LFM_BLANK, also if the thread has made no call. */
 LFM_API lfm_status lfm_seat_give_here(lfm_mutex *mutex);
 
-/* The calls above with that seat. A call that takes a seat, or an unlock that gives one back as its thread ends, may sleep
- * until another thread has taken or given one.
+/* The calls above by the calling thread. The first call of a thread, and its first in each pool, may sleep while another
+ * thread takes a number or opens a pool.
  * Refused also: LFM_NO_SEAT, LFM_NO_MEMORY, and as lfm_mutex_open if it opens the mutex. */
 LFM_NODISCARD lfm_status lfm_lock_here(lfm_mutex *mutex) LFM_ACQUIRES(*mutex);
 LFM_NODISCARD lfm_status lfm_lock_in_order_here(lfm_mutex *mutex) LFM_ACQUIRES(*mutex);
@@ -324,17 +320,17 @@ static inline LFM_MUST_TEST bool lfm_acquire_here(lfm_mutex *mutex) LFM_IF_ACQUI
 static inline LFM_MUST_TEST bool lfm_try_acquire_here(lfm_mutex *mutex) LFM_IF_ACQUIRED(*mutex);
 static inline bool lfm_acquire_here(lfm_mutex *mutex) { return !lfm_is_refused(lfm_lock_here(mutex)); }
 static inline bool lfm_try_acquire_here(lfm_mutex *mutex) { return !lfm_is_refused(lfm_try_lock_here(mutex)); }
-/* These take no seat: a thread that has none doesn't hold. */
+/* These take no number: a thread that has none doesn't hold. */
 LFM_API lfm_status lfm_unlock_here(lfm_mutex *mutex) LFM_RELEASES(*mutex);
 LFM_API uint64_t lfm_depth_here(lfm_mutex *mutex);
 LFM_API void lfm_assert_held_here(lfm_mutex *mutex) LFM_ASSERTS(*mutex);
 
 /* Conditions */
 
-/* Releases the mutex, which the seat holds once, waits until a wake, and acquires the mutex again, for one take: LFM_DONE.
- * It returns only after a wake, but another seat may hold the mutex in between: wait in a loop that tests what is waited
- * for. If a wake wakes one thread, that locks as by lfm_lock, and if it wakes more, they lock in order.
- * Refused: LFM_BLANK, LFM_SEAT_ASLEEP, LFM_NOT_OWNER, LFM_NESTED, LFM_SPENT. */
+/* Releases the mutex, which the seat holds once, waits until a wake, and acquires the mutex again: LFM_DONE. It returns only
+ * after a wake, but another seat may hold the mutex in between: wait in a loop that tests what is waited for. If a wake
+ * wakes one thread, that locks as by lfm_lock, and if it wakes more, they lock in order.
+ * Refused: LFM_BLANK, LFM_SEAT_ASLEEP, LFM_NOT_OWNER, LFM_NESTED, and LFM_SPENT, after which the seat doesn't hold. */
 LFM_NODISCARD lfm_status lfm_wait(lfm_condvar *condvar, lfm_seat *seat);
 
 /* The same, but waits for at most this many nanoseconds, or until this time on this clock: LFM_DONE after a wake, or
@@ -343,22 +339,30 @@ LFM_NODISCARD lfm_status lfm_wait(lfm_condvar *condvar, lfm_seat *seat);
 LFM_NODISCARD lfm_status lfm_wait_for(lfm_condvar *condvar, lfm_seat *seat, uint64_t nanoseconds);
 LFM_NODISCARD lfm_status lfm_wait_until(lfm_condvar *condvar, lfm_seat *seat, int clock, const struct timespec *time);
 
-/* The same with the calling thread's seat. A thread that has none doesn't hold: LFM_NOT_OWNER. */
+/* The same, but the wait releases all holds of the seat, and acquires as many again. So it is never refused as LFM_NESTED. */
+LFM_NODISCARD lfm_status lfm_wait_all_holds(lfm_condvar *condvar, lfm_seat *seat);
+LFM_NODISCARD lfm_status lfm_wait_all_holds_until(lfm_condvar *condvar, lfm_seat *seat, int clock,
+                                                  const struct timespec *time);
+
+/* The same by the calling thread. */
 LFM_NODISCARD lfm_status lfm_wait_here(lfm_condvar *condvar, lfm_mutex *mutex) LFM_NEEDS(*mutex);
 LFM_NODISCARD lfm_status lfm_wait_for_here(lfm_condvar *condvar, lfm_mutex *mutex, uint64_t nanoseconds) LFM_NEEDS(*mutex);
 LFM_NODISCARD lfm_status lfm_wait_until_here(lfm_condvar *condvar, lfm_mutex *mutex, int clock, const struct timespec *time)
     LFM_NEEDS(*mutex);
+LFM_NODISCARD lfm_status lfm_wait_all_holds_here(lfm_condvar *condvar, lfm_mutex *mutex) LFM_NEEDS(*mutex);
+LFM_NODISCARD lfm_status lfm_wait_all_holds_until_here(lfm_condvar *condvar, lfm_mutex *mutex, int clock,
+                                                       const struct timespec *time) LFM_NEEDS(*mutex);
 
 /* Wakes the thread that has waited longest, or all that wait: LFM_DONE or LFM_NOBODY. The caller may hold the mutex or not,
- * and needs no seat. A thread that acquires the mutex after a wait has released it finds that wait. If no thread waits, a
+ * and needs no number. A thread that acquires the mutex after a wait has released it finds that wait. If no thread waits, a
  * wake is one load. Otherwise it may sleep until another call has left the list. Wakes go in the order of the waits, and
  * none wakes two.
  * Refused: LFM_BLANK (null). */
 LFM_API lfm_status lfm_wake_one(lfm_condvar *condvar);
 LFM_API lfm_status lfm_wake_all(lfm_condvar *condvar);
 /* The same by a thread with a seat in hand. If that seat holds, threads that wait without a time limit and for its mutex are
- * woken when it releases the mutex, as they are if the holder's seat finds itself. So they don't find it held. The unlock
- * wakes the first of them, at most four. Each that was woken so wakes at most two others, before it locks. */
+ * woken when it releases the mutex, as by lfm_wake_one of a holder without one. So they don't find it held. The unlock wakes
+ * the first of them, at most four. Each that was woken so wakes at most two others, before it locks. */
 LFM_API lfm_status lfm_wake_one_by(lfm_condvar *condvar, lfm_seat *seat);
 LFM_API lfm_status lfm_wake_all_by(lfm_condvar *condvar, lfm_seat *seat);
 

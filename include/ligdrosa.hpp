@@ -14,10 +14,11 @@
 // Files of both kinds may be linked into one program. For each kind lfm::recursive_mutex and the other classes that may throw
 // are separate types, so a function of one kind takes no mutex of the other. It takes the lfm_mutex (native_handle).
 //
-// A forked child calls lfm_after_fork(mutex.native_handle(), nullptr) before any other call of a mutex of its parent. It sets
-// *condition.native_handle() to lfm_condvar() if other threads may have waited at that condition variable.
+// A forked child calls lfm_after_fork(mutex.native_handle(), nullptr) before any other call of a mutex that its thread held as
+// the parent forked. It sets *condition.native_handle() to lfm_condvar() if other threads may have waited at that condition
+// variable.
 //
-// A thread that keeps its seat itself uses lfm::mutex, lfm::seat, and lfm::seat_lock, which is the seat as a TimedLockable.
+// A thread that has its seat in hand uses lfm::mutex, lfm::seat, and lfm::seat_lock, which is the seat as a TimedLockable.
 // The locks of the standard library take both Lockables, and so do lfm::condition_variable and std::condition_variable_any.
 #pragma once
 
@@ -83,7 +84,7 @@ public:
   lfm_status status() const noexcept { return static_cast<lfm_status>(code().value()); }
 };
 
-// The greatest number of takes that a seat may be allowed.
+// The greatest budget that a constructor takes.
 constexpr uint64_t most_takes = uint64_t{1} << 36;
 
 // Whether memory has static storage, in the program or in a shared object. Before glibc 2.34 it needs -ldl. In a program linked
@@ -152,13 +153,13 @@ bool lock_until(Lock &lock, lfm_status (*call)(By *, int, const timespec *), By 
   return true;
 }
 
-// A mutex that finds the seat of the calling thread by itself. A thread takes a seat by its first call and gives it back when
-// it ends. So a mutex of N seats serves N threads at a time. One thread more is refused as LFM_NO_SEAT.
+// A mutex for any threads: up to 4,095 at a time in a process, with seats in hand and locks with a time limit. One more is
+// refused as LFM_NO_SEAT.
 //
 // A mutex of static storage is initialized before the program runs, and its destructor does nothing. So constructors and
 // destructors of globals may lock it, and so may threads that go on after main. Any other mutex may be destroyed by the thread
-// that acquired it last, as soon as that thread has released it. If it is held then, its memory is leaked. The memory of a
-// mutex that the program constructs in static storage at run time, as by a static std::optional, is always leaked.
+// that acquired it last, as soon as that thread has released it. If it is held then, what the library has of it is leaked, as
+// is always that of a mutex which the program constructs in static storage at run time, as by a static std::optional.
 class LFM_CAPABILITY recursive_mutex {
   lfm_mutex raw;
 
@@ -168,10 +169,11 @@ class LFM_CAPABILITY recursive_mutex {
   }
 
 public:
+  // It is opened by its first lock.
   constexpr recursive_mutex() noexcept : recursive_mutex(LFM_USUAL_SEATS) {}
-  // It is opened by its first lock. Throws LFM_LIMIT unless there are 1 to 4,095 seats.
+  // The same. The number is 1 to 4,095, and limits nothing. Throws LFM_LIMIT.
   explicit constexpr recursive_mutex(uint64_t most_threads) : raw{nullptr, checked(most_threads), LFM_VERSION} {}
-  // It is opened at once. Throws as lfm_mutex_new refuses.
+  // It is opened at once. The numbers limit nothing. Throws as lfm_mutex_new refuses.
   recursive_mutex(uint64_t most_threads, uint64_t budget) : raw() { lfm::made(lfm_mutex_new(&raw, most_threads, budget)); }
   recursive_mutex(const recursive_mutex &) = delete;
   recursive_mutex &operator=(const recursive_mutex &) = delete;
@@ -181,7 +183,7 @@ public:
 
   // The mutex for calls of ligdrosa.h.
   lfm_mutex *native_handle() noexcept { return &raw; }
-  // The calling thread's seat. Throws as lfm_seat_here refuses.
+  // The calling thread's seat, for calls of ligdrosa.h. Throws as lfm_seat_here refuses.
   lfm_seat *own() {
     lfm_status cause = LFM_DONE;
     lfm_seat *seat = lfm_seat_here(&raw, &cause);
@@ -191,10 +193,9 @@ public:
   uint64_t depth() noexcept { return lfm_depth_here(&raw); }
   // Ends the program with a text unless the calling thread holds the mutex.
   void assert_held() noexcept LFM_CALL(assert_capability(this)) { lfm_assert_held_here(&raw); }
-  // How many takes all seats have left: an upper bound, as lfm_takes_left.
+  // For programs that call it: as lfm_takes_left.
   uint64_t takes_left() noexcept { return lfm_takes_left(&raw); }
-  // Gives the calling thread's seat back before the thread ends, so that another thread can take it. A thread that has none
-  // gives none back. A later call of the thread takes a seat anew. Throws LFM_HOLDING if the thread holds.
+  // Ends the seat that `own` has returned. Throws LFM_HOLDING if the thread holds.
   void give_seat() {
     const lfm_status status = lfm_seat_give_here(&raw);
     if (status != LFM_BLANK) lfm::made(status);
@@ -207,7 +208,7 @@ public:
   // lfm_try_lock_here refuses.
   LFM_MUST_USE bool try_lock() LFM_CALL(try_acquire_capability(true)) { return lfm::has_acquired(lfm_try_lock_here(&raw)); }
   // Locks as lock does, but at most until the time is over. It queues, so other threads that queue don't keep it from its turn.
-  // After a false the thread may still be queued: its next lock waits from the same place, and try_lock is false until then.
+  // After a false its place may stay in the queue: if its turn has not come, the thread's next lock waits from there.
   template <class Rep, class Period>
   LFM_MUST_USE bool try_lock_for(const std::chrono::duration<Rep, Period> &span) LFM_CALL(try_acquire_capability(true)) {
     return lfm::has_acquired(lfm_try_lock_for_here(&raw, nanoseconds_of(span)));
@@ -233,19 +234,19 @@ public:
   ~guard() LFM_CALL(release_capability()) { of.unlock(); }
 };
 
-// A mutex whose threads keep their seats themselves. All of its seats are destroyed before it.
+// A mutex whose threads have seats in hand. All of its seats are destroyed before it.
 class mutex {
   lfm_mutex raw{};
 
 public:
-  // Throws as lfm_mutex_new refuses.
+  // The numbers limit nothing. Throws as lfm_mutex_new refuses.
   explicit mutex(uint64_t seats, uint64_t budget = most_takes) { lfm::made(lfm_mutex_new(&raw, seats, budget)); }
   mutex(const mutex &) = delete;
   mutex &operator=(const mutex &) = delete;
   ~mutex() { lfm_mutex_close(&raw); }
   // The mutex for calls of ligdrosa.h.
   lfm_mutex *native_handle() noexcept { return &raw; }
-  // How many takes all seats have left: an upper bound, as lfm_takes_left.
+  // For programs that call it: as lfm_takes_left.
   uint64_t takes_left() noexcept { return lfm_takes_left(&raw); }
 };
 
@@ -265,7 +266,7 @@ public:
   explicit seat(mutex &of) { lfm::made(lfm_seat_take(of.native_handle(), raw.get())); }
   // The seat for calls of ligdrosa.h. It is not moved with the object.
   lfm_seat *native_handle() noexcept { return raw.get(); }
-  // The seat's number, from 1 on; how often it holds; and how many takes it has left.
+  // The seat's number, 1 to 4,095; how often it holds; and for programs that call it, as lfm_left.
   uint64_t number() noexcept { return lfm_number(raw.get()); }
   uint64_t depth() noexcept { return lfm_depth(raw.get()); }
   uint64_t left() noexcept { return lfm_left(raw.get()); }
@@ -289,8 +290,8 @@ public:
   // False if at some moment of the call another seat held the mutex, asked for it or was releasing it. Otherwise throws as
   // lfm_try_lock refuses.
   LFM_MUST_USE bool try_lock() { return lfm::has_acquired(lfm_try_lock(of)); }
-  // Locks as lock does, but at most until the time is over. After a false the seat may still be queued: its next lock waits
-  // from the same place, and try_lock is false until then.
+  // Locks as lock does, but at most until the time is over. After a false its place may stay in the queue: if its turn has not
+  // come, the seat's next lock waits from there.
   template <class Rep, class Period> LFM_MUST_USE bool try_lock_for(const std::chrono::duration<Rep, Period> &span) {
     return lfm::has_acquired(lfm_try_lock_for(of, nanoseconds_of(span)));
   }
@@ -333,7 +334,7 @@ public:
   // The condition variable for calls of ligdrosa.h.
   lfm_condvar *native_handle() noexcept { return &raw; }
 
-  // Throws as lfm_wait refuses: LFM_NOT_OWNER, LFM_SPENT, and LFM_NESTED if the lock is not the only hold.
+  // Throws as lfm_wait refuses: LFM_NOT_OWNER, and LFM_NESTED if the lock is not the only hold.
   template <class Lock> void wait(std::unique_lock<Lock> &lock) { lfm::made(wait_by(lock.mutex()->native_handle())); }
   // Waits until the predicate is true.
   template <class Predicate, class Lock> void wait(std::unique_lock<Lock> &lock, Predicate predicate) {

@@ -1,5 +1,6 @@
 /* A bell is a one-shot event on a futex word: SILENT, LISTENED (a thread sleeps on it) or RUNG. One thread waits for it, and
- * another rings it once. Each seat has one, and each wait at a condition variable. Whom to ring is not decided here.
+ * another rings it once. Each participant has one, and each wait at a condition variable. Whom to ring is not decided
+ * here.
  *
  * No ring is missed. A ring is one exchange, and a thread sleeps only after it has changed SILENT into LISTENED. If the ring
  * comes before that change, the change fails. If it comes after it, the ring finds LISTENED and wakes the thread. If the

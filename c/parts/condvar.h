@@ -18,47 +18,80 @@
  * woken it. So it is counted in `inside` until it has done so, and a close waits for that. */
 
 /* Releases the mutex, waits for a wake or the deadline, and acquires the mutex again. */
-static lfm_status wait_until(lfm_condvar *condvar, lfm_seat *seat, const struct deadline *deadline);
-/* Wakes the oldest waiter, or all. The caller's seat is this one, or else finds itself. */
-static lfm_status wake(lfm_condvar *condvar, lfm_seat *seat, bool all);
+static lfm_status wait_until(lfm_condvar *condvar, struct participant *by, mutex_word mutex, const struct deadline *deadline);
+/* The same with all holds of the mutex. */
+static lfm_status wait_with_all_holds(lfm_condvar *condvar, struct participant *by, mutex_word mutex,
+                                      const struct deadline *deadline);
+/* Wakes the oldest waiter, or all, for a caller that is this participant. */
+static lfm_status wake(lfm_condvar *condvar, struct participant *by, bool all);
 
 /* Makes a wait, which is given a condition variable. */
 #define WAIT_AT(condvar, call) ((condvar) ? (call) : LFM_BLANK)
 
 lfm_status lfm_wait(lfm_condvar *condvar, lfm_seat *seat) {
-  return WAIT_AT(condvar, CALL_BY(seat, wait_until(condvar, seat, NULL)));
+  return WAIT_AT(condvar, CALL_BY(seat, wait_until(condvar, seat->by, seat->mutex, NULL)));
 }
 
 lfm_status lfm_wait_for(lfm_condvar *condvar, lfm_seat *seat, uint64_t nanoseconds) {
   struct deadline deadline = deadline_after(nanoseconds);
-  return WAIT_AT(condvar, CALL_BY(seat, wait_until(condvar, seat, &deadline)));
+  return WAIT_AT(condvar, CALL_BY(seat, wait_until(condvar, seat->by, seat->mutex, &deadline)));
 }
 
 lfm_status lfm_wait_until(lfm_condvar *condvar, lfm_seat *seat, int clock, const struct timespec *time) {
   struct deadline deadline;
   lfm_status status = deadline_at(clock, time, &deadline);
-  return status == LFM_DONE ? WAIT_AT(condvar, CALL_BY(seat, wait_until(condvar, seat, &deadline))) : status;
+  return status == LFM_DONE ? WAIT_AT(condvar, CALL_BY(seat, wait_until(condvar, seat->by, seat->mutex, &deadline))) : status;
 }
 
-/* The body of a function that waits with the calling thread's `seat`. A thread without one doesn't hold. */
-#define RETURN_WAIT_HERE(mutex, call) \
-  lfm_seat *seat = find_of(mutex);    \
-  return seat ? end_here(seat, call) : status_without_seat(mutex)
+lfm_status lfm_wait_all_holds(lfm_condvar *condvar, lfm_seat *seat) {
+  return WAIT_AT(condvar, CALL_BY(seat, wait_with_all_holds(condvar, seat->by, seat->mutex, NULL)));
+}
 
-lfm_status lfm_wait_here(lfm_condvar *condvar, lfm_mutex *mutex) { RETURN_WAIT_HERE(mutex, lfm_wait(condvar, seat)); }
+lfm_status lfm_wait_all_holds_until(lfm_condvar *condvar, lfm_seat *seat, int clock, const struct timespec *time) {
+  struct deadline deadline;
+  lfm_status status = deadline_at(clock, time, &deadline);
+  if (status != LFM_DONE) return status;
+  return WAIT_AT(condvar, CALL_BY(seat, wait_with_all_holds(condvar, seat->by, seat->mutex, &deadline)));
+}
+
+/* The body of a function that makes a call of `word` by the calling thread's participant `by`. A thread without a seat doesn't
+ * hold. */
+#define RETURN_WAIT_HERE(mutex, call)      \
+  mutex_word word = load_mutex(mutex);     \
+  struct participant *by = own.by;         \
+  return has_seat(word) ? end_here(by, WAIT_AT(condvar, call)) : status_without_seat(mutex)
+
+lfm_status lfm_wait_here(lfm_condvar *condvar, lfm_mutex *mutex) {
+  RETURN_WAIT_HERE(mutex, wait_until(condvar, by, word, NULL));
+}
 
 lfm_status lfm_wait_for_here(lfm_condvar *condvar, lfm_mutex *mutex, uint64_t nanoseconds) {
-  RETURN_WAIT_HERE(mutex, lfm_wait_for(condvar, seat, nanoseconds));
+  struct deadline deadline = deadline_after(nanoseconds);
+  RETURN_WAIT_HERE(mutex, wait_until(condvar, by, word, &deadline));
 }
 
 lfm_status lfm_wait_until_here(lfm_condvar *condvar, lfm_mutex *mutex, int clock, const struct timespec *time) {
-  RETURN_WAIT_HERE(mutex, lfm_wait_until(condvar, seat, clock, time));
+  struct deadline deadline;
+  lfm_status status = deadline_at(clock, time, &deadline);
+  if (status != LFM_DONE) return status;
+  RETURN_WAIT_HERE(mutex, wait_until(condvar, by, word, &deadline));
 }
 
-lfm_status lfm_wake_one(lfm_condvar *condvar) { return wake(condvar, NULL, false); }
-lfm_status lfm_wake_all(lfm_condvar *condvar) { return wake(condvar, NULL, true); }
-lfm_status lfm_wake_one_by(lfm_condvar *condvar, lfm_seat *seat) { return CALL_BY(seat, wake(condvar, seat, false)); }
-lfm_status lfm_wake_all_by(lfm_condvar *condvar, lfm_seat *seat) { return CALL_BY(seat, wake(condvar, seat, true)); }
+lfm_status lfm_wait_all_holds_here(lfm_condvar *condvar, lfm_mutex *mutex) {
+  RETURN_WAIT_HERE(mutex, wait_with_all_holds(condvar, by, word, NULL));
+}
+
+lfm_status lfm_wait_all_holds_until_here(lfm_condvar *condvar, lfm_mutex *mutex, int clock, const struct timespec *time) {
+  struct deadline deadline;
+  lfm_status status = deadline_at(clock, time, &deadline);
+  if (status != LFM_DONE) return status;
+  RETURN_WAIT_HERE(mutex, wait_with_all_holds(condvar, by, word, &deadline));
+}
+
+lfm_status lfm_wake_one(lfm_condvar *condvar) { return wake(condvar, own.by, false); }
+lfm_status lfm_wake_all(lfm_condvar *condvar) { return wake(condvar, own.by, true); }
+lfm_status lfm_wake_one_by(lfm_condvar *condvar, lfm_seat *seat) { return CALL_BY(seat, wake(condvar, seat->by, false)); }
+lfm_status lfm_wake_all_by(lfm_condvar *condvar, lfm_seat *seat) { return CALL_BY(seat, wake(condvar, seat->by, true)); }
 
 enum { IS_CLOSING = 1 << 30 };
 
@@ -119,30 +152,24 @@ static bool await_wake(lfm_condvar *condvar, struct lfm_waiter *waiter, const st
  * otherwise at some of its waits, as a trial. If others wait too, it doesn't spin. */
 enum { CREDIT_AFTER_A_RING = 16, WAITS_PER_TRIAL = 32, WAIT_SPIN = 5000 };
 
-static bool spin_for_wake(lfm_seat *seat, uint32_t *bell) {
-  bool is_trial = ++seat->waits % WAITS_PER_TRIAL == 0;
-  if (most_spinners() == 0 || (seat->spin_credit == 0 && !is_trial)) return false;
+static bool spin_for_wake(struct participant *by, uint32_t *bell) {
+  bool is_trial = ++by->waits % WAITS_PER_TRIAL == 0;
+  if (most_spinners() == 0 || (by->spin_credit == 0 && !is_trial)) return false;
   bool is_rung = spin_at_bell(bell, WAIT_SPIN);
-  seat->spin_credit = is_rung ? CREDIT_AFTER_A_RING : seat->spin_credit / 2;
+  by->spin_credit = is_rung ? CREDIT_AFTER_A_RING : by->spin_credit / 2;
   return is_rung;
 }
 
-/* Why a wait of this seat is refused, or LFM_DONE. An unlock of a seat that doesn't hold is refused and says why. If the
- * seat has no take left to acquire the mutex after the wait, another is reserved, for which it is to be exchanged. */
-static lfm_status prepare_wait(lfm_seat *seat, struct spent_seat **reserved) {
-  if (!reclaim(seat)) return LFM_NOT_OWNER;
-  uint64_t depth = lfm_c_depth(seat->handle);
-  if (depth == 0) return status_of(lfm_c_unlock(seat->handle));
-  if (depth > 1) return LFM_NESTED;
-  if (UNLIKELY(lfm_c_left(seat->handle) == 0) && !(*reserved = reserve_seat(seat->core))) return LFM_SPENT;
-  return LFM_DONE;
+/* Why a wait of this participant, which has a seat in the pool of the mutex, is refused, or LFM_DONE. */
+static lfm_status refusal_of_wait(struct participant *by, mutex_word mutex) {
+  uint64_t depth = depth_of(by, mutex);
+  return depth == 0 ? refusal_of_unlock(by, mutex) : depth > 1 ? LFM_NESTED : LFM_DONE;
 }
 
-static lfm_status wait_until(lfm_condvar *condvar, lfm_seat *seat, const struct deadline *deadline) {
-  struct spent_seat *reserved = NULL;
-  lfm_status status = prepare_wait(seat, &reserved);
+static lfm_status wait_until(lfm_condvar *condvar, struct participant *by, mutex_word mutex, const struct deadline *deadline) {
+  lfm_status status = refusal_of_wait(by, mutex);
   if (status != LFM_DONE) return status;
-  struct lfm_waiter waiter = {.core = seat->core, .bell = SILENT, .is_timed = deadline != NULL};
+  struct lfm_waiter waiter = {.mutex = mutex, .bell = SILENT, .is_timed = deadline != NULL};
   hide(condvar, sizeof *condvar);
   hide(&waiter, sizeof waiter);
   acquire_latch(&condvar->latch);
@@ -150,29 +177,45 @@ static lfm_status wait_until(lfm_condvar *condvar, lfm_seat *seat, const struct 
   bool is_alone = !waiter.older;
   if (deadline) __atomic_add_fetch(&condvar->inside, 1, __ATOMIC_RELAXED);
   release_latch(&condvar->latch);
-  unlock(seat);
-  if (UNLIKELY(reserved)) exchange_seat(seat, reserved);
-  bool is_done = (is_alone && spin_for_wake(seat, &waiter.bell)) || await_wake(condvar, &waiter, deadline);
+  unlock(by, mutex);
+  bool is_done = (is_alone && spin_for_wake(by, &waiter.bell)) || await_wake(condvar, &waiter, deadline);
   if (deadline && __atomic_sub_fetch(&condvar->inside, 1, __ATOMIC_ACQ_REL) == IS_CLOSING) wake_sleeper(&condvar->inside);
   ring_for_others(&waiter);
   /* Of threads that are woken together each would nap while another holds. In order they go on one after another. */
-  status = is_done && waiter.is_one_of_many ? tell_if_acquired(seat, queue(seat, NULL)) : lock(seat);
+  status = is_done && waiter.is_one_of_many ? lock_in_order(by, mutex) : lock(by, mutex);
   return is_done || lfm_is_refused(status) ? status : LFM_TIMED_OUT;
+}
+
+/* If the wait is refused after the mutex was released, since no lock of it is possible any more, no hold is left. */
+static lfm_status wait_with_all_holds(lfm_condvar *condvar, struct participant *by, mutex_word mutex,
+                                      const struct deadline *deadline) {
+  uint64_t depth = depth_of(by, mutex);
+  for (uint64_t i = 1; i < depth; i++) unlock(by, mutex);
+  lfm_status status = wait_until(condvar, by, mutex, deadline);
+  for (uint64_t i = 1; i < depth && !lfm_is_refused(status); i++) lock(by, mutex);
+  return status;
 }
 
 /* Wakes */
 
+/* Whether the ring for this waiter may be put off until the participant releases a mutex: the waiter has no time limit, and the
+ * participant holds its mutex and has put off no ring for another one. */
+static bool may_put_off(struct participant *by, const struct lfm_waiter *waiter) {
+  if (waiter->is_timed || (by->unrung && by->unrung_at != waiter->mutex)) return false;
+  return depth_of(by, waiter->mutex) != 0;
+}
+
 /* Rings for a waiter that was taken out of its list, or puts it off. */
-static void ring_for(struct lfm_waiter *waiter, lfm_seat *seat) {
-  if (!seat || seat->core != waiter->core) seat = find(waiter->core);
-  if (waiter->is_timed || lfm_depth(seat) == 0) {
+static void ring_for(struct lfm_waiter *waiter, struct participant *by) {
+  if (!may_put_off(by, waiter)) {
     ring(&waiter->bell);
     return;
   }
-  put_off_ring(seat, waiter);
+  by->unrung_at = waiter->mutex;
+  put_off_ring(by, waiter);
 }
 
-static lfm_status wake(lfm_condvar *condvar, lfm_seat *seat, bool all) {
+static lfm_status wake(lfm_condvar *condvar, struct participant *by, bool all) {
   if (!condvar) return LFM_BLANK;
   if (!__atomic_load_n(&condvar->oldest, __ATOMIC_RELAXED)) return LFM_NOBODY;
   acquire_latch(&condvar->latch);
@@ -185,7 +228,7 @@ static lfm_status wake(lfm_condvar *condvar, lfm_seat *seat, bool all) {
   for (struct lfm_waiter *waiter = first, *next; waiter; waiter = next) {
     next = waiter == last ? NULL : waiter->newer;
     waiter->is_one_of_many = first != last;
-    ring_for(waiter, seat);
+    ring_for(waiter, by);
   }
   return first ? LFM_DONE : LFM_NOBODY;
 }

@@ -1,77 +1,111 @@
-/* How a mutex is closed, and made new in a forked child. When its memory goes is decided in core.h, by the last
- * reference. */
+/* How a mutex is closed, and what a forked child does with the mutexes of its parent.
+ *
+ * A child has the pools of its parent as they were at the fork, and one of its threads. The other threads make no further step:
+ * to the core they are threads that are late for ever. So the child goes on with each mutex that none of them held or asked for.
+ * Of one that the forking thread held, lfm_after_fork takes another in its place if others had asked for it: they would be
+ * granted it in their turn. It does so too if seats of it are in hand that the child forgets. The latches of the library are
+ * held over a fork, so none is held by a thread that the child lacks. */
 
-/* Finds out whether a seat holds the mutex or asks for it, as counted by the calling thread's seat, or by one that it takes
- * for that. If there is none, the answer is false. */
-static bool observe_use(struct lfm_core *core) {
-  lfm_seat *seat = find(core), temporary;
-  if (seat && !reclaim(seat)) {
-    if (state_of(seat) == ABANDONED) return true;
-    await_passing(seat);
-  }
-  if (seat) return lfm_c_count(seat->handle) != 0;
-  temporary.is_of_library = false;
-  if (take_seat(core, &temporary, 0, false, NULL) != LFM_DONE) return false;
-  bool is_used = lfm_c_count(temporary.handle) != 0;
-  give_seat(&temporary, false);
-  return is_used;
+static void hold_latches(void) {
+  acquire_latch(&LFM_PROCESS.latch);
+  for (uint32_t i = 1; i <= LFM_PROCESS.count_of_pools; i++) acquire_latch(&LFM_PROCESS.pools[i]->latch);
 }
 
+static void release_latches(void) {
+  for (uint32_t i = 1; i <= LFM_PROCESS.count_of_pools; i++) release_latch(&LFM_PROCESS.pools[i]->latch);
+  release_latch(&LFM_PROCESS.latch);
+}
+
+static void count_fork(void) {
+  LFM_PROCESS.forks++;
+  release_latches();
+}
+
+/* Made before a program's constructors run, or as the first mutex is opened, which may be earlier. So handlers of a program that
+ * lock, as those of a malloc do, are called while the latches are free. */
+__attribute__((constructor(101))) static void watch_forks(void) {
+  static bool is_watching;
+  hide(&LFM_PROCESS, sizeof LFM_PROCESS);
+  if (__atomic_exchange_n(&is_watching, true, __ATOMIC_SEQ_CST)) return;
+  if (pthread_atfork(hold_latches, release_latches, count_fork) != 0) __atomic_store_n(&is_watching, false, __ATOMIC_SEQ_CST);
+}
+
+#define IS_UNKNOWN UINT64_MAX
+
+static bool has_participants(void) { return __atomic_load_n(&LFM_PROCESS.participants, __ATOMIC_ACQUIRE); }
+
+/* How many seats hold the mutex or ask for it, by the calling thread's participant. If it gets none, that is not known, unless
+ * there is no participant at all. It tries twice, since another thread may have got the memory that was refused. */
+static uint64_t count_here(mutex_word mutex) {
+  lfm_status cause;
+  struct participant *by = take_own(&cause);
+  if (!by && !has_participants()) return 0;
+  if (!by) by = take_own(&cause);
+  if (!by) return IS_UNKNOWN;
+  take_seats(by, mutex);
+  uint64_t count = count_by(by, mutex);
+  end_here(by, LFM_DONE);
+  return count;
+}
+
+/* The number goes to another mutex only if nobody is seen to hold this one: a child forgets one that threads of its parent
+ * hold. */
 lfm_status lfm_mutex_close(lfm_mutex *mutex) {
   if (!mutex || mutex->version == 0) return LFM_BLANK;
-  struct lfm_core *core = mutex->core;
-  if (core && is_of_process(core)) {
-    acquire_latch(&core->latch);
-    uint32_t in_hand = core->in_hand;
-    release_latch(&core->latch);
-    if (in_hand) return LFM_NOT_BACK;
-    if (__atomic_load_n(&core->orphans, __ATOMIC_RELAXED) > 0 || observe_use(core)) return LFM_HOLDING;
-    __atomic_store_n(&core->is_ended, true, __ATOMIC_RELEASE);
-    if (find(core)) give_back_slot(slot_of(core));
-    drop_reference(core);
+  mutex_word word = load_mutex(mutex);
+  if (word) {
+    uint64_t count = count_here(word);
+    if (is_of_process(word)) {
+      if (__atomic_load_n(&info_of(word)->in_hand, __ATOMIC_SEQ_CST)) return LFM_NOT_BACK;
+      if (count && count != IS_UNKNOWN) return LFM_HOLDING;
+    } else if (depth_of(own.by, word) != 0) {
+      return LFM_HOLDING;
+    }
+    lfm_seat *seat = find_seat_here(word);
+    if (seat) forget_seat_here(seat);
+    if (count == 0) give_mutex(word);
   }
   memset(mutex, 0, sizeof *mutex);
   return LFM_DONE;
 }
 
-/* Makes a new core for this process, with a seat of the calling thread if it has one, as deep as the old seat.
- *
- * The core of the parent stays as it is, with the seats of other threads, and none of it is freed. The child doesn't have
- * these threads, and each may have been in a call that was changing a handle. */
-static lfm_status make_new(lfm_mutex *mutex, lfm_seat *seat, bool is_in_hand) {
+/* Takes another mutex in place of this one, which the participant holds as often then, by its own seat. */
+static lfm_status replace_mutex(lfm_mutex *mutex, struct participant *by, uint64_t depth, lfm_seat *seat) {
   lfm_status cause;
-  struct lfm_core *before = mutex->core, *core = new_core(before->seats, before->budget, &cause);
-  if (!core) return cause;
-  lfm_seat *listed = find(before);
-  if (listed) empty_slot(slot_of(before));
-  if (listed == seat && seat)
-    add_to_table(core, seat);
-  else
-    free(listed);
-  if (seat) {
-    uint64_t depth = lfm_c_depth(seat->handle);
-    take_seat(core, seat, seat->flags, is_in_hand, NULL);
-    for (uint64_t i = 0; i < depth; i++) lfm_c_try_lock(seat->handle);
-  }
-  mutex->core = core;
+  mutex_word taken = take_mutex(&cause);
+  if (!taken) return cause;
+  struct participant *deputy = holding_deputy(by, load_mutex(mutex));
+  if (deputy) deputy->holds = 0;
+  take_seats(by, taken);
+  for (uint64_t i = 0; i < depth; i++) try_by(by, taken);
+  mutex->core = (struct lfm_core *)(uintptr_t)taken;
+  if (!seat) return LFM_DONE;
+  seat->mutex = taken;
+  info_of(taken)->in_hand = !seat->is_of_library;
   return LFM_DONE;
 }
 
-/* Of the parent's handles it uses that of the calling thread's own seat alone, which no other thread had in a call. Without
- * such a seat it takes one of the mutex, unless a thread of the parent was changing the mutex. */
+/* Makes a mutex of the parent one of the child, or takes another in its place if other seats asked for it or are in hand. */
+static lfm_status renew_mutex(lfm_mutex *mutex, struct participant *by, lfm_seat *seat) {
+  mutex_word word = load_mutex(mutex);
+  uint64_t depth = depth_of(by, word), others = count_by(by, word) - (depth != 0);
+  if (depth == 0 && others) return LFM_BUSY;
+  if (by->unrung_at == word) by->unrung = NULL; /* those waiters are threads of the parent */
+  struct mutex_info *info = info_of(word);
+  if (others || info->in_hand != (seat && !seat->is_of_library)) return replace_mutex(mutex, by, depth, seat);
+  info->forks = LFM_PROCESS.forks;
+  return LFM_DONE;
+}
+
 lfm_status lfm_after_fork(lfm_mutex *mutex, lfm_seat *seat) {
-  if (!mutex || mutex->version == 0 || (seat && !seat->core)) return LFM_BLANK;
-  struct lfm_core *core = mutex->core;
-  if (seat && seat->core != core) return LFM_FOREIGN;
-  if (!core || is_of_process(core)) return LFM_DONE;
-  lfm_seat *found = seat ? seat : find(core), temporary;
-  if (!found && core->latch == 0) {
-    lfm_c_blank_seat(temporary.handle);
-    if (lfm_c_take_seat(core->handle, temporary.handle) == LFM_DONE) found = &temporary;
-  }
-  if (!found || (found != &temporary && !reclaim(found))) return LFM_BUSY;
-  bool is_busy = lfm_c_depth(found->handle) == 0 && lfm_c_count(found->handle) != 0;
-  if (found == &temporary) lfm_c_give_seat(core->handle, temporary.handle);
-  if (is_busy) return LFM_BUSY;
-  return make_new(mutex, found == &temporary ? NULL : found, seat && !seat->is_of_library);
+  lfm_status cause;
+  if (!mutex || mutex->version == 0 || (seat && !seat->by)) return LFM_BLANK;
+  mutex_word word = load_mutex(mutex);
+  if (seat && seat->mutex != word) return LFM_FOREIGN;
+  if (!word || is_of_process(word)) return LFM_DONE;
+  struct participant *by = seat ? seat->by : take_own(&cause);
+  if (!by) return cause;
+  take_seats(by, word);
+  cause = renew_mutex(mutex, by, seat ? seat : find_seat_here(word));
+  return seat ? cause : end_here(by, cause);
 }

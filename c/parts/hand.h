@@ -1,86 +1,102 @@
-/* Seats in hand: how they are taken and given back. A seat in hand lies in memory of the program, and an orphan in memory
- * of the library. So a seat in hand that is given back while queued is copied into an orphan, and an adopted orphan into
- * the seat. No other part knows of the copies. */
+/* Seats in hand, and those that lfm_seat_here answers. A seat in hand has a participant of its own, and a seat of lfm_seat_here
+ * that of its thread. Both are a participant with one mutex. */
 
-/* Copies what a call of the seat may have changed. The bell is not copied: its ring may come at the same time. */
-static void copy_seat(lfm_seat *to, const lfm_seat *from) {
-  memcpy(to->handle, from->handle, sizeof to->handle);
-  to->core = from->core;
-  to->number = from->number;
-  to->takes_at_first = from->takes_at_first;
-  to->takes_left = from->takes_left;
+FAST_PATH bool is_taken(const lfm_seat *seat) { return seat && seat->by; }
+
+SLOW_PATH void begin_checked_call(lfm_seat *seat) {
+  if (!__atomic_exchange_n(&seat->is_in_call, 1, __ATOMIC_SEQ_CST)) return;
+  fputs("ligdrosa: two threads are in calls of one seat at the same time\n", stderr);
+  abort();
 }
 
-/* Takes */
-
-/* Copies an adopted seat into the seat in hand, which has the flags already. The place is taken up meanwhile, so that no
- * other thread changes the seat. If it is granted the mutex then, it releases it, and the seat in hand is free as any new
- * one. */
-SLOW_PATH void move_to_hand(lfm_seat *adopted, lfm_seat *seat) {
-  if (resume_place(adopted)) {
-    copy_seat(seat, adopted);
-    seat->flags |= HAS_ABANDONED;
-    if (move_place(adopted, TIMED, seat, ABANDONED)) {
-      free(adopted);
-      return;
-    }
-    forget_abandoned(seat);
-    await_grant(adopted, NULL);
-    unlock(adopted);
-  }
-  copy_seat(seat, adopted);
-  set_place(seat, WAITS);
-  free(adopted);
+/* Begins a call of a seat that is taken. */
+FAST_PATH void begin_call(lfm_seat *seat) {
+  if (UNLIKELY(seat->is_checked)) begin_checked_call(seat);
 }
 
-static lfm_status take_in_hand(lfm_mutex *mutex, lfm_seat *seat, uint32_t flags) {
+/* Ends it, and returns its status. */
+FAST_PATH lfm_status end_call(lfm_seat *seat, lfm_status status) {
+  if (UNLIKELY(seat->is_checked)) __atomic_store_n(&seat->is_in_call, 0, __ATOMIC_SEQ_CST);
+  return status;
+}
+
+/* Makes a call by a seat in hand. */
+#define CALL_BY(seat, call) (is_taken(seat) ? (begin_call(seat), end_call(seat, call)) : LFM_BLANK)
+
+/* Whether a call of the seat has nothing to do in addition. */
+FAST_PATH bool is_plain_seat(const lfm_seat *seat) {
+  return LIKELY(is_taken(seat) && !seat->is_checked && seat->by->plain_pools);
+}
+
+SLOW_PATH lfm_status lock_flagged(lfm_seat *seat) { return CALL_BY(seat, lock(seat->by, seat->mutex)); }
+SLOW_PATH lfm_status try_flagged(lfm_seat *seat) { return CALL_BY(seat, try_and_tell(seat->by, seat->mutex)); }
+SLOW_PATH lfm_status unlock_flagged(lfm_seat *seat) { return CALL_BY(seat, unlock(seat->by, seat->mutex)); }
+
+lfm_status lfm_lock(lfm_seat *seat) {
+  return is_plain_seat(seat) ? lock_plainly(seat->by, seat->mutex) : lock_flagged(seat);
+}
+
+lfm_status lfm_try_lock(lfm_seat *seat) {
+  return is_plain_seat(seat) ? try_plainly(seat->by, seat->mutex) : try_flagged(seat);
+}
+
+lfm_status lfm_unlock(lfm_seat *seat) {
+  return is_plain_seat(seat) ? unlock_plainly(seat->by, seat->mutex) : unlock_flagged(seat);
+}
+
+lfm_status lfm_lock_in_order(lfm_seat *seat) { return CALL_BY(seat, lock_in_order(seat->by, seat->mutex)); }
+
+lfm_status lfm_try_lock_for(lfm_seat *seat, uint64_t nanoseconds) {
+  struct deadline deadline = deadline_after(nanoseconds);
+  return CALL_BY(seat, lock_until(seat->by, seat->mutex, &deadline));
+}
+
+lfm_status lfm_try_lock_until(lfm_seat *seat, int clock, const struct timespec *time) {
+  struct deadline deadline;
+  lfm_status status = deadline_at(clock, time, &deadline);
+  return status == LFM_DONE ? CALL_BY(seat, lock_until(seat->by, seat->mutex, &deadline)) : status;
+}
+
+uint64_t lfm_number(lfm_seat *seat) { return is_taken(seat) ? seat->by->number : 0; }
+uint64_t lfm_depth(lfm_seat *seat) { return is_taken(seat) ? depth_of(seat->by, seat->mutex) : 0; }
+uint64_t lfm_left(lfm_seat *seat) { return is_taken(seat) ? LFM_MOST_TAKES : 0; }
+
+/* Takes and gives */
+
+static lfm_status take_in_hand(lfm_mutex *mutex, lfm_seat *seat, bool is_checked) {
   lfm_status cause;
   if (!seat) return LFM_BLANK;
-  struct lfm_core *core = open_core_of(mutex, &cause);
-  if (!core) return cause;
-  if (seat->core) return LFM_TAKEN;
-  seat->is_of_library = false;
-  lfm_seat *adopted = NULL;
-  cause = take_seat(core, seat, flags, true, &adopted);
-  if (adopted) move_to_hand(adopted, seat);
-  return cause;
+  mutex_word word = open_mutex(mutex, &cause);
+  if (!word) return cause;
+  if (seat->by) return LFM_TAKEN;
+  struct participant *by = take_participant(&cause);
+  if (!by) return cause;
+  take_seats(by, word);
+  __atomic_add_fetch(&info_of(word)->in_hand, 1, __ATOMIC_SEQ_CST);
+  *seat = (lfm_seat){.by = by, .mutex = word, .is_checked = is_checked};
+  return LFM_DONE;
 }
 
-lfm_status lfm_seat_take(lfm_mutex *mutex, lfm_seat *seat) { return take_in_hand(mutex, seat, 0); }
-lfm_status lfm_seat_take_checked(lfm_mutex *mutex, lfm_seat *seat) { return take_in_hand(mutex, seat, IS_CHECKED); }
+lfm_status lfm_seat_take(lfm_mutex *mutex, lfm_seat *seat) { return take_in_hand(mutex, seat, false); }
+lfm_status lfm_seat_take_checked(lfm_mutex *mutex, lfm_seat *seat) { return take_in_hand(mutex, seat, true); }
 
-/* Gives */
-
-/* Makes an orphan of a seat in hand that has abandoned its place: whether it has. Otherwise the seat is free. The orphan is
- * a copy, which is made while the place is taken up, so that no other thread changes the seat. Without memory for it, the
- * seat waits until it is granted the mutex, and releases it. */
-SLOW_PATH bool orphan_copy(lfm_seat *seat) {
-  if (!resume_place(seat)) return false;
-  lfm_seat *as = (lfm_seat *)new_lines(offsetof(lfm_seat, unused));
-  if (as) {
-    copy_seat(as, seat);
-    as->is_of_library = true;
-    if (orphan(seat, TIMED, as, true)) return true;
-    free(as);
-  }
-  await_grant(seat, NULL);
-  unlock(seat);
-  return false;
+/* Whether the participant, which doesn't hold, is queued in a call of another thread. */
+static bool is_asleep(struct participant *by, mutex_word mutex) {
+  for (struct participant *deputy = by->deputies; deputy; deputy = deputy->next)
+    if (state_of(deputy) == TIMED) return true;
+  return refusal_of_unlock(by, mutex) == LFM_SEAT_ASLEEP;
 }
 
-/* Gives back a seat of lfm_seat_here, which its thread has in its table. */
-static lfm_status give_own(lfm_seat *seat) {
-  return find(seat->core) == seat ? give_back_slot(slot_of(seat->core)) : LFM_FOREIGN;
-}
-
-/* A seat that was given back is touched no more: its memory may be gone by then, with that of the mutex. In a child a call
- * of the seat may be open for ever, by a thread that the child lacks, so there it is not asked whether one is. */
-lfm_status lfm_seat_give(lfm_seat *seat) {
-  if (!is_taken(seat)) return LFM_BLANK;
-  if (seat->is_of_library) return give_own(seat);
-  bool is_here = is_of_process(seat->core);
-  if (is_here) begin_call(seat);
-  if (has_abandoned(seat) && is_here && orphan_copy(seat)) return LFM_DONE;
-  lfm_status status = give_seat(seat, true);
-  return status == LFM_DONE ? status : end_call(seat, status);
+/* A seat that was given back is touched no more: its memory may be gone by then, with that of the mutex. */
+static lfm_status give_in_hand(lfm_seat *seat) {
+  struct participant *by = seat->by;
+  if (by->holds) return end_call(seat, LFM_HOLDING);
+  if (is_asleep(by, seat->mutex)) return end_call(seat, LFM_SEAT_ASLEEP);
+  struct mutex_info *info = info_of(seat->mutex);
+  seat->by = NULL;
+  seat->is_in_call = 0;
+  part_with_deputies(by);
+  give_participant(by);
+  __atomic_sub_fetch(&info->in_hand, 1, __ATOMIC_SEQ_CST);
+  return LFM_DONE;
 }

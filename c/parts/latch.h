@@ -1,10 +1,10 @@
 /* A latch is a futex lock of three states: 0 free, 1 held, 2 held with sleepers. A thread that finds it held spins, then
- * sleeps, so a holder of a lower priority gets to release it. A core has one for its seats, and a condition variable one for
- * its list. It is held for a few steps, and no thread waits for another meanwhile. The exchange that releases it is the last
- * access to it, as with a bell.
+ * sleeps, so a holder of a lower priority gets to release it. The process has one, each pool has one for its seats, and a
+ * condition variable one for its list. It is held for a few steps, and no thread waits for another meanwhile. The exchange
+ * that releases it is the last access to it, as with a bell.
  *
- * Its operations are sequentially consistent, except the load before one: the handle of the mutex goes with a core's latch,
- * and so do those of seats that are exchanged. */
+ * Its operations are sequentially consistent, except the load before one: the handle of a pool goes with its latch, and so
+ * do those of its seats that are not taken. */
 
 SLOW_PATH void acquire_latch_slowly(uint32_t *latch) {
   for (int loads = 0; loads < LFM_ROUNDS(SHORT_SPIN); loads++) {

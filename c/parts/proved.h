@@ -37,6 +37,8 @@ void lfm_c_blank_pool(void *pool);
 void lfm_c_blank_pool_seat(void *seat);
 uint64_t lfm_c_pool_open(void *pool, uint64_t mutexes, uint64_t seats);
 uint64_t lfm_c_pool_take_seat(void *pool, void *seat);
+uint64_t lfm_c_pool_number(void *seat);
+uint64_t lfm_c_pool_count(void *seat, uint64_t mutex);
 uint64_t lfm_c_pool_depth(void *seat, uint64_t mutex);
 uint64_t lfm_c_pool_ask(void *seat, uint64_t mutex);
 uint64_t lfm_c_pool_receive(void *seat, uint64_t mutex);

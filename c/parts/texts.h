@@ -16,7 +16,7 @@ const char *lfm_status_text(lfm_status status) {
     case LFM_TAKEN: return "the mutex is open, or the seat taken, already";
     case LFM_LIMIT: return "a number is outside its limits";
     case LFM_NO_MEMORY: return "memory was refused";
-    case LFM_NO_SEAT: return "all seats of the mutex are taken, and a thread keeps its own until it ends or gives it back";
+    case LFM_NO_SEAT: return "threads, seats and locks with a time limit have all 4,095 numbers of the process";
     case LFM_NOT_BACK: return "some seats are not given back";
     case LFM_HOLDING: return "the mutex is held";
     case LFM_FOREIGN: return "the seat is of another mutex or thread";
@@ -26,7 +26,7 @@ const char *lfm_status_text(lfm_status status) {
     case LFM_NOT_OWNER: return "the seat doesn't hold the mutex";
     case LFM_NESTED: return "the seat holds the mutex more than once";
     case LFM_DEPTH_FULL: return "the seat holds the mutex 65,535 times already";
-    case LFM_SPENT: return "the seat has no take left, and no other is free, or memory for it was refused";
+    case LFM_SPENT: return "the mutex has had 2^48 - 2^13 queued locks, or the seat 2^47 posts";
     case LFM_NO_SUCH_SEAT: return "no seat has this number";
     case LFM_NOT_WAITING: return "the seat doesn't sleep";
     case LFM_BUSY: return "the mutex is busy";

@@ -1,4 +1,4 @@
-/* What tools that check threads are told, how many processors there are, and where memory of the proved calls comes from.
+/* What tools that check threads are told, how many processors there are, and where the library's own memory comes from.
  * Which calls tell tools of a lock is decided in lock.h.
  *
  * Tools are told what a lock and an unlock order: ThreadSanitizer, and Helgrind and DRD of valgrind if its headers were
@@ -56,10 +56,45 @@ static uint32_t most_spinners(void) {
   return count == 1 ? 0 : count;
 }
 
-/* What the kit's functions call for memory in place of malloc. */
+/* Memory that is all 0, or null. errno stays as it was. It is asked of the system, and not of malloc, which may itself lock a
+ * mutex of this library. */
+static void *reserve_memory(size_t bytes) {
+  int before = errno;
+  void *at = mmap(NULL, bytes, PROT_READ | PROT_WRITE, MAP_PRIVATE | MAP_ANONYMOUS | MAP_NORESERVE, -1, 0);
+  errno = before;
+  if (at == MAP_FAILED) return NULL;
+  hide(at, bytes);
+  return at;
+}
+
+/* A block of the proved calls: its bytes lie behind this. */
+struct block {
+  size_t bytes;
+} __attribute__((aligned(16)));
+
+/* What the kit's functions call in place of malloc, free and realloc. */
 void *lfm_allocate(size_t bytes);
+void lfm_release(void *at);
+void *lfm_resize(void *at, size_t bytes);
+
 void *lfm_allocate(size_t bytes) {
-  void *block = malloc(bytes);
-  hide(block, bytes);
-  return block;
+  struct block *block = bytes <= SIZE_MAX / 2 ? (struct block *)reserve_memory(sizeof *block + bytes) : NULL;
+  if (!block) return NULL;
+  block->bytes = bytes;
+  return block + 1;
+}
+
+void lfm_release(void *at) {
+  if (!at) return;
+  struct block *block = (struct block *)at - 1;
+  munmap(block, sizeof *block + block->bytes);
+}
+
+void *lfm_resize(void *at, size_t bytes) {
+  void *moved = lfm_allocate(bytes);
+  if (!at || !moved) return moved;
+  size_t before = ((struct block *)at - 1)->bytes;
+  memcpy(moved, at, before < bytes ? before : bytes);
+  lfm_release(at);
+  return moved;
 }

@@ -29,27 +29,27 @@ struct lfm_waiter {
   struct lfm_waiter *newer; /* the same, or the next whose ring the same hold puts off */
   struct lfm_waiter *rung_by;
   struct lfm_waiter *rings_for[RINGS];
-  struct lfm_core *core; /* of the mutex that it acquires again */
+  mutex_word mutex; /* which it acquires again */
   uint32_t bell;
   bool is_listed;
   bool is_timed;
   bool is_one_of_many; /* it was woken with others */
 };
 
-/* Puts the ring for a waiter off until the seat releases the mutex. It gets the first place in the tree that is free. */
-static void put_off_ring(lfm_seat *seat, struct lfm_waiter *waiter) {
-  struct lfm_waiter *last = seat->last_unrung;
+/* Puts the ring for a waiter off until the participant releases the mutex. It gets the first place in the tree that is free. */
+static void put_off_ring(struct participant *by, struct lfm_waiter *waiter) {
+  struct lfm_waiter *last = by->last_unrung;
   waiter->newer = NULL;
-  if (seat->unrung) {
+  if (by->unrung) {
     struct lfm_waiter *before = last->rung_by ? last->rung_by : last;
     if (before->rings_for[RINGS - 1]) before = before->newer;
     before->rings_for[before->rings_for[0] ? 1 : 0] = waiter;
     waiter->rung_by = before;
     last->newer = waiter;
   } else {
-    seat->unrung = waiter;
+    by->unrung = waiter;
   }
-  seat->last_unrung = waiter;
+  by->last_unrung = waiter;
 }
 
 /* Rings for these waiters, each of which may be null. ThreadSanitizer doesn't see the exchange that the system makes, so it
@@ -63,13 +63,13 @@ static void ring_for_two(struct lfm_waiter *one, struct lfm_waiter *other) {
   }
 }
 
-/* Makes the rings that were put off until the seat releases the mutex, after an unlock with this status: those for the first
- * waiters. If it has granted the mutex to another seat, a call of the system has been made to wake that. */
-static void ring_unrung(lfm_seat *seat, lfm_status status) {
-  struct lfm_waiter *first[CALLS_OF_AN_UNLOCK * RINGS] = {NULL}, *waiter = seat->unrung;
+/* Makes the rings that were put off until the participant releases the mutex, after an unlock with this status: those for the
+ * first waiters. If it has granted the mutex to another seat, a call of the system has been made to wake that. */
+static void ring_unrung(struct participant *by, lfm_status status) {
+  struct lfm_waiter *first[CALLS_OF_AN_UNLOCK * RINGS] = {NULL}, *waiter = by->unrung;
   int calls = status == LFM_GRANTED ? CALLS_OF_AN_UNLOCK - 1 : CALLS_OF_AN_UNLOCK;
   int most = LFM_RINGS(can_ring_both() ? calls * RINGS : calls);
-  seat->unrung = NULL;
+  by->unrung = NULL;
   for (int i = 0; waiter && i < most; i++) {
     struct lfm_waiter *before = waiter->rung_by;
     if (before) before->rings_for[before->rings_for[0] == waiter ? 0 : 1] = NULL;

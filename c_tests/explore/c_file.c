@@ -1,5 +1,5 @@
 /* c/ligdrosa.c, with the system's calls in the explorer's hands. It is compiled with -fsanitize=thread, so that each access
- * calls the explorer. Its text is unchanged. Each process has the number 4711. */
+ * calls the explorer. Its text is unchanged, and its limits are low, so that a state is small and a pool soon full. */
 #define _GNU_SOURCE
 #include <errno.h>
 #include <link.h>
@@ -9,6 +9,7 @@
 #include <stdlib.h>
 #include <string.h>
 #include <sys/auxv.h>
+#include <sys/mman.h>
 #include <sys/syscall.h>
 #include <time.h>
 #include <unistd.h>
@@ -53,7 +54,7 @@ static long explorer_syscall(long number, ...) {
     return (long)sizeof mask[0];
   }
   va_end(list);
-  return 4711;
+  return 0;
 }
 static int explorer_clock_gettime(int clock, struct timespec *now) {
   (void)clock;
@@ -69,21 +70,38 @@ static int explorer_setspecific(pthread_key_t key, const void *value) {
   return 0;
 }
 
+static int explorer_atfork(void (*before)(void), void (*parent)(void), void (*child)(void)) {
+  (void)before, (void)parent, (void)child;
+  return 0;
+}
+/* What the library allocates for the proved calls lasts as long as the process, as their pools do. */
+static void *explorer_allocate(const char *function, size_t bytes) {
+  return strcmp(function, "lfm_allocate") ? explorer_malloc(bytes) : explorer_keep(bytes);
+}
+static void *explorer_reserve(size_t bytes) {
+  void *at = explorer_keep(bytes);
+  return at ? at : MAP_FAILED;
+}
+
 #define syscall explorer_syscall
 #define clock_gettime explorer_clock_gettime
 #define pthread_key_create explorer_key_create
 #define pthread_key_delete explorer_key_delete
 #define pthread_setspecific explorer_setspecific
-#define malloc explorer_malloc
-#define calloc explorer_calloc
+#define pthread_atfork explorer_atfork
+#define malloc(bytes) explorer_allocate(__func__, bytes)
 #define free explorer_free
-#define posix_memalign explorer_memalign
-#define getpid() 4711
+#define mmap(at, bytes, ...) explorer_reserve(bytes)
+#define munmap(at, bytes) explorer_free(at)
 #define memset explorer_memset
 #define memcpy explorer_memcpy
 #define abort() explorer_fault("abort of the library")
 #define LFM_ROUNDS(count) explorer_rounds(count)
 #define LFM_RINGS(count) explorer_rings(count)
+#define LFM_PROCESS (*(struct process *)explorer_process)
+#define LFM_FIRST_POOL 2
+#define LFM_MOST_POOLS 2
+#define LFM_MOST_PARTICIPANTS 8
 #ifndef LIGDROSA_C
 #define LIGDROSA_C "../../c/ligdrosa.c"
 #endif
@@ -95,3 +113,47 @@ size_t explorer_own_size(void) { return sizeof own; }
 void *explorer_own_at(void) { return &own; }
 void explorer_end_thread(void *at) { end_thread(at); }
 void explorer_warm(void) { processors(); } /* so that it is known in all runs */
+size_t explorer_process_size(void) { return sizeof(struct process); }
+
+/* What is so when no thread has anything any more */
+
+/* Each number that was ever taken is in the stack, once. */
+static void check_numbers(const struct numbers *numbers) {
+  bool is_free[LFM_MOST_PARTICIPANTS + 1] = {false};
+  uint32_t count = 0;
+  for (uint32_t number = (uint32_t)numbers->top; number; number = numbers->below[number]) {
+    CHECK(number <= numbers->used && !is_free[number]);
+    is_free[number] = true;
+    count++;
+  }
+  CHECK(count == numbers->used && "each number was given back");
+}
+
+/* A ring that nobody waits for any more would end a later wait too early. That a thread has begun to listen does no harm. */
+static void check_participant(struct participant *by) {
+  CHECK(by->holds == 0 && !by->deputies && !by->unrung);
+  CHECK(by->state == RESTS && by->bell != RUNG);
+  for (uint32_t i = 1; i <= by->pools; i++) {
+    struct pool *pool = pool_at(i);
+    CHECK(pool->of_seat[lfm_c_pool_number(by->seats[i - 1])] == by);
+    for (uint32_t k = 0; k < pool->numbers.used; k++) CHECK(lfm_c_pool_count(by->seats[i - 1], k) == 0);
+  }
+}
+
+static void check_pool(const struct pool *pool) {
+  CHECK(pool->latch == 0);
+  check_numbers(&pool->numbers);
+  for (uint32_t i = 0; i < pool->numbers.used; i++) CHECK(pool->infos[i].in_hand == 0 && pool->infos[i].queued == 0);
+  for (uint32_t i = 1; i <= LFM_MOST_PARTICIPANTS; i++) {
+    struct participant *by = pool->of_seat[i];
+    CHECK(!by || by == &LFM_PROCESS.participants[by->number]);
+  }
+}
+
+/* All numbers are free again, and nobody holds a mutex or asks for one. */
+void explorer_check_all_given_back(void) {
+  CHECK(LFM_PROCESS.latch == 0);
+  check_numbers(&LFM_PROCESS.numbers);
+  for (uint32_t i = 1; i <= LFM_PROCESS.numbers.used; i++) check_participant(&LFM_PROCESS.participants[i]);
+  for (uint32_t i = 1; i <= LFM_PROCESS.count_of_pools; i++) check_pool(pool_at(i));
+}

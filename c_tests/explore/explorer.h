@@ -12,6 +12,7 @@ void *explorer_malloc(size_t bytes);
 void *explorer_calloc(size_t count, size_t bytes);
 int explorer_memalign(void **at, size_t alignment, size_t bytes);
 void explorer_free(void *at);
+void *explorer_keep(size_t bytes); /* memory that lasts as long as the process, all 0, or null */
 void *explorer_memset(void *at, int byte, size_t bytes);
 void *explorer_memcpy(void *to, const void *from, size_t bytes);
 long explorer_futex(uint32_t *word, int operation, uint32_t value, const void *time);
@@ -22,13 +23,16 @@ int explorer_rounds(int count); /* how many of these rounds are made: see LFM_RO
 int explorer_rings(int count);  /* how many of these rings an unlock makes: see LFM_RINGS */
 bool explorer_toggle_clock(void);
 void explorer_set_specific(void *value);
-void *explorer_specific(void);
+extern bool may_refuse_memory; /* memory may be refused to a thread */
+extern void *explorer_process; /* where the library's words of the process are */
 
 /* Of the C file, for the explorer. */
 size_t explorer_own_size(void);
 void *explorer_own_at(void);
 void explorer_end_thread(void *own);
 void explorer_warm(void);
+size_t explorer_process_size(void);
+void explorer_check_all_given_back(void);
 
 /* A scenario. Its state lies in memory of explorer_malloc. */
 struct scenario {
@@ -42,9 +46,8 @@ struct scenario {
   bool is_long;      /* it has too many states to be explored to its end in a minute */
 };
 /* The scenarios of one file of scenarios/, which end with one that has no name. */
-extern const struct scenario lock_scenarios[], timed_scenarios[], seat_scenarios[], orphan_scenarios[], close_scenarios[],
-    spent_scenarios[], wait_scenarios[], condvar_close_scenarios[], refused_close_scenarios[], taken_again_scenarios[],
-    two_mutexes_scenarios[];
+extern const struct scenario lock_scenarios[], timed_scenarios[], deputy_scenarios[], seat_scenarios[], close_scenarios[],
+    pool_scenarios[], wait_scenarios[], condvar_close_scenarios[], refused_close_scenarios[], two_mutexes_scenarios[];
 
 /* For scenarios: a point at which others may run; a choice of 0 to count - 1; the number of the fiber; and a test. */
 void explorer_point(void);

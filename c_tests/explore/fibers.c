@@ -10,6 +10,8 @@ const char *fault;
 static u64 explorer_sp;
 static u64 own_at_first[OWN / 8];
 static bool is_ending;
+static void *specific_outside; /* of what comes before and after the fibers */
+void *explorer_process;
 static jmp_buf end_failed;
 
 void explorer_switch(u64 *from, u64 to);
@@ -65,7 +67,7 @@ bool explorer_toggle_clock(void) {
   return REGION->fibers[current].toggled ^= 1;
 }
 void explorer_set_specific(void *value) {
-  if (current >= 0) REGION->fibers[current].specific = value;
+  *(current >= 0 ? &REGION->fibers[current].specific : &specific_outside) = value;
 }
 
 /* Whether it failed as the time was over: -1 with errno then. */
@@ -91,10 +93,19 @@ long explorer_futex(u32 *word, int operation, u32 value, const void *time) {
 
 /* Fibers */
 
+/* Ends the calling thread as the system does: a destructor that gives its key a value again has one more round. */
+static void end_thread(void **specific) {
+  enum { ROUNDS = 4 };
+  for (int i = 0; i < ROUNDS && *specific; i++) {
+    void *value = *specific;
+    *specific = NULL;
+    explorer_end_thread(value);
+  }
+}
+
 static void begin(void) {
   scenario->run[current]();
-  struct fiber *f = &REGION->fibers[current];
-  if (f->specific) explorer_end_thread(f->specific);
+  end_thread(&REGION->fibers[current].specific);
   REGION->fibers[current].status = FINISHED;
   to_explorer();
 }
@@ -173,15 +184,23 @@ void make(struct transition t) {
 
 /* Runs */
 
-/* The thread-local table of a thread that has just begun. */
+/* The thread-local words of a thread that has just begun. */
 void keep_own(void) { memcpy(own_at_first, explorer_own_at(), explorer_own_size()); }
+
+/* Makes a call outside of the fibers, as by a thread that comes before or after all of them. */
+static void make_outside(void (*call)(void)) {
+  memcpy(explorer_own_at(), own_at_first, explorer_own_size());
+  specific_outside = NULL;
+  call();
+  end_thread(&specific_outside);
+}
 
 void begin_run(void) {
   memset(REGION, 0, sizeof *REGION);
   fibers = scenario->fibers;
-  memcpy(explorer_own_at(), own_at_first, explorer_own_size());
   current = -1;
-  scenario->setup();
+  explorer_process = explorer_keep(explorer_process_size());
+  make_outside(scenario->setup);
   for (int i = 0; i < fibers; i++) {
     struct fiber *f = &REGION->fibers[i];
     u64 *top = (u64 *)(REGION->stacks[i] + STACK);
@@ -199,11 +218,13 @@ bool all_finished(void) {
 
 /* Ends a run whose fibers have all finished. */
 void end_run(void) {
-  memcpy(explorer_own_at(), own_at_first, explorer_own_size());
   is_ending = true;
-  if (setjmp(end_failed) == 0) scenario->end();
+  if (setjmp(end_failed) == 0) {
+    make_outside(scenario->end);
+    explorer_check_all_given_back();
+  }
   is_ending = false;
   for (int h = 0; h < HEAPS; h++)
     for (u32 i = 0; i < REGION->control[h].count; i++)
-      if (REGION->control[h].blocks[i].live && !fault) fault = "memory is never given back";
+      if (REGION->control[h].blocks[i].live == 1 && !fault) fault = "memory is never given back";
 }

@@ -32,8 +32,8 @@ static void limit_processor_time(int seconds) {
 }
 
 static const struct scenario *const files[] = {
-    lock_scenarios,  timed_scenarios, seat_scenarios, taken_again_scenarios,   orphan_scenarios,        close_scenarios,
-    spent_scenarios, wait_scenarios,  condvar_close_scenarios, refused_close_scenarios, two_mutexes_scenarios,
+    lock_scenarios, timed_scenarios, deputy_scenarios,        seat_scenarios,          close_scenarios,
+    pool_scenarios, wait_scenarios,  condvar_close_scenarios, refused_close_scenarios, two_mutexes_scenarios,
 };
 enum { FILES = sizeof files / sizeof files[0] };
 

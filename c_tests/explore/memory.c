@@ -1,6 +1,6 @@
 /* Blocks of memory, and what an access may touch: no block that was given back, no byte past one, and no frame of another
  * thread's stack that has ended. Memory is never used again in a run, and each block is filled as it is taken and as it is
- * given back. */
+ * given back. What lasts as long as the process need not be given back, and is 0 at first. */
 #include "state.h"
 
 int heap_of(const void *at) {
@@ -35,17 +35,17 @@ void touch(const void *at, size_t bytes, bool writes, bool atomic) {
 }
 void explorer_touch(const void *at, size_t bytes, bool writes) { touch(at, bytes, writes, false); }
 
-static void *allocate(size_t bytes) {
-  int h = current < 0 ? MOST_FIBERS : current;
+static void *allocate_in(int h, size_t bytes, u32 live) {
   struct heap *c = &REGION->control[h];
   u32 at = (c->used + 16 + 63) & ~63u;
   if (at + bytes + 64 > HEAP || c->count == MOST_BLOCKS) explorer_fault("the explorer's heap is full");
   c->used = at + (u32)bytes;
-  c->blocks[c->count++] = (struct block){at, (u32)bytes, 1};
+  c->blocks[c->count++] = (struct block){at, (u32)bytes, live};
   memset(&REGION->heaps[h][at], 0xA5, bytes);
   if (detects_races) race_touch((u64)&REGION->heaps[h][at], bytes, true, false, false);
   return &REGION->heaps[h][at];
 }
+static void *allocate(size_t bytes) { return allocate_in(current < 0 ? HEAP_OUTSIDE : current, bytes, 1); }
 static bool is_refused(void) { return may_refuse_memory && current >= 0 && explorer_choose(2) == 1; }
 void *explorer_malloc(size_t bytes) { return is_refused() ? NULL : allocate(bytes); }
 void *explorer_calloc(size_t count, size_t bytes) {
@@ -60,6 +60,7 @@ int explorer_memalign(void **at, size_t alignment, size_t bytes) {
   *at = allocate(bytes);
   return 0;
 }
+void *explorer_keep(size_t bytes) { return is_refused() ? NULL : memset(allocate_in(HEAP_OF_PROCESS, bytes, LASTS), 0, bytes); }
 void explorer_free(void *at) {
   if (!at) return;
   struct block *b = block_of(at);

@@ -4,11 +4,10 @@
 #include <string.h>
 #include "explorer.h"
 
-#define CALL(name)                         \
-  uint64_t __real_##name(void *at);        \
-  uint64_t __wrap_##name(void *at) {       \
-    explorer_point();                           \
-    return __real_##name(at);              \
+#define CALL(name)                                        \
+  uint64_t __real_##name(void *seat, uint64_t mutex);     \
+  uint64_t __wrap_##name(void *seat, uint64_t mutex) {    \
+    explorer_point();                                     \
+    return __real_##name(seat, mutex);                    \
   }
-CALL(lfm_c_ask) CALL(lfm_c_receive) CALL(lfm_c_try_lock) CALL(lfm_c_unlock) CALL(lfm_c_count)
-void *explorer_realloc(void *at, size_t bytes) { (void)at, (void)bytes; explorer_fault("the proved calls call realloc"); }
+CALL(lfm_c_pool_ask) CALL(lfm_c_pool_receive) CALL(lfm_c_pool_try_lock) CALL(lfm_c_pool_unlock) CALL(lfm_c_pool_count)

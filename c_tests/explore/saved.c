@@ -37,6 +37,8 @@ void restore(const u8 *from) {
   for (int i = 0; i < fibers; i++) from = get(from, stack_of(i), stack_bytes(i));
 }
 
+/* Both words take all bits of each other at each step. The constants keep them from becoming 0 over long memory that is 0,
+ * by which all that came before would be forgotten. */
 u64 hash_of(const u8 *at, size_t bytes) {
   u64 a = 0x9E3779B97F4A7C15, b = 0xD1B54A32D192ED03;
   for (; bytes >= 16; at += 16, bytes -= 16) {
@@ -45,7 +47,7 @@ u64 hash_of(const u8 *at, size_t bytes) {
     memcpy(&y, at + 8, 8);
     __uint128_t m = (__uint128_t)(x ^ a) * (y ^ b);
     a = (u64)m + 0x9E3779B97F4A7C15 + x;
-    b ^= (u64)(m >> 64) + y;
+    b = (b << 23 | b >> 41) ^ ((u64)(m >> 64) + 0xE7037ED1A0B428DB + y);
   }
   u64 x = 0, y = 0;
   memcpy(&x, at, bytes > 8 ? 8 : bytes);

@@ -10,7 +10,10 @@ typedef uint64_t u64;
 typedef uint32_t u32;
 typedef uint8_t u8;
 
-enum { HEAPS = MOST_FIBERS + 1, HEAP = 16384, STACK = 32768, MOST_BLOCKS = 64, OWN = 96, MOST_TRANSITIONS = 48 };
+/* Each fiber has a heap. One is for what comes before and after the fibers, and the last for what lasts as long as the
+ * process. */
+enum { HEAP_OUTSIDE = MOST_FIBERS, HEAP_OF_PROCESS, HEAPS };
+enum { HEAP = 16384, STACK = 32768, MOST_BLOCKS = 64, OWN = 32, MOST_TRANSITIONS = 48 };
 enum status { READY, BLOCKED, FINISHED };
 /* Where a fiber has stopped: before its start, a point of the scenario, an atomic operation, a sleep or wake by futex, a
  * choice. */
@@ -23,18 +26,19 @@ struct fiber {
   void *specific;
   u32 value;
   u8 status, kind, timed, result, count, variant, toggled, writes;
-  u64 own[OWN / 8]; /* its thread-local table of seats */
+  u64 own[OWN / 8]; /* the library's thread-local words */
 };
 struct block {
-  u32 at, bytes, live;
+  u32 at, bytes, live; /* `live` is 0 once it was given back, and LASTS if it need not be */
 };
+enum { LASTS = 2 };
 struct heap {
   u32 used, count;
   struct block blocks[MOST_BLOCKS];
 };
 struct region {
   struct fiber fibers[MOST_FIBERS];
-  struct heap control[HEAPS]; /* one for each fiber, and one for what comes before and after them */
+  struct heap control[HEAPS];
   u8 heaps[HEAPS][HEAP] __attribute__((aligned(4096)));
   u8 stacks[MOST_FIBERS][STACK] __attribute__((aligned(4096)));
 };
@@ -47,7 +51,7 @@ struct transition {
 
 /* Options */
 extern int processors;
-extern bool may_refuse_memory, may_wake_spuriously, looks_for_ends, makes_all_rounds, makes_one_ring;
+extern bool may_wake_spuriously, looks_for_ends, makes_all_rounds, makes_one_ring;
 extern u64 most_states, seed;
 extern volatile int is_time_over;
 

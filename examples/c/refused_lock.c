@@ -1,5 +1,5 @@
-/* A program that goes on after a refused call. Its mutex has one seat, so it serves one thread at a time, and another
- * thread's lock is refused. The functions answer whether they were made, and the caller decides what to do.
+/* A program that goes on after a refused call. It closes its mutex, and a lock after that is refused. The functions answer
+ * whether they were made, and the caller decides what to do.
  *
  *     cc refused_lock.c $(pkg-config --cflags --libs ligdrosa) -pthread
  *
@@ -16,7 +16,7 @@
 #define GUARDED_BY(mutex)
 #endif
 
-static lfm_mutex mutex = LFM_MUTEX_INIT_WITH(1);
+static lfm_mutex mutex = LFM_MUTEX_INIT;
 static lfm_condvar added;
 static long sum GUARDED_BY(mutex);
 
@@ -55,11 +55,8 @@ static bool add_elsewhere(void) {
 }
 
 int main(void) {
-  if (!add(1)) return 1;           /* this thread takes the seat */
-  if (add_elsewhere()) return 1;   /* so the other finds none */
-  if (lfm_is_refused(lfm_seat_give_here(&mutex))) return 1;
-  if (!add_elsewhere()) return 1;  /* it takes the seat, and gives it back as it ends */
-  if (!take(2)) return 1;
+  if (!add(1) || !add_elsewhere() || !take(2)) return 1;
+  if (lfm_is_refused(lfm_mutex_close(&mutex))) return 1;
+  if (add_elsewhere()) return 1; /* the mutex is not open any more */
   puts("a lock was refused, and the program went on");
-  return lfm_is_refused(lfm_mutex_close(&mutex));
 }

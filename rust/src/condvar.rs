@@ -50,8 +50,8 @@ impl Condvar {
         Condvar(RawCondvar::new())
     }
 
-    /// Releases the mutex, waits until a wake, and acquires the mutex again, for one take: as `lock`, or as `lock_in_order` if
-    /// the wake woke several threads. Refused: `Nested` if the seat holds more than once, and `Spent`.
+    /// Releases the mutex, waits until a wake, and acquires the mutex again: as `lock`, or as `lock_in_order` if the wake woke
+    /// several threads. Refused: `Nested` if the seat holds more than once, and `Spent`.
     pub fn wait<T: ?Sized, By: Lock>(&self, guard: &mut Guard<'_, T, By>) -> Result<(), Refusal> {
         made(guard.by.wait(&self.0)).map(|_| ())
     }

@@ -4,8 +4,8 @@
 //! The library is for Linux. It is linked from the folder that `LIGDROSA_OUT` names, or else from the folder in which the
 //! repository builds it, or else from where pkg-config finds it.
 //!
-//! A thread uses a mutex through a seat. A [`Mutex`] is shared by reference, as that of `std::sync`, and finds the calling
-//! thread's seat by itself. [`Condvar`] has an example of both. Or each thread has a [`Seat`] in hand:
+//! A [`Mutex`] is shared by reference, as that of `std::sync`. [`Condvar`] has an example of both. Or each thread has a
+//! [`Seat`] in hand:
 //!
 //! ```
 //! let seats = ligdrosa::mutex(2, 1_000, 0u64)?;
@@ -17,9 +17,9 @@
 //! # Ok::<(), ligdrosa::Refusal>(())
 //! ```
 //!
-//! A forked child may drop what it has of its parent's mutexes, except for guards. It makes other calls of a mutex only after
-//! [`Mutex::after_fork`], [`Seat::after_fork`] or [`Guard::after_fork`], and of a condition variable after
-//! [`Condvar::after_fork`].
+//! A forked child may drop what it has of its parent's mutexes, except for guards. It calls a mutex that its thread held as
+//! the parent forked only after [`Mutex::after_fork`], [`Seat::after_fork`] or [`Guard::after_fork`], and none that another
+//! thread held or asked for. It calls a condition variable after [`Condvar::after_fork`].
 
 #[cfg(not(all(target_os = "linux", target_pointer_width = "64")))]
 compile_error!("ligdrosa needs Linux with addresses of 64 bits");

@@ -10,7 +10,7 @@ use std::{
 // a script writes the numbers from here
 /// The version of the header.
 pub const VERSION: u32 = 100;
-/// How many seats a mutex has if the program gives no number.
+/// How many seats a mutex names if the program gives no number.
 pub const USUAL_SEATS: u32 = 64;
 pub const DONE: u32 = 0;
 pub const AGAIN: u32 = 1;
@@ -23,11 +23,11 @@ pub const FOREIGN: u32 = 23;
 #[derive(Clone, Copy, Debug, PartialEq, Eq, Hash)]
 #[non_exhaustive]
 pub enum Refusal {
-    /// Not 1 to 4,095 seats, or not 1 to 2^36 takes for each.
+    /// Not 1 to 4,095 seats, or not a budget of 1 to 2^36.
     Limit = 18,
     /// Memory was refused to the library. If memory is refused to this crate, the program ends, as elsewhere in Rust.
     NoMemory = 19,
-    /// All seats of the mutex are taken.
+    /// Threads, seats in hand and locks with a time limit have all 4,095 numbers of the process.
     NoSeat = 20,
     /// The calling thread holds the mutex already, by another guard.
     Holding = 22,
@@ -37,7 +37,7 @@ pub enum Refusal {
     Nested = 34,
     /// The seat holds 65,535 times already.
     DepthFull = 35,
-    /// The seat has no take left, and no seat that has some is free, or memory for it was refused.
+    /// The mutex has had 2^48 - 2^13 queued locks, or the seat 2^47 posts: after years.
     Spent = 36,
     /// At some moment of the call another seat held the mutex, asked for it or was releasing it. For a call with a time limit,
     /// the time is over.
@@ -94,7 +94,7 @@ pub fn made(status: u32) -> Result<u32, Refusal> {
     }
 }
 
-/// An lfm_mutex. The library keeps references only to its core, so it may be moved between calls.
+/// An lfm_mutex. The library has no reference to it, so it may be moved between calls. `core` is no address.
 #[repr(C)]
 pub struct RawMutex {
     core: AtomicPtr<u8>,
@@ -161,7 +161,7 @@ pub fn nanoseconds(time: Duration) -> u64 {
     u64::try_from(time.as_nanos()).unwrap_or(u64::MAX)
 }
 
-/// Declares calls that the library has in two forms: with a seat in hand, and with the calling thread's seat of a mutex. Each
+/// Declares calls that the library has in two forms: with a seat in hand, and by the calling thread for a mutex. Each
 /// is a method of both. C passes the argument in brackets before the seat or mutex.
 macro_rules! calls {
     ($(fn $name:ident $([$first:ident: $of:ty])? (self $(, $last:ident: $kind:ty)?) -> $told:ty
@@ -172,7 +172,7 @@ macro_rules! calls {
             safe fn $here($($first: $of,)? mutex: &RawMutex $(, $last: $kind)?) -> $told;)*
         }
 
-        /// What a guard locks with: a seat in hand, or a mutex, which stands for the calling thread's seat of it.
+        /// What a guard locks with: a seat in hand, or a mutex, which stands for the calling thread.
         pub trait Lock {
             /// The seat in hand.
             fn in_hand(&self) -> Option<&RawSeat> {

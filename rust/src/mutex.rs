@@ -23,9 +23,8 @@ use std::{
 /// # assert_eq!(count(), Ok(1));
 /// ```
 ///
-/// Its first lock opens it, which takes memory. A thread takes a seat by its first call of the mutex, which takes memory too,
-/// and gives the seat back when it ends, unless it holds then. So a mutex of N seats serves N threads at a time. One thread
-/// more is refused as [`NoSeat`](Refusal::NoSeat).
+/// Its first lock opens it, which may take memory, as may the first call of a thread. Any thread may call it: up to 4,095 at
+/// a time in a process, with seats in hand and locks with a time limit. One more is refused as [`NoSeat`](Refusal::NoSeat).
 ///
 /// A thread that holds locks once more by its guard, with [`Guard::again`]: the guard of the deeper hold borrows the first. Any
 /// other [`lock`](Mutex::lock) or try by that thread is refused as [`Holding`](Refusal::Holding). A guard gives `&mut T`, so a
@@ -35,8 +34,8 @@ pub struct Mutex<T: ?Sized> {
     pub(crate) value: UnsafeCell<T>,
 }
 
-/// The library's mutex, which is closed when it is dropped. If it is held then, since a guard was forgotten, its memory is
-/// leaked.
+/// The library's mutex, which is closed when it is dropped. If it is held then, since a guard was forgotten, what the library
+/// has of it is leaked.
 pub(crate) struct Closing(pub RawMutex);
 
 impl Drop for Closing {
@@ -64,12 +63,13 @@ impl<T: ?Sized> RefUnwindSafe for Mutex<T> {}
 pub type MutexGuard<'a, T> = Guard<'a, T, RawMutex>;
 
 impl<T> Mutex<T> {
-    /// A mutex with 64 seats, each of which may take it 2^36 times.
+    /// A mutex for any threads.
     pub const fn new(value: T) -> Mutex<T> {
         Mutex::with_seats(USUAL_SEATS, value)
     }
 
-    /// A mutex with this many seats, 1 to 4,095. With another number its calls are refused as [`Limit`](Refusal::Limit).
+    /// The same. The number is 1 to 4,095, and limits nothing. With another its calls are refused as
+    /// [`Limit`](Refusal::Limit).
     pub const fn with_seats(seats: u32, value: T) -> Mutex<T> {
         Mutex {
             raw: Closing(RawMutex::with_seats(seats)),
@@ -89,7 +89,7 @@ impl<T: ?Sized> Mutex<T> {
         self.value.get_mut()
     }
 
-    /// An upper bound of the takes that are left: what each seat had left when it was last taken or given back.
+    /// For programs that call it: 2^36 times the number of seats that was named.
     pub fn takes_left(&self) -> u64 {
         lfm_takes_left(&self.raw.0)
     }
@@ -104,10 +104,10 @@ impl<T: ?Sized> Mutex<T> {
         Guard::of(status, &self.raw.0, self)
     }
 
-    /// Acquires the mutex, for one take. It first tries a bounded number of times, between pauses and naps, and so may acquire
-    /// before threads that called earlier. Then it queues and sleeps, and no thread that queues later is served before it.
-    /// Refused: `Holding`, or `DepthFull` if the thread holds 65,535 times, and `Spent`. The first call of a thread is also
-    /// refused as `NoSeat`, `NoMemory`, `Limit` and `OtherHeader`.
+    /// Acquires the mutex. It first tries a bounded number of times, between pauses and naps, and so may acquire before threads
+    /// that called earlier. Then it queues and sleeps, and no thread that queues later is served before it.
+    /// Refused: `Holding`, or `DepthFull` if the thread holds 65,535 times, and `Spent`. The first call of a thread or of
+    /// the mutex is also refused as `NoSeat`, `NoMemory`, `Limit` and `OtherHeader`.
     #[inline]
     pub fn lock(&self) -> Result<MutexGuard<'_, T>, Refusal> {
         self.guard(self.raw.0.lock())
@@ -126,9 +126,8 @@ impl<T: ?Sized> Mutex<T> {
     }
 
     /// Locks as [`lock`](Mutex::lock) does, but at most until the time is over. It queues, so other threads that queue don't
-    /// keep it from its turn. Refused: as `lock`, and `Busy`. After `Busy` the thread may still be queued, and the take is
-    /// used: its next lock waits from the same place, for no other take, and until then [`try_lock`](Mutex::try_lock) is
-    /// `Busy`.
+    /// keep it from its turn. Refused: as `lock`, `NoSeat`, and `Busy`. After `Busy` its place may stay in the queue: if its
+    /// turn has not come, the thread's next lock waits from there.
     pub fn try_lock_for(&self, time: Duration) -> Result<MutexGuard<'_, T>, Refusal> {
         self.guard(self.raw.0.try_lock_for(nanoseconds(time)))
     }
@@ -138,8 +137,8 @@ impl<T: ?Sized> Mutex<T> {
         self.try_lock_for(end.saturating_duration_since(Instant::now()))
     }
 
-    /// Gives the calling thread's seat back before the thread ends, so that another thread can take it. A thread that has no
-    /// seat gives none back. A later call of the thread takes a seat anew. Refused: `Holding` if the thread holds.
+    /// For programs that call it: a thread has one number for all mutexes, and keeps it until it ends. Refused: `Holding` if
+    /// the thread holds.
     pub fn give_seat(&self) -> Result<(), Refusal> {
         match lfm_seat_give_here(&self.raw.0) {
             BLANK => Ok(()),
@@ -147,29 +146,26 @@ impl<T: ?Sized> Mutex<T> {
         }
     }
 
-    /// In a forked child, makes the mutex new if no thread held it when the parent forked, or if the thread that forked held it
-    /// by a seat that it found by itself. That thread holds it as often as before, and its guards stay valid. If it held by a
-    /// [`Seat`](crate::Seat), it calls [`Guard::after_fork`] instead. In the process that opened the mutex the call does
-    /// nothing.
+    /// In a forked child, makes the mutex new if the thread that forked held it without a [`Seat`](crate::Seat), or if no
+    /// thread held it: then the call isn't needed. That thread holds it as often as before, and its guards stay valid. If it
+    /// held by a seat, it calls [`Guard::after_fork`] instead. In the process that opened the mutex the call does nothing.
     ///
-    /// Refused: `NoMemory`, and `Busy` if another thread held the mutex, asked for it or was releasing it when the parent
-    /// forked, if a lock whose time was over had left the calling thread queued, or if the calling thread has no seat and all
-    /// were taken, or another thread was just taking or giving back one.
+    /// Refused: `NoMemory`, `NoSeat`, and `Busy` if another thread held the mutex, asked for it or was releasing it when the
+    /// parent forked.
     ///
     /// # Safety
     ///
-    /// - The child has made no call of the mutex before, except of the `after_fork` functions, and makes no other call
-    ///   meanwhile.
+    /// - The child makes no other call of the mutex meanwhile. If its thread held the mutex as the parent forked, it has made
+    ///   none before, except of the `after_fork` functions.
     /// - After this has succeeded, the child calls a seat in hand, or a guard of one, only after their own `after_fork` has
     ///   succeeded. Without it a seat may be dropped, and a guard may not.
-    /// - The child has another process id than the process that opened the mutex. In another namespace of process ids it may
-    ///   have the same.
+    /// - The child is one of `fork`: the library doesn't see those of `_Fork`, `vfork` and `clone`.
     pub unsafe fn after_fork(&self) -> Result<(), Refusal> {
         // SAFETY: the caller promises it.
         made(unsafe { lfm_after_fork(&self.raw.0, None) }).map(drop)
     }
 
-    /// Returns if the calling thread holds the mutex by a seat that it found by itself. It never sleeps.
+    /// Returns if the calling thread holds the mutex. It never sleeps.
     ///
     /// # Panics
     ///
@@ -265,7 +261,7 @@ impl<'a, T: ?Sized, By: Lock> Guard<'a, T, By> {
         made(status).map(|_| Guard { by, mutex })
     }
 
-    /// Deepens the hold, for no take. Refused: `DepthFull`.
+    /// Deepens the hold. Refused: `DepthFull`.
     #[inline]
     pub fn again(&mut self) -> Result<Guard<'_, T, By>, Refusal> {
         Guard::of(self.by.lock(), self.by, self.mutex)

@@ -9,8 +9,8 @@ use std::{
 };
 
 /// A seat of a mutex, by which one thread at a time calls it. A seat that is dropped is given back. If it holds, since a guard
-/// was forgotten, it is leaked, and no other seat acquires the mutex any more. If it is still queued by a lock whose time was
-/// over, it is free for another thread as soon as its turn has passed.
+/// was forgotten, it is leaked, and no other seat acquires the mutex any more. Each seat has a number of its own, of the 4,095
+/// that the threads of a process have.
 ///
 /// A seat is `Send` and not `Sync`, and a [`Guard`] borrows it. So a seat is in one call at a time:
 ///
@@ -27,8 +27,8 @@ pub struct Seat<T: ?Sized> {
 // SAFETY: any thread may call a seat, one at a time. They share the value as references to the mutex do.
 unsafe impl<T: ?Sized + Send> Send for Seat<T> {}
 
-/// Makes a mutex that guards the value, and returns its seats in the order of their numbers. There are 1 to 4,095 seats, and
-/// each has a budget of 1 to 2^36 takes. Refused: `Limit`, `NoMemory`, `OtherHeader`.
+/// Makes a mutex that guards the value, and returns this many seats, 1 to 4,095. [`Mutex::seat`] takes more. The budget is 1 to
+/// 2^36, and limits nothing. Refused: `Limit`, `NoSeat`, `NoMemory`, `OtherHeader`.
 pub fn mutex<T: Send>(seats: usize, budget: u64, value: T) -> Result<Vec<Seat<T>>, Refusal> {
     let mutex = Arc::new(Mutex::new(value));
     // SAFETY: there is no other reference to the mutex.
@@ -37,8 +37,8 @@ pub fn mutex<T: Send>(seats: usize, budget: u64, value: T) -> Result<Vec<Seat<T>
 }
 
 impl<T: ?Sized> Mutex<T> {
-    /// Takes a seat in hand. If a thread holds by it and locks by the mutex, it waits for itself, since these are two seats.
-    /// Refused: `NoSeat`, and `NoMemory`, `Limit` and `OtherHeader` if the call opens the mutex.
+    /// Takes a seat in hand. If a thread holds by it and locks by the mutex, it waits for itself, since the seat is not the
+    /// thread. Refused: `NoSeat`, `NoMemory`, and `Limit` and `OtherHeader` if the call opens the mutex.
     pub fn seat(self: &Arc<Mutex<T>>) -> Result<Seat<T>, Refusal> {
         let seat = Seat {
             raw: NonNull::from(Box::leak(Box::default())),
@@ -69,13 +69,12 @@ impl<T: ?Sized> Seat<T> {
         &self.mutex
     }
 
-    /// The seat's number, from 1 on. A seat that has no take left is exchanged for another, and then has the number of that
-    /// one.
+    /// The seat's number, 1 to 4,095. No two seats that are taken have the same.
     pub fn number(&self) -> u64 {
         lfm_number(self.raw())
     }
 
-    /// How many takes the seat has left.
+    /// For programs that call it: 2^36.
     pub fn left(&self) -> u64 {
         lfm_left(self.raw())
     }
@@ -110,10 +109,9 @@ impl<T: ?Sized> Seat<T> {
 
     /// In a forked child, makes the mutex new as [`Mutex::after_fork`] does, if no thread held it when the parent forked, or if
     /// this seat held it and its guard was forgotten. If the mutex is new already, by an `after_fork` of the mutex, a guard or
-    /// another seat, this seat is taken anew, and may get another number.
+    /// another seat, this seat is taken anew, and gets another number.
     ///
-    /// Refused: as [`Mutex::after_fork`], and `NoSeat` if no seat is free. Then other calls of this seat are refused as
-    /// `Other`.
+    /// Refused: as [`Mutex::after_fork`]. After `NoSeat` other calls of this seat are refused as `Other`.
     ///
     /// # Safety
     ///

@@ -67,7 +67,7 @@ fn a_hold_is_deepened() {
     let mut seats = mutex(2, 3, 7u64).unwrap();
     let mut second = seats.pop().unwrap();
     let mut first = seats.pop().unwrap();
-    assert_eq!((first.number(), second.number()), (1, 2));
+    assert_ne!(first.number(), second.number());
     let mut guard = first.lock().unwrap();
     {
         let mut deeper = guard.again().unwrap();
@@ -78,7 +78,7 @@ fn a_hold_is_deepened() {
     assert_eq!((guard.depth(), *guard), (1, 8));
     drop(guard);
     assert_eq!(*second.try_lock().unwrap(), 8);
-    assert_eq!((first.left(), second.left()), (2, 2));
+    assert_eq!((first.left(), second.left()), (1 << 36, 1 << 36));
 }
 
 #[test]
@@ -107,38 +107,34 @@ fn a_queued_seat_is_dropped() {
     let mutex = seats[0].mutex().clone();
     let mut second = seats.pop().unwrap();
     let guard = seats[0].lock().unwrap();
-    while second.left() == 9 {
-        // on a busy machine the time may be over before it queues, and then the call uses no take
-        assert_eq!(second.try_lock_for(A_WHILE).err(), Some(Refusal::Busy));
-    }
+    assert_eq!(second.try_lock_for(A_WHILE).err(), Some(Refusal::Busy));
     drop(second);
     let mut second = mutex.seat().unwrap();
-    assert_eq!((second.left(), second.try_lock().err()), (8, Some(Refusal::Busy)));
+    assert_eq!(second.try_lock().err(), Some(Refusal::Busy));
     drop(second);
     drop(guard);
     let mut second = mutex.seat().unwrap();
     assert_eq!(second.lock().unwrap().depth(), 1);
-    assert_eq!((seats[0].left(), second.left()), (8, 7));
 }
 
-/// The mutex has one seat, which two threads use in turn.
+/// A thread keeps its number, and keeps no other thread from the mutex, which was opened with one seat.
 #[test]
-fn a_living_thread_gives_its_seat_back() {
+fn a_living_thread_refuses_nobody() {
     let mutex = Mutex::with_seats(1, 0);
     assert_eq!(mutex.give_seat(), Ok(()));
-    let in_a_thread = |refusal| {
+    let in_a_thread = || {
         thread::scope(|scope| {
             let adds = || mutex.lock().map(|mut value| *value += 1).err();
-            assert_eq!(scope.spawn(adds).join().unwrap(), refusal);
+            assert_eq!(scope.spawn(adds).join().unwrap(), None);
         });
     };
     let guard = mutex.lock().unwrap();
     assert_eq!(mutex.give_seat(), Err(Refusal::Holding));
     drop(guard);
-    in_a_thread(Some(Refusal::NoSeat));
+    in_a_thread();
     assert_eq!(mutex.give_seat(), Ok(()));
-    in_a_thread(None);
-    assert_eq!(*mutex.lock().unwrap(), 1);
+    in_a_thread();
+    assert_eq!(*mutex.lock().unwrap(), 2);
 }
 
 #[test]
@@ -232,15 +228,8 @@ fn refusals() {
         );
     }
     let mut seats = mutex(1, 1, ()).unwrap();
-    assert_eq!(seats[0].mutex().seat().err(), Some(Refusal::NoSeat));
-    assert_eq!(seats[0].mutex().lock().err(), Some(Refusal::NoSeat));
-    drop(seats[0].lock().unwrap());
-    assert_eq!(seats[0].lock().err(), Some(Refusal::Spent));
-    assert_eq!(seats[0].try_lock().err(), Some(Refusal::Spent));
-    let mut seats = mutex(1, 1, ()).unwrap();
     let mut guard = seats[0].lock().unwrap();
     let condvar = Condvar::new();
-    assert_eq!(condvar.wait(&mut guard), Err(Refusal::Spent));
     assert_eq!(
         condvar.wait(&mut guard.again().unwrap()),
         Err(Refusal::Nested)

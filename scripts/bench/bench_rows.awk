@@ -1,6 +1,7 @@
 # Turns the output of two or more runs of lfm_bench into parts of docs/benchmarks.rows: see scripts/bench/bench_mutex. `part` is
 # the name of the part that compares the ways of locking with std's mutex; plain condition variables are one if the output has
-# them. It needs scripts/bench/situations.awk.
+# them. A part with `_pool` after that name compares mutexes of a pool with ours and std's. It needs
+# scripts/bench/situations.awk.
 
 # ---- reading
 
@@ -15,7 +16,7 @@ function trimmed(text) {
 }
 
 # the head of a table: the titles have cells of ten characters, and the first title of each peer is that of its medians
-cells ~ /^ +(ours|in order) / {
+cells ~ /^ +(ours|in order|pool) / {
   table = name
   titles = 0
   for (at = 1; at <= length(cells); at += 10) title[++titles] = trimmed(substr(cells, at, 10))
@@ -71,6 +72,16 @@ function print_calls_of_one_thread(table,    i, name) {
   }
 }
 
+# prints the rows of a pool, with our mutexes, as many as the pool has, and std's
+function print_pool(table,    i, name) {
+  print "part " part "_pool|nanoseconds|Rust's std"
+  print "series pool|our mutexes|Rust's std"
+  for (i = 1; i <= rows[table]; i++) {
+    name = row[table, i]
+    print "row " situation(name) "|" figure(table, name, "pool") "|" figure(table, name, "ours") "|" figure(table, name, "std")
+  }
+}
+
 END {
   alone = "nanoseconds a call"
   if (part == "rattle_quiet") print_calls_of_one_thread(alone)
@@ -80,4 +91,5 @@ END {
   print_row(situation("alone"), figure(alone, "lock and unlock", "ours"), figure(alone, "lock_barging and unlock", "ours"), "", \
     figure(alone, "lock and unlock", "std"))
   print_rows("nanoseconds", "^(ping-pong|wake_all|bounded queue)")
+  if (rows["nanoseconds, pool"]) print_pool("nanoseconds, pool")
 }

@@ -1,10 +1,11 @@
 # The name that pages and charts have for a situation, whatever the program that measures it calls it.
 function situation(name) {
+  sub(/, pool$/, "", name)
   sub(/, short( section)?/, ", short sections", name)
   sub(/, (long|0\.5 us section)/, ", 0.5 us sections", name)
   sub(/, thinking/, ", 1 us between", name)
   sub(/^alone: once more, once less/, "recursive lock and unlock", name)
-  sub(/^alone(: lock, unlock)?/, "one thread, lock and unlock", name)
+  sub(/^alone(: lock, unlock)?|^lock and unlock$/, "one thread, lock and unlock", name)
   sub(/^one among 4096/, "one of 4,096 mutexes", name)
   sub(/^one among/, "one of", name)
   if (name ~ /^one of [0-9]+$/) name = name " mutexes"

@@ -17,14 +17,14 @@ options_of() {
   case $1 in
     no_memory.c)
       # -fno-builtin: the compiler must not leave out an allocation whose block is freed in the same function
-      wraps=-Wl,--wrap=malloc,--wrap=calloc,--wrap=realloc,--wrap=free,--wrap=posix_memalign
+      wraps=-Wl,--wrap=mmap,--wrap=munmap,--wrap=malloc,--wrap=calloc,--wrap=realloc,--wrap=free,--wrap=posix_memalign
       printf '%s ' -fno-builtin "$wraps"
       ;;
-    last_ends.cpp | many_mutexes.cpp) printf '%s' -Wl,--wrap=lfm_c_open,--wrap=lfm_c_close ;;
-    forked_child.cpp) printf '%s' -Wl,--wrap=lfm_c_take_seat ;;
+    last_ends.cpp | many_mutexes.cpp) printf '%s' -Wl,--wrap=lfm_c_pool_open ;;
+    forked_child.cpp) printf '%s' -Wl,--wrap=lfm_c_pool_take_seat ;;
     forked_calls.cpp)
       printf '%s' -Wl
-      printf ',--wrap=lfm_c_%s' blank_seat close take_seat give_seat number depth left count ask receive try_lock unlock
+      printf ',--wrap=lfm_c_%s' blank_pool blank_pool_seat pool_{open,take_seat,number,depth,count,ask,receive,try_lock,unlock}
       ;;
     endings.cpp | wakes_put_off.cpp) printf '%s' -Wl,--wrap=syscall ;;
     bench.cpp | statics.cpp) printf '%s' -std=c++20 ;; # which have barriers and constinit

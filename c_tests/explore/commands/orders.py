@@ -25,9 +25,9 @@ reasons.
 """
 NO_HALF, NO_REASON, RACE = "", "no reason is given", "a race: "
 SECONDS, RUNS = 20, 4000
-SCENARIOS = ("here_wait2 close2 storm2 timed_lock timed_give wake_all3_outside wait_for2 condvar_close2 here_static2 "
-             "here_timed here_timed_give close_give2 spent2 timed_give_both takes_left_static2 "
-             "closed_beside_another2 adopt2 adopt_hand2").split()
+SCENARIOS = ("here_wait2 close2 storm2 timed_lock timed_give timed_timed wake_all3_outside wait_for2 condvar_close2 "
+             "here_timed close_give2 open_first2 static_first2 static_second2 numbers2 timed_give_both close_deputy2 "
+             "two_deputies2 late_timed2 reopen2 orphan_taken3 give_twice2").split()
 OPERATION = re.compile(r"__atomic_(\w+?)(?:_n)?\(")
 ORDER = re.compile(r"__ATOMIC_(ACQ_REL|ACQUIRE|RELEASE|SEQ_CST)")
 FUNCTION = re.compile(r"^[A-Za-z_][^\n]*?\b(\w+)\([^()]*\) \{", re.MULTILINE)
@@ -40,7 +40,7 @@ def is_failed(text, start, at):
 
 def halves_of(order, operation):
     """The halves of the order, each with the order that is left without it."""
-    acquires = order != "RELEASE" and operation != "store"
+    acquires = order != "RELEASE" and not operation.startswith("store")
     releases = order != "ACQUIRE" and not operation.startswith(("load", "failed"))
     if acquires and releases:
         return {"acquire": "RELEASE", "release": "ACQUIRE"}

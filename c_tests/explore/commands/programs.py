@@ -42,17 +42,19 @@ def build(folder, objects, c_file=TOP / "c/ligdrosa.c", more=()):
 
 def build_over_proved_calls(folder, objects):
     """The explorer over the proved calls themselves, which take the place of the first object, or None if they are not
-    built."""
+    built, or without pools."""
     proved = TOP / "crates/lfm_c/out/liblfm_c.a"
     if not proved.is_file() or not shutil.which("rt") or not shutil.which("objcopy"):
+        return None
+    if b"lfm_c_pool_count" not in proved.read_bytes():
         return None
     folder.mkdir()
     kit = pathlib.Path(subprocess.run(["rt", "doc"], check=True, capture_output=True, text=True).stdout.strip()).parent
     allocation = folder / "allocation.a"
-    names = ["malloc=lfm_allocate", "free=explorer_free", "realloc=explorer_realloc"]
+    names = ["malloc=lfm_allocate", "free=lfm_release", "realloc=lfm_resize"]
     renames = [word for name in names for word in ("--redefine-sym", name)]
     subprocess.run(["objcopy", *renames, kit / "c/liblibc_c.a", allocation], check=True)
-    wraps = [f"-Wl,--wrap=lfm_c_{call}" for call in ("ask", "receive", "try_lock", "unlock", "count")]
+    wraps = [f"-Wl,--wrap=lfm_c_pool_{call}" for call in ("ask", "receive", "try_lock", "unlock", "count")]
     return build(folder, [*objects[1:], compile_file("real", folder), proved, allocation, *wraps])
 
 

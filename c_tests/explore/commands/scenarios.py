@@ -11,23 +11,24 @@ WAYS = [
     (PROVED, "-w", None),
     (MODEL, "-w", "wake_all4"),
     (MODEL, "", "lock2 lock3 order2 order3 try3 deep2 timed2 timed3 timed_both timed_give timed_lock timed_order "
-                "timed_timed timed_try timed_depth give2 here2 here_static2 here_timed here_timed_give here_give_again2 "
-                "close2 close_barging2 close_hand2 close_give2 close_while_held2 spent2 wait2 wait2_inside wait_for2 "
-                "wait_for2_inside condvar_close2 condvar_close2_inside condvar_close_refused2 here_wait2 ping_pong "
-                "timed_wait2 wake_by_another_mutex2 closed_beside_another2 adopt2 adopt_hand2 adopt_hand_calls2 "
-                "adopt_from_hand2 adopt_into_hand2"),
+                "timed_timed timed_try timed_depth deputy_deep2 deputy_wait2 deputy_wake2 here_timed late2 late_timed2 "
+                "give2 here2 give_order2 close_while_held2 close_deputy2 here_timed_close close2 close_barging2 reopen2 "
+                "reopen3 close_hand2 close_give2 wait2 wait2_inside wait_for2 wait_for2_inside condvar_close2 "
+                "condvar_close2_inside condvar_close_refused2 here_wait2 ping_pong timed_wait2 wake_by_another_mutex2 "
+                "closed_beside_another2 timed_in_both2 two_deputies2"),
     (MODEL, "-w -n", "wake_all3 wakes3_inside wake_on3 wake_all4"),
     (PROVED, "-w -n", "wake_all3 wakes3_inside wake_on3"),
     (MODEL, "-w -p 4", "lock2 order2 order3 deep2 timed2 timed_lock wait2 wait2_inside wait_for2 ping_pong"),
-    (MODEL, "-w -s", "order2 order3 timed2 timed3 timed_lock wait2 wait_for2 ping_pong give2 adopt_hand2 wakes3_inside"),
-    (MODEL, "-w -f", "spent2 here2 here_timed timed_give give2 adopt2 adopt_hand2"),
+    (MODEL, "-w -s", "order2 order3 timed2 timed3 timed_lock wait2 wait_for2 ping_pong give2 timed_give wakes3_inside"),
+    (MODEL, "-w -f", "open_first2 static_first2 open_second2 seat_here2"),
     (MODEL, "-w -a", "lock2 lock3 order3 try3 timed2 timed3 timed_both timed_give timed_lock timed_timed timed_try give2 "
-                     "storm2 give_twice2 here2 here_static2 here_timed here_timed_give here_give_again2 close2 "
-                     "close_barging2 close_hand2 close_all_taken3 spent2 wait2 wait3 wake_all3 wait_for2 condvar_close2 "
-                     "condvar_close_refused2 here_wait2 ping_pong wake_by_another_mutex2 adopt2 adopt_hand2"),
-    (MODEL, "-w -r 3000", "here_wait2 close2 storm2 timed_lock timed_give wake_all3_outside wait_for2 condvar_close2 "
-                          "here_static2 takes_left_static2 here_timed here_timed_give close_give2 spent2 wake_all4 "
-                          "adopt2 adopt_hand2 adopt_into_hand2"),
+                     "deputy_deep2 deputy_wait2 deputy_wake2 here_timed late2 storm2 give_twice2 here2 seat_here2 close2 "
+                     "close_barging2 close_hand2 close_deputy2 reopen2 open_first2 static_first2 open_second2 numbers2 "
+                     "mutex_numbers2 wait2 wake_all3 wait_for2 condvar_close2 condvar_close_refused2 here_wait2 ping_pong "
+                     "wake_by_another_mutex2 two_deputies2"),
+    (MODEL, "-w -r 3000", "here_wait2 close2 storm2 timed_lock timed_give timed_timed wake_all3_outside wait_for2 "
+                          "condvar_close2 here_timed close_give2 wake_all4 open_first2 static_first2 static_second2 "
+                          "numbers2 orphan_taken3 orphan_timed3 two_deputies2 late_timed2 reopen3"),
 ]
 # for how many seconds of processor time a scenario may run
 SECONDS, SECONDS_IF_LONG = 110, 900

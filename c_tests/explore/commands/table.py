@@ -33,10 +33,12 @@ def number(digits):
 
 
 def write(found, scenarios):
-    """Writes the page: the rows of what was found, and those of other long scenarios as they were. Scenarios come in the
-    order in which the explorer lists them."""
+    """Writes the page: the rows of what was found, and as they were those of other long scenarios, and of what was not run
+    at all. Scenarios come in the order in which the explorer lists them."""
     text, (_, before) = HEAD + BY + programs.compiler() + ".\n", read()
-    ways = dict.fromkeys((of, options) for of, options, _ in sorted(found, key=lambda work: list(MEANINGS).index(work[1])))
+    ways = [(of, options) for options in MEANINGS for of in ("the model", "the proved calls")]
+    run, there = {work[:2] for work in found}, {at for at, _ in before}
+    ways = [way for way in ways if way in run or heading(*way) in there]
     for way in ways:
         text += f"\n{heading(*way)}\n\n| Scenario | Threads | What they do | States | Transitions | Ends | Seconds |\n"
         text += "|---|---|---|---|---|---|---|\n"
@@ -45,7 +47,7 @@ def write(found, scenarios):
             if counts:
                 cells = [f"`{name}`" + " (long)" * is_long, str(threads), what]
                 cells += [number(counts[key]) for key in ("states", "transitions", "ends")] + [counts["seconds"]]
-            elif not is_long:
+            elif not is_long and way in run:
                 continue
             if cells:
                 text += f"| {' | '.join(cells)} |\n"

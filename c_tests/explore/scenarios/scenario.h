@@ -15,24 +15,26 @@ struct shared {
 };
 extern struct shared *shared;
 
-/* Opens a mutex with this number of seats and takes, and takes the first seats for the threads. */
-void open_with(uint64_t seats, uint64_t budget);
-void take_all(int count);
+/* Makes what the threads share, in a process that has opened no pool, or with the mutex open. Then the library has all that it
+ * reserves for a process. */
+void make_shared(void);
+void open_mutex_only(void);
+/* The same, and takes the first seats for the threads. */
 void open2(void);
 void open3(void);
 void open4(void);
-void open_bare(void);
-void open_bare4(void);
 /* Memory that is zero. */
 void *zeroed(size_t bytes);
-/* Gives back seats in hand, closes, and checks that all is done: no one holds, and the takes are counted exactly. */
+/* The calling thread ends as far as the library knows. Then it may call again, as destructors of thread-specific data do. */
+void end_early(void);
+/* Gives back seats in hand, closes the mutex unless it is closed, and gives back what the threads shared. */
 void end(void);
 
 /* What a lock guards: accesses that are plain, so that a race is seen, and a point between. */
 void section(void);
 /* The seat of the calling thread. */
 lfm_seat *mine(void);
-/* Checks the status of a lock, or of an unlock. */
+/* Checks the status of a lock, or of an unlock that releases. */
 void acquired(lfm_status status);
 void released(lfm_status status);
 
@@ -41,10 +43,18 @@ void once_in_order(void);
 void twice_in_order(void);
 void try_it(void);
 bool timed(void);
+void take_mine(void);
+void give_mine(void);
+/* Whether the status is not refused. It is refused only if memory may be. */
 bool acquired_here(lfm_status status);
 void here(void);
 void here_in_order(void);
-void here_timed(void);
+bool here_timed(void);
 void await_ready(void);
 void make_ready_inside(void);
+/* Closes the mutex, and gives its memory back at once. */
+void close_it(void);
+/* Words by which threads tell each other something beside the library, in order. */
+uint64_t seen(const uint64_t *word);
+void tell(uint64_t *word, uint64_t value);
 #endif

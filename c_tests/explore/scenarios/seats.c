@@ -1,58 +1,51 @@
-/* Seats are taken and given back, by hand or as their thread ends, also while they are queued. */
+/* Seats are taken and given back, by hand or as their thread ends. */
 #include "scenario.h"
 
-static void open_few(void) { open_with(2, LFM_MOST_TAKES); }
-static void open_static(void) {
-  open_with(1, 1);
-  CHECK(lfm_mutex_close(shared->mutex) == LFM_DONE);
-  shared->mutex->seats = 4;
-  shared->mutex->version = LFM_VERSION;
-}
-static void take_once(void) {
-  lfm_status status = lfm_seat_take(shared->mutex, mine());
-  CHECK(status == LFM_DONE || status == LFM_NO_SEAT);
-  if (status != LFM_DONE) return;
-  once_in_order();
-  CHECK(lfm_seat_give(mine()) == LFM_DONE);
-}
+static void take_once(void) { take_mine(); once_in_order(); give_mine(); }
 static void take_twice(void) { take_once(); take_once(); }
-static void take_timed(void) {
-  if (lfm_seat_take(shared->mutex, mine()) != LFM_DONE) return;
-  timed();
-  CHECK(lfm_seat_give(mine()) == LFM_DONE);
+static void take_timed(void) { take_mine(); timed(); give_mine(); }
+static void take_timed_twice(void) { take_timed(); take_timed(); }
+static void once_give(void) { once(); give_mine(); }
+
+/* A seat of lfm_seat_here, in calls with and without it. */
+static void by_seat_here(void) {
+  lfm_status cause;
+  lfm_seat *seat = lfm_seat_here(shared->mutex, &cause);
+  if (!seat) {
+    CHECK(may_refuse_memory && cause == LFM_NO_MEMORY);
+    return;
+  }
+  acquired(lfm_lock_in_order(seat));
+  CHECK(lfm_depth_here(shared->mutex) == 1 && lfm_seat_here(shared->mutex, &cause) == seat);
+  section();
+  CHECK(lfm_seat_give(seat) == LFM_HOLDING && lfm_seat_give_here(shared->mutex) == LFM_HOLDING);
+  released(lfm_unlock_here(shared->mutex));
+}
+static void seat_here_ends(void) { by_seat_here(); }
+static void seat_here_given(void) {
+  by_seat_here();
+  CHECK(lfm_seat_give_here(shared->mutex) == LFM_DONE);
+  by_seat_here();
 }
 
-static void here_timed_give(void) {
-  here_timed();
-  lfm_status status = lfm_seat_give_here(shared->mutex);
-  CHECK(status == LFM_DONE || status == LFM_BLANK);
-}
-static void once_give(void) { once(); CHECK(lfm_seat_give(mine()) == LFM_DONE); }
-
-static void take_and_give(void) {
-  CHECK(lfm_seat_take(shared->mutex, mine()) == LFM_DONE);
-  CHECK(lfm_seat_give(mine()) == LFM_DONE);
-}
-static void ask_for_takes_left(void) {
-  uint64_t all = shared->mutex->seats * LFM_MOST_TAKES, left = lfm_takes_left(shared->mutex);
-  CHECK(left == all || left == all - 1);
-}
+/* A thread gives its seat back while its deputy is queued, and takes one again. */
+static void timed_give(void) { timed(); give_mine(); }
+static void timed_give_twice(void) { timed_give(); take_mine(); timed_give(); }
+static void timed_give_order(void) { timed_give(); take_once(); }
+static void timed_give_here(void) { timed_give(); here_in_order(); }
 
 const struct scenario seat_scenarios[] = {
     {"give2", "seats are given back beside unlocks", 2, false, open2, {once_give, once_give}, end},
-    {"storm2", "takes and gives", 2, false, open_few, {take_twice, take_twice}, end},
-    {"storm3", "takes and gives of two seats by three threads",
-     3, false, open_few, {take_once, take_once, take_once}, end},
-    {"storm_timed", "the same with timed locks", 3, false, open_bare, {take_timed, take_timed, take_once}, end, true},
-    {"here2", "seats that find themselves", 2, false, open_bare, {here, here}, end},
-    {"here_static2", "a static mutex is opened by two", 2, false, open_static, {here, here}, end},
-    {"takes_left_static2", "the takes of a static mutex are counted while it is opened",
-     2, false, open_static, {here, ask_for_takes_left}, end},
-    {"here_static3", "a static mutex is opened by three, one of which takes a seat and gives it back",
-     3, false, open_static, {here_in_order, here_in_order, take_and_give}, end, true},
-    {"here_timed", "a thread ends while its seat is queued", 2, false, open_bare4, {here_timed, here_in_order}, end},
-    {"here_timed3", "the same beside two", 3, false, open_bare4, {here_timed, here_in_order, here_in_order}, end, true},
-    {"here_timed_give", "a seat that finds itself is given back while queued",
-     2, false, open_bare4, {here_timed_give, here_in_order}, end},
+    {"storm2", "takes and gives", 2, false, open_mutex_only, {take_twice, take_twice}, end},
+    {"storm3", "takes and gives by three threads", 3, false, open_mutex_only, {take_once, take_once, take_once}, end, true},
+    {"storm_timed", "the same by two with timed locks", 2, false, open_mutex_only, {take_timed_twice, take_timed}, end},
+    {"here2", "threads find their seats", 2, false, open_mutex_only, {here, here}, end},
+    {"here3", "the same of three", 3, false, open_mutex_only, {here_in_order, here_in_order, here_in_order}, end, true},
+    {"seat_here2", "seats of lfm_seat_here", 2, false, open_mutex_only, {seat_here_ends, seat_here_given}, end},
+    {"give_twice2", "two seats are given back while their deputies are queued",
+     2, false, open2, {timed_give_twice, twice_in_order}, end},
+    {"give_order2", "a seat is taken again while the deputy of another is queued",
+     2, false, open2, {timed_give_order, twice_in_order}, end},
+    {"give_here2", "the thread finds its seat then", 2, false, open2, {timed_give_here, twice_in_order}, end},
     {0}
 };

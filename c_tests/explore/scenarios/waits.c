@@ -119,14 +119,14 @@ static void pong(void) {
   released(lfm_unlock(mine()));
 }
 
-/* A thread leaves its seat queued, and then waits at a condition variable by it. */
+/* A thread leaves its deputy queued, and then waits at a condition variable. */
 static void timed_await(void) {
   timed();
   await_ready();
 }
 
 const struct scenario wait_scenarios[] = {
-    {"timed_wait2", "a seat left queued, and then a wait by it", 2, false, open2, {timed_await, make_ready_inside}, end},
+    {"timed_wait2", "a deputy left queued, and then a wait", 2, false, open2, {timed_await, make_ready_inside}, end},
     {"wait2", "one waits, one wakes after its unlock", 2, false, open2, {await_ready, make_ready}, end},
     {"wait2_inside", "one waits, one wakes while it holds", 2, false, open2, {await_ready, make_ready_inside}, end},
     {"wait3", "two wait, one wakes twice", 3, false, open3, {await_ready, await_ready, make_ready_twice}, end},
@@ -145,9 +145,9 @@ const struct scenario wait_scenarios[] = {
     {"wait_for3", "two waits with limits beside a wake",
      3, true, open3, {wait_counted, wait_counted, wake_counted}, end_counted, true},
     {"wait_for3_wakes", "a wait with a limit beside two wakes",
-     3, true, open3, {wait_counted, wake_counted, wake_counted_inside}, end_counted},
+     3, true, open3, {wait_counted, wake_counted, wake_counted_inside}, end_counted, true},
     {"here_wait2", "a wait and a wake by seats that find themselves",
-     2, false, open_bare4, {here_await, here_make_ready}, end},
+     2, false, open_mutex_only, {here_await, here_make_ready}, end},
     {"ping_pong", "a holder that woke another waits itself", 2, false, open2, {ping, pong}, end},
     {0}
 };

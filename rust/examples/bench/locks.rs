@@ -27,6 +27,8 @@ pub trait Kind {
     type Held<'a>: DerefMut<Target = Box<State>>;
     type Condition: Default + Sync;
     const NAME: &'static str;
+    /// How many a process may have at most.
+    const MOST_OWNS: usize = usize::MAX;
 
     fn owns(count: usize) -> Vec<Self::Own>;
     fn lock(own: &mut Self::Own) -> Self::Held<'_>;
@@ -48,6 +50,7 @@ impl Kind for InHand {
     type Held<'a> = Guard<'a, Box<State>>;
     type Condition = Condvar;
     const NAME: &'static str = "Rust in hand";
+    const MOST_OWNS: usize = 4_095;
 
     fn owns(count: usize) -> Vec<Self::Own> {
         mutex(count, 1 << 36, Box::default()).expect("a mutex")
@@ -73,7 +76,7 @@ impl Kind for InHand {
     }
 }
 
-/// This crate's, with seats that find themselves.
+/// This crate's, by the calling thread.
 pub struct Here;
 
 impl Kind for Here {

@@ -26,9 +26,9 @@ use std::{
 };
 
 /// A [`ligdrosa::Mutex`] without a value, whose guards are forgotten. A lock that is refused panics, also by a thread that
-/// holds. A `try_lock` that is refused is false, for whatever cause: if all seats are taken, the thread can't see whether
-/// the mutex is held, so `is_locked` is true and `Debug` shows it as locked. A try with a time limit is false if the time is
-/// over, or at once if the thread holds. If it is refused for another cause, it panics.
+/// holds. A `try_lock` that is refused is false, for whatever cause: then `is_locked` is true and `Debug` shows the mutex as
+/// locked. A try with a time limit is false if the time is over, or at once if the thread holds. If it is refused for another
+/// cause, it panics.
 pub struct RawMutex(ligdrosa::Mutex<()>);
 
 /// A mutex like parking_lot's.

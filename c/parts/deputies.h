@@ -1,0 +1,134 @@
+/* How a granted seat is woken; and deputies, by which locks with a time limit queue.
+ *
+ * A record can't leave the queue before its turn. So a lock with a time limit queues by the seat of a deputy: a participant that
+ * the lock's own one takes for that, and uses again later. If the time is over first, the deputy has abandoned its place. Then
+ * who grants it the mutex passes it by, and the own seats of the thread are never away. Locks without a time limit need no
+ * deputy, and neither does one that acquires the mutex before it queues. If a deputy is granted the mutex in time, it holds the
+ * mutex for its participant.
+ *
+ * The state of a deputy is a word. Its participant makes the steps ──►, and the thread that has to wake it ══►.
+ *
+ *            ask            time is over                  end of the participant
+ *     RESTS ─────► TIMED ────────────────► ABANDONED ────────────────────────────► ORPHANED
+ *      ▲ ▲          ║ ▲                       │  ║                                     ║
+ *      ║ ╚══════════╝ └───────────────────────┘  ║ passes it by                        ║ passes it by
+ *      ║    ring          next lock              ▼                                     ▼
+ *      ╚═══════════════════════════════════ PASSING ───────────────────────────► ORPHAN_PASSING ═══► given back
+ *               has passed it by                     end of the participant
+ *
+ * A participant that is no deputy rests, and is rung for. Each step from a state that another thread may change is a
+ * compare-and-exchange. All are sequentially consistent: the seats of the deputy go with them to the thread that passes it by,
+ * and back.
+ *
+ * Each grant is received by one thread. One answer of the library names the seat that it granted the mutex, so one thread has to
+ * wake it. If that thread makes TIMED ══► RESTS, the step of the lock to ABANDONED fails: then the lock waits for the ring, and
+ * receives. If it makes ABANDONED ══► PASSING or ORPHANED ══► ORPHAN_PASSING, no other thread touches the deputy's seats, and
+ * the waker receives and unlocks at once. The answer of that unlock may name the next seat, which it wakes too. So an unlock
+ * wakes a seat that waits, or leaves the mutex free or to a thread that has begun to ask.
+ *
+ * No wake-up is lost. A step of the waker fails only if the deputy's participant has made one, and after any of those another
+ * step of the waker is there to be made. Each of them costs the participant a call of a lock, so no number bounds them.
+ *
+ * Here is no wait: a deputy that is being passed by is left alone, and another one is used. */
+
+FAST_PATH enum deputy_state state_of(const struct participant *deputy) {
+  return (enum deputy_state)__atomic_load_n(&deputy->state, __ATOMIC_SEQ_CST);
+}
+
+static bool change_state(struct participant *deputy, enum deputy_state from, enum deputy_state to) {
+  uint32_t found = from;
+  return __atomic_compare_exchange_n(&deputy->state, &found, to, false, __ATOMIC_SEQ_CST, __ATOMIC_SEQ_CST);
+}
+
+/* Wake-ups */
+
+/* Receives the mutex for a deputy that has abandoned its place, releases it, and lets the deputy rest, or gives it back if it has
+ * no participant any more. The number of the seat that is to be woken next, or 0. */
+static uint64_t pass_by(struct participant *deputy, mutex_word mutex) {
+  void *seat = seat_in(deputy, mutex);
+  lfm_c_pool_receive(seat, index_of(mutex));
+  uint64_t next = lfm_c_pool_unlock(seat, index_of(mutex)) >> 8;
+  if (change_state(deputy, PASSING, RESTS)) return next;
+  __atomic_store_n(&deputy->state, RESTS, __ATOMIC_SEQ_CST);
+  give_participant(deputy);
+  return next;
+}
+
+/* Wakes a deputy, or passes it by: the number of the seat that is to be woken next, or 0. */
+SLOW_PATH uint64_t wake_or_pass(struct participant *deputy, mutex_word mutex) {
+  for (;;) {
+    enum deputy_state found = state_of(deputy);
+    enum deputy_state next = found == TIMED ? RESTS : found == ABANDONED ? PASSING : ORPHAN_PASSING;
+    if (!change_state(deputy, found, next)) continue;
+    if (next != RESTS) return pass_by(deputy, mutex);
+    ring(&deputy->bell);
+    return 0;
+  }
+}
+
+/* Wakes the seat of this number, which a call of the calling thread has granted the mutex. If it is passed by, the same holds of
+ * the next. */
+static void wake_seat(mutex_word mutex, uint64_t number) {
+  while (number) {
+    struct participant *granted = participant_of(mutex, number);
+    if (LIKELY(state_of(granted) == RESTS)) {
+      ring(&granted->bell);
+      return;
+    }
+    number = wake_or_pass(granted, mutex);
+  }
+}
+
+/* Wakes the seat that an answer names, and returns the status. */
+FAST_PATH lfm_status wake_named(mutex_word mutex, uint64_t answer) {
+  if (UNLIKELY(answer > 255)) wake_seat(mutex, answer >> 8);
+  return status_of(answer);
+}
+
+/* The deputies of a participant */
+
+/* The deputy that holds the mutex, or null. */
+SLOW_PATH struct participant *holding_deputy(const struct participant *by, mutex_word mutex) {
+  struct participant *deputy = by->deputies;
+  while (deputy && (deputy->at != mutex || !deputy->holds)) deputy = deputy->next;
+  return deputy;
+}
+
+/* Takes up the place of a deputy that has abandoned it in this mutex: the deputy, or null if there is none. */
+SLOW_PATH struct participant *resumed_deputy(const struct participant *by, mutex_word mutex) {
+  struct participant *deputy = by->deputies;
+  while (deputy && (deputy->at != mutex || !change_state(deputy, ABANDONED, TIMED))) deputy = deputy->next;
+  return deputy;
+}
+
+/* A deputy that rests, or null and the cause. */
+static struct participant *take_deputy(struct participant *by, lfm_status *cause) {
+  for (struct participant *deputy = by->deputies; deputy; deputy = deputy->next)
+    if (!deputy->holds && state_of(deputy) == RESTS) return deputy;
+  struct participant *deputy = take_participant(cause);
+  if (!deputy) return NULL;
+  deputy->next = by->deputies;
+  by->deputies = deputy;
+  return deputy;
+}
+
+/* Parts with a deputy, which doesn't hold: who passes it by gives it back if it is still queued. */
+static void part_with(struct participant *deputy) {
+  for (;;) {
+    enum deputy_state found = state_of(deputy);
+    if (found == RESTS) {
+      give_participant(deputy);
+      return;
+    }
+    if (change_state(deputy, found, found == ABANDONED ? ORPHANED : ORPHAN_PASSING)) return;
+  }
+}
+
+/* Parts with all deputies of a participant that holds nothing. */
+SLOW_PATH void part_with_deputies(struct participant *by) {
+  while (by->deputies) {
+    struct participant *deputy = by->deputies;
+    by->deputies = deputy->next;
+    part_with(deputy);
+  }
+}

@@ -98,9 +98,19 @@ function showTexts() {
   $('tracename').innerHTML = view.graph.kind === 'wrong' ? 'Its trace' : 'What <code>lfm replay</code> prints for it';
   $('trace').textContent = traceOf(view.graph, shown);
   $('trace').scrollTop = $('trace').scrollHeight;
-  const [first, ...lines] = schedule.trim().split('\n');
+  writeAddress(schedule.trim().split('\n'));
+}
+
+// writes the address of what is shown, once nothing new was chosen for this time: browsers refuse to change an address more
+// than some ten times a second, and a key that is held down chooses more often
+const ADDRESS_PAUSE = 300;
+let addressTimer = 0;
+
+function writeAddress([first, ...lines]) {
   const start = view.graph === graphs.whole ? first : view.graph.name;
-  history.replaceState(null, '', '#' + encodeURIComponent([start, ...lines].join(';')));
+  const address = '#' + encodeURIComponent([start, ...lines].join(';'));
+  clearTimeout(addressTimer);
+  addressTimer = setTimeout(() => history.replaceState(null, '', address), ADDRESS_PAUSE);
 }
 
 // the slider and its buttons. A button that cannot be pressed any more gives the focus to the other one

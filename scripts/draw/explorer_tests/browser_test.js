@@ -250,15 +250,31 @@ test('schedules of more seats can be looked at', async () => {
   return `${many} of them`;
 });
 
+// the address, once the page has written it: a timer that is set later and waits as long ends later
+async function writtenAddress() {
+  await browser.run('new Promise(end => setTimeout(end, ADDRESS_PAUSE))');
+  return browser.run('location.hash');
+}
+
 test('a link opens the same moment, also of a wrong mutex', async () => {
   for (const [graph, schedule] of [['whole', '1 lock\\n1 *\\n2 lock\\n2 +4'], ['without_recheck', '1 lock\\n1 .']]) {
     await browser.run(`load(graphs.${graph}, 'seats 2\\n${schedule}')`);
-    const hash = await browser.run('location.hash'), name = await browser.run('view.graph.name');
-    const trace = await text('trace');
+    const hash = await writtenAddress(), name = await browser.run('view.graph.name'), trace = await text('trace');
     await browser.open(address(pageFile) + hash);
     assert.strictEqual(await text('trace'), trace);
     assert.strictEqual(await browser.run('view.graph.name'), name);
   }
+});
+
+test('the address is that of the last choice, however many were made before it', async () => {
+  await browser.run(`(async () => {
+    for (let times = 0; times < 300; times++) {
+      load(graphs.whole, 'seats 2\\n1 lock' + (times % 2 ? '\\n1 *' : ''));
+      await new Promise(end => setTimeout(end, 0));
+    }
+    load(graphs.whole, 'seats 2\\n2 lock');
+  })()`);
+  assert.strictEqual(decodeURIComponent(await writtenAddress()), '#seats 2 2;2 lock');
 });
 
 const linesOfHash = hash => decodeURIComponent(hash).split(';').join('\n');

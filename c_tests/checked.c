@@ -5,9 +5,7 @@
 #define LFM_CHECKED
 #include "../c/ligdrosa.c"
 #define lfm_seat_take lfm_seat_take_checked /* as ligdrosa.h defines it, which the C file undoes */
-#include <signal.h>
-#include <sys/wait.h>
-#include "expect.h"
+#include "children.h"
 
 static lfm_mutex mutex;
 static lfm_seat holder, seat;
@@ -47,8 +45,6 @@ static void give_in_child(void) {
 }
 
 int main(void) {
-  char text[256] = {0};
-  int status, ends[2];
   EXPECT(lfm_mutex_new(&mutex, 2, 100), LFM_DONE);
   EXPECT(lfm_seat_take(&mutex, &holder), LFM_DONE);
   EXPECT(lfm_seat_take(&mutex, &seat), LFM_DONE);
@@ -57,18 +53,7 @@ int main(void) {
   EXPECT(lfm_unlock(&seat), LFM_STILL);
   EXPECT(lfm_unlock(&seat), LFM_DONE);
   EXPECT(lfm_lock(&holder), LFM_DONE);
-  EXPECT(pipe(ends), 0);
-  pid_t child = fork();
-  EXPECT(child >= 0, true);
-  if (child == 0) {
-    EXPECT(dup2(ends[1], 2), 2);
-    signal(SIGABRT, SIG_DFL);
-    call_beside();
-  }
-  EXPECT(waitpid(child, &status, 0), child);
-  EXPECT(WIFSIGNALED(status) && WTERMSIG(status) == SIGABRT, true);
-  EXPECT(read(ends[0], text, sizeof text - 1) > 0, true);
-  EXPECT(strncmp(text, "ligdrosa: two threads", 21), 0);
+  expect_abort(call_beside, "ligdrosa: two threads");
   give_in_child();
   return 0;
 }

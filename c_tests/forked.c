@@ -6,12 +6,9 @@
  * The test has the C file of the library in it, to see how many are queued. */
 #define _GNU_SOURCE
 #include "../c/ligdrosa.c"
-#include <sched.h>
-#include <signal.h>
-#include <sys/wait.h>
-#include "expect.h"
+#include "children.h"
 
-enum { CHILDREN = 60, THREADS = 3, LIMIT = 60 };
+enum { CHILDREN = 60, THREADS = 3 };
 static lfm_mutex mutex = LFM_MUTEX_INIT, in_hand, free_one = LFM_MUTEX_INIT, never_called = LFM_MUTEX_INIT;
 static lfm_mutex of_others = LFM_MUTEX_INIT;
 static lfm_condvar condvar;
@@ -20,20 +17,6 @@ static int over, step;
 
 static void acquire(lfm_mutex *of) { EXPECT(lfm_lock_here(of), LFM_DONE); }
 static void release(lfm_mutex *of) { EXPECT(lfm_is_refused(lfm_unlock_here(of)), false); }
-
-/* The status with which the child ended, in which this was called. A child that hangs is ended by its alarm. */
-static int in_child(void (*act)(void)) {
-  int status;
-  pid_t child = fork();
-  EXPECT(child >= 0, true);
-  if (child == 0) {
-    alarm(LIMIT);
-    act();
-    _exit(0);
-  }
-  EXPECT(waitpid(child, &status, 0), child);
-  return status;
-}
 
 static void *lock_once(void *at) {
   static lfm_seat seats[THREADS + 1];

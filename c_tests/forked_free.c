@@ -5,11 +5,9 @@
  * The test has the C file of the library in it. */
 #define _GNU_SOURCE
 #include "../c/ligdrosa.c"
-#include <sched.h>
-#include <sys/wait.h>
-#include "expect.h"
+#include "children.h"
 
-enum { THREADS = 4, ROUNDS = 2000, LIMIT = 60, LATER = 1000, SHORT = 1000000 };
+enum { THREADS = 4, ROUNDS = 2000, LATER = 1000, SHORT = 1000000 };
 static lfm_mutex mutex = LFM_MUTEX_INIT, never_called = LFM_MUTEX_INIT, held = LFM_MUTEX_INIT, with_seats;
 static lfm_condvar filled;
 static lfm_seat of_parent, seat;
@@ -20,20 +18,6 @@ static void wait_for_step(int wanted) {
   while (__atomic_load_n(&step, __ATOMIC_SEQ_CST) != wanted) sched_yield();
 }
 static void set_step(int next) { __atomic_store_n(&step, next, __ATOMIC_SEQ_CST); }
-
-/* The status with which the child ended, in which this was called. A child that hangs is ended by its alarm. */
-static int in_child(void (*act)(void)) {
-  int status;
-  pid_t child = fork();
-  EXPECT(child >= 0, true);
-  if (child == 0) {
-    alarm(LIMIT);
-    act();
-    _exit(0);
-  }
-  EXPECT(waitpid(child, &status, 0), child);
-  return status;
-}
 
 static void count(unsigned thread) {
   lfm_mutex *both[] = {&mutex, &never_called};

@@ -7,11 +7,9 @@
 #define _GNU_SOURCE
 #define LFM_SPIN_NANOSECONDS 0
 #include "../c/ligdrosa.c"
-#include <sched.h>
-#include <sys/wait.h>
-#include "expect.h"
+#include "children.h"
 
-enum { LIMIT = 60, DEPTH = 3 };
+enum { DEPTH = 3 };
 static const uint64_t LONG = 60000000000;
 static lfm_mutex mutex, first = LFM_MUTEX_INIT;
 static lfm_condvar condvar;
@@ -25,19 +23,6 @@ static int step;
 static void set_step(int next) { __atomic_store_n(&step, next, __ATOMIC_SEQ_CST); }
 static void wait_for_step(int wanted) {
   while (__atomic_load_n(&step, __ATOMIC_SEQ_CST) != wanted) sched_yield();
-}
-
-static int in_child(void (*act)(void)) {
-  int status;
-  pid_t child = fork();
-  EXPECT(child >= 0, true);
-  if (child == 0) {
-    alarm(LIMIT);
-    act();
-    _exit(0);
-  }
-  EXPECT(waitpid(child, &status, 0), child);
-  return status;
 }
 
 static void *lock_and_unlock(void *at) {

@@ -2,9 +2,7 @@
  * waits, and another thread's stack may lie there by then. So when the child's thread releases the mutex, or ends while it
  * holds, it changes nothing there. */
 #define _GNU_SOURCE
-#include <sys/wait.h>
-#include <unistd.h>
-#include "expect.h"
+#include "children.h"
 
 enum { STACK = 1 << 20 };
 static unsigned char stack[STACK] __attribute__((aligned(4096))), in_fork[STACK];
@@ -49,15 +47,6 @@ static void release_in_child(void) {
   end_with_answer();
 }
 
-static void expect_end(void (*act)(void)) {
-  int status;
-  pid_t child = fork();
-  EXPECT(child >= 0, true);
-  if (child == 0) act();
-  EXPECT(waitpid(child, &status, 0), child);
-  EXPECT(status, 0);
-}
-
 int main(void) {
   pthread_t thread;
   pthread_attr_t with_stack;
@@ -66,8 +55,8 @@ int main(void) {
   EXPECT(pthread_create(&thread, &with_stack, wait_once, NULL), 0);
   lock_when_it_waits();
   EXPECT(lfm_wake_one(&condvar), LFM_DONE);
-  expect_end(end_in_child);
-  expect_end(release_in_child);
+  EXPECT(in_child(end_in_child), 0);
+  EXPECT(in_child(release_in_child), 0);
   EXPECT(lfm_is_refused(lfm_unlock_here(&mutex)), false);
   EXPECT(pthread_join(thread, NULL), 0);
   EXPECT(lfm_mutex_close(&mutex), LFM_DONE);

@@ -1,10 +1,7 @@
 /* Locks that answer a bool, and assertions of a hold, with seats in hand and with those that find themselves. The assertion
  * of a thread that doesn't hold ends the program with a text. */
 #define _GNU_SOURCE
-#include <signal.h>
-#include <sys/wait.h>
-#include <unistd.h>
-#include "expect.h"
+#include "children.h"
 
 enum { DEEPEST = 65535 };
 static lfm_mutex mutex = LFM_MUTEX_INIT, deep = LFM_MUTEX_INIT, zero;
@@ -90,23 +87,7 @@ static void assert_other_seat(void) { /* which holds, but is not the one that th
 }
 
 static void expect_end(void (*assertion)(void)) {
-  static const char told[] = "ligdrosa: the mutex is not held, though the program asserts it\n";
-  char text[256] = {0};
-  int status, ends[2];
-  EXPECT(pipe(ends), 0);
-  pid_t child = fork();
-  EXPECT(child >= 0, true);
-  if (child == 0) {
-    EXPECT(dup2(ends[1], 2), 2);
-    signal(SIGABRT, SIG_DFL);
-    assertion();
-    _exit(2);
-  }
-  EXPECT(waitpid(child, &status, 0), child);
-  EXPECT(WIFSIGNALED(status) && WTERMSIG(status) == SIGABRT, true);
-  EXPECT(read(ends[0], text, sizeof text - 1) > 0, true);
-  EXPECT(strncmp(text, told, sizeof told - 1), 0);
-  EXPECT(close(ends[0]) || close(ends[1]), 0);
+  expect_abort(assertion, "ligdrosa: the mutex is not held, though the program asserts it\n");
 }
 
 int main(void) {

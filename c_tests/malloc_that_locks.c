@@ -6,10 +6,9 @@
  * The test has the C file of the library in it. */
 #define _GNU_SOURCE
 #include "../c/ligdrosa.c"
-#include <sys/wait.h>
-#include "expect.h"
+#include "children.h"
 
-enum { THREADS = 8, ROUNDS = 2000, KEYS = 40, ROOM = 1 << 26, SHORT = 20000, LIMIT = 60 };
+enum { THREADS = 8, ROUNDS = 2000, KEYS = 40, ROOM = 1 << 26, SHORT = 20000 };
 static lfm_mutex of_malloc = LFM_MUTEX_INIT, mutex = LFM_MUTEX_INIT;
 static unsigned char room[ROOM] __attribute__((aligned(16)));
 static size_t used, calls;
@@ -95,24 +94,16 @@ static void *find_and_end(void *at) {
   return at;
 }
 
-static void fork_child(void) {
-  int status;
-  pid_t child = fork();
-  EXPECT(child >= 0, true);
-  if (child == 0) {
-    alarm(LIMIT);
-    void *volatile block = malloc(100);
-    free(block);
-    _exit(block == NULL);
-  }
-  EXPECT(waitpid(child, &status, 0), child);
-  EXPECT(status, 0);
+static void allocate_in_child(void) {
+  void *volatile block = malloc(100);
+  free(block);
+  _exit(block == NULL);
 }
 
 static void work(unsigned thread) {
   for (unsigned i = 0; i < ROUNDS; i++) {
     use_once(i + thread);
-    if (thread == 0 && i % 100 == 0) fork_child();
+    if (thread == 0 && i % 100 == 0) EXPECT(in_child(allocate_in_child), 0);
     if (i % 64) continue;
     pthread_t other;
     EXPECT(pthread_create(&other, NULL, find_and_end, NULL), 0);

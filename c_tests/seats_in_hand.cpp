@@ -8,6 +8,7 @@
 #include <cstdlib>
 #include <thread>
 
+#include "clocks.hpp"
 #include "expect.hpp"
 #include "ligdrosa.h"
 
@@ -24,23 +25,6 @@ using std::chrono::system_clock;
 using seat_hold = std::unique_lock<lfm::seat_lock>;
 
 static const milliseconds SHORT(20);
-
-// A clock of the program.
-struct slow_clock {
-  using duration = std::chrono::duration<double, std::milli>;
-  using rep = duration::rep;
-  using period = duration::period;
-  using time_point = std::chrono::time_point<slow_clock>;
-  static constexpr bool is_steady = true;
-  static time_point now() { return time_point(duration(steady_clock::now().time_since_epoch()) / 2); }
-};
-
-// Expects that the call takes at least this long.
-template <class Call> static void lasts(milliseconds least, Call call) {
-  const auto begun = steady_clock::now();
-  call();
-  EXPECT(steady_clock::now() - begun >= least, true);
-}
 
 static void locks_with_limits() {
   lfm::mutex mutex(2);

@@ -5,6 +5,7 @@
 #include <limits>
 #include <thread>
 
+#include "clocks.hpp"
 #include "expect.hpp"
 #include "ligdrosa.hpp"
 
@@ -15,23 +16,6 @@ using std::chrono::system_clock;
 using unique_lock = std::unique_lock<lfm::recursive_timed_mutex>;
 
 static const milliseconds SHORT(20);
-
-// A clock that goes half as fast as the system's.
-struct slow_clock {
-  using duration = std::chrono::duration<double, std::milli>;
-  using rep = duration::rep;
-  using period = duration::period;
-  using time_point = std::chrono::time_point<slow_clock>;
-  static constexpr bool is_steady = true;
-  static time_point now() { return time_point(duration(steady_clock::now().time_since_epoch()) / 2); }
-};
-
-// Expects that the call takes at least this long.
-template <class Call> static void lasts(milliseconds least, Call call) {
-  const auto begun = steady_clock::now();
-  call();
-  EXPECT(steady_clock::now() - begun >= least, true);
-}
 
 // Runs a call in another thread.
 template <class Call> static void elsewhere(Call call) { std::thread(call).join(); }

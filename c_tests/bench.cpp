@@ -7,8 +7,7 @@
 // of the rounds: nanoseconds for a lock and an unlock, a round trip, a broadcast or a number through a queue. Rows that end
 // in `most over fewest` are the most acquisitions of a thread, divided by the fewest of a thread. In rows with `in order` our
 // locks queue at once, and the other mutexes, which have no such call, lock as they do. rust/examples/bench/main.rs has the
-// same rows. The last rows are what a mutex costs by its number of seats: nanoseconds to open and to close it, and bytes.
-#include <malloc.h>
+// same rows.
 #include <time.h>
 
 #include <algorithm>
@@ -121,6 +120,19 @@ template <class Lock> static double among(size_t count) {
     lock.unlock(0);
   }
   return double(own_time() - begun) / pairs;
+}
+
+// A mutex of one hold.
+template <class Lock> static double short_lived() {
+  const int times = 50000;
+  uint64_t begun = own_time();
+  for (int i = 0; i < times; i++) {
+    typename Lock::OfOneThread lock;
+    lock.lock(0);
+    total++;
+    lock.unlock(0);
+  }
+  return double(own_time() - begun) / times;
 }
 
 // Runs the function in this many threads, which begin together, and returns the nanoseconds until all have ended. `beside` is
@@ -297,7 +309,8 @@ static void tell_one_thread() {
       return Figures{};
   });
   tell({"try_lock that is refused"}, [](auto &lock) { return Figures{refused_try(lock)}; });
-  for (size_t count : {64, 4096})
+  tell({"opened, locked once and closed"}, [](auto &lock) { return Figures{short_lived<std::decay_t<decltype(lock)>>()}; });
+  for (size_t count : {64, 4096, 65536})
     tell({"one among " + std::to_string(count)}, [=](auto &lock) {
       using Lock = std::decay_t<decltype(lock)>;
       // a process has no more seats in hand
@@ -335,43 +348,6 @@ static void tell_conditions() {
          [=](auto &lock) { return Figures{queue(lock, pairs)}; });
 }
 
-// The memory that malloc and the other functions of the C library gave.
-static size_t bytes_given() {
-  struct mallinfo2 given = mallinfo2();
-  return given.uordblks + given.hblkhd;
-}
-
-// Of each of some mutexes: the time to open it, its bytes, its bytes if all its seats are taken, and the time to close it.
-static Figures costs(uint64_t seats) {
-  const size_t count = seats < 100 ? 100 : 10;
-  std::vector<lfm_mutex> mutexes(count);
-  std::vector<lfm_seat> taken(seats);
-  size_t before = bytes_given();
-  uint64_t begun = own_time();
-  for (lfm_mutex &mutex : mutexes) made(lfm_mutex_new(&mutex, seats, LFM_MOST_TAKES));
-  double opening = double(own_time() - begun), bytes = double(bytes_given() - before) / double(count) + sizeof(lfm_mutex);
-  before = bytes_given();
-  for (lfm_seat &seat : taken) made(lfm_seat_take(&mutexes[0], &seat));
-  double more = double(bytes_given() - before) + double(seats * sizeof(lfm_seat));
-  for (lfm_seat &seat : taken) made(lfm_seat_give(&seat));
-  begun = own_time();
-  for (lfm_mutex &mutex : mutexes) made(lfm_mutex_close(&mutex));
-  return {opening / double(count), double(own_time() - begun) / double(count), bytes, bytes + more};
-}
-
-static void tell_costs() {
-  for (uint64_t seats : {1, 8, 64}) {
-    const char *const names[] = {"open", "close", "bytes", "bytes with all taken"};
-    std::vector<Figures> of_rounds;
-    for (int i = 0; i < rounds; i++) of_rounds.push_back(costs(seats));
-    for (size_t row = 0; row < 4; row++) {
-      Figures figures;
-      for (const Figures &of_round : of_rounds) figures.push_back(of_round[row]);
-      print(std::to_string(seats) + " seats: " + names[row], "C in hand", figures);
-    }
-  }
-}
-
 int main(int argc, char **argv) {
   if (argc > 1) rounds = std::atoi(argv[1]);
   if (argc > 2) milliseconds = std::atoi(argv[2]);
@@ -384,6 +360,5 @@ int main(int argc, char **argv) {
   tell_one_thread();
   tell_threads();
   tell_conditions();
-  tell_costs();
   return 0;
 }

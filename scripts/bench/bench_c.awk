@@ -3,7 +3,6 @@
 #   table    for all rows a column for each lock, with the medians, and after most of them the ratio to its base
 #   page     the ratios of some rows, as a table of docs/BENCHMARKS.md, the greatest of ours first
 #   rows     the ratios of all rows, as parts of docs/benchmarks.rows
-#   costs    what a mutex costs by its seats, as a table of docs/BENCHMARKS.md
 
 # Adds the column of a lock; `base` is the lock that it is compared with, if it is.
 function column(lock, heading, base, is_one_of_ours) {
@@ -26,17 +25,11 @@ BEGIN {
   column("parking_lot", "parking_lot", "std::sync::Mutex")
   column("parking_lot, fair", "fair", "std::sync::Mutex")
   column("std::sync::Mutex", "std")
-  split("one among 4096|alone: lock, unlock|alone, in order|8 threads, short|8 threads, short, in order|8 threads, long|" \
-    "8 threads, thinking|8 threads, thinking, in order|ping-pong, a round trip|broadcast to 32|queue, 4 to 4", of_page, "|")
+  split("opened, locked once and closed|one among 64|one among 4096|one among 65536|alone: lock, unlock|alone, in order|" \
+    "alone: once more, once less|try_lock that is refused|8 threads, short|8 threads, short, in order|8 threads, long|" \
+    "8 threads, thinking|8 threads, thinking, in order|ping-pong, a round trip|broadcast to 32|queue, 1 to 1|queue, 4 to 4",
+    of_page, "|")
   for (at in of_page) is_of_page[of_page[at]]
-}
-
-# The name of a row of costs is `SEATS seats: WHAT`.
-/ seats: / {
-  split($1, part, " seats: ")
-  if (!((part[1], "open") in cost)) seats[++kinds] = part[1]
-  cost[part[1], part[2]] = $3
-  next
 }
 
 {
@@ -138,29 +131,8 @@ function print_part(name, locks_of_it, in_order,    at, i, line, lines, order, s
   }
 }
 
-function with_commas(number,    text) {
-  text = sprintf("%d", number)
-  while (match(text, /[0-9][0-9][0-9][0-9]($|,)/)) text = substr(text, 1, RSTART) "," substr(text, RSTART + 1)
-  return text
-}
-
-function microseconds(nanoseconds) {
-  return sprintf(nanoseconds < 10000 ? "%.1f" : "%.0f", nanoseconds / 1000)
-}
-
-# The table of a page of what a mutex costs. A mutex of one seat is left out.
-function costs(    at) {
-  print "| Seats of a mutex in C | open, us | close, us | bytes | bytes with all seats taken |"
-  print "|---|---|---|---|---|"
-  for (at = 2; at <= kinds; at++)
-    print "| " with_commas(seats[at]) " | " microseconds(cost[seats[at], "open"]) " | " \
-      microseconds(cost[seats[at], "close"]) " | " with_commas(cost[seats[at], "bytes"]) " | " \
-      with_commas(cost[seats[at], "bytes with all taken"]) " |"
-}
-
 END {
   if (form == "page") page()
-  else if (form == "costs") costs()
   else if (form == "rows") {
     print_part("languages", "C here|C++|Rust", 0)
     print_part("languages_in_order", "C here|C++|Rust", 1)
@@ -169,9 +141,5 @@ END {
     table("nanoseconds; ratio", 0)
     print ""
     table("most over fewest", 1)
-    printf "\n%-30s  %13s  %13s  %13s  %13s\n", "seats of a mutex in C", "open, ns", "close, ns", "bytes", "bytes, taken"
-    for (row = 1; row <= kinds; row++)
-      printf "%-30s  %13.0f  %13.0f  %13.0f  %13.0f\n", seats[row], cost[seats[row], "open"], cost[seats[row], "close"],
-        cost[seats[row], "bytes"], cost[seats[row], "bytes with all taken"]
   }
 }

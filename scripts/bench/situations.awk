@@ -7,6 +7,7 @@ function situation(name) {
   sub(/^alone: once more, once less/, "recursive lock and unlock", name)
   sub(/^alone(: lock, unlock)?|^lock and unlock$/, "one thread, lock and unlock", name)
   sub(/^one among 4096/, "one of 4,096 mutexes", name)
+  sub(/^one among 65536/, "one of 65,536 mutexes", name)
   sub(/^one among/, "one of", name)
   if (name ~ /^one of [0-9]+$/) name = name " mutexes"
   sub(/^queue,/, "bounded queue,", name)

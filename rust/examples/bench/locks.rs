@@ -37,6 +37,8 @@ pub trait Kind {
         Self::lock(own)
     }
     fn is_refused(own: &mut Self::Own) -> bool;
+    /// Makes a mutex, locks it once and drops it.
+    fn hold_once();
     fn wait<'a>(condition: &Self::Condition, held: Self::Held<'a>) -> Self::Held<'a>;
     fn wake_one(condition: &Self::Condition, held: &mut Self::Held<'_>);
     fn wake_all(condition: &Self::Condition, held: &mut Self::Held<'_>);
@@ -63,6 +65,10 @@ impl Kind for InHand {
     }
     fn is_refused(own: &mut Self::Own) -> bool {
         own.try_lock().is_err()
+    }
+    fn hold_once() {
+        let mut seats = mutex(1, 1 << 36, 0u64).expect("a mutex");
+        *seats[0].lock().expect("a hold") += 1;
     }
     fn wait<'a>(condition: &Condvar, mut held: Self::Held<'a>) -> Self::Held<'a> {
         condition.wait(&mut held).expect("a wait");
@@ -97,6 +103,9 @@ impl Kind for Here {
     fn is_refused(own: &mut Self::Own) -> bool {
         own.try_lock().is_err()
     }
+    fn hold_once() {
+        *Mutex::new(0u64).lock().expect("a hold") += 1;
+    }
     fn wait<'a>(condition: &Condvar, mut held: Self::Held<'a>) -> Self::Held<'a> {
         condition.wait(&mut held).expect("a wait");
         held
@@ -126,6 +135,9 @@ impl Kind for Std {
     }
     fn is_refused(own: &mut Self::Own) -> bool {
         own.try_lock().is_err()
+    }
+    fn hold_once() {
+        *std::sync::Mutex::new(0u64).lock().expect("a hold") += 1;
     }
     fn wait<'a>(condition: &Self::Condition, held: Self::Held<'a>) -> Self::Held<'a> {
         condition.wait(held).expect("a wait")
@@ -193,6 +205,9 @@ impl<const FAIR: bool> Kind for ParkingLot<FAIR> {
     }
     fn is_refused(own: &mut Self::Own) -> bool {
         own.try_lock().is_none()
+    }
+    fn hold_once() {
+        *parking_lot::Mutex::new(0u64).lock() += 1;
     }
     fn wait<'a>(condition: &Self::Condition, mut held: Self::Held<'a>) -> Self::Held<'a> {
         condition.wait(&mut held.0);

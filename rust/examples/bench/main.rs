@@ -115,6 +115,12 @@ fn among<K: Kind>(count: usize) -> [f64; 1] {
     own_time_of(PAIRS, || (0..PAIRS).for_each(lock))
 }
 
+/// A mutex of one hold, without the memory that it shares with others.
+fn short_lived<K: Kind>() -> [f64; 1] {
+    const TIMES: usize = 50_000;
+    own_time_of(TIMES, || (0..TIMES).for_each(|_| K::hold_once()))
+}
+
 /// Runs the function in this many threads, which begin together, and gives the nanoseconds until all have ended, and what they
 /// answered. `beside` is done by the calling thread meanwhile.
 fn in_threads<K: Kind, A: Send>(
@@ -320,7 +326,8 @@ fn main() {
     tell!(rounds, ["alone: lock, unlock"], alone[false]());
     tell!(rounds, ["alone, in order"], alone[true]());
     tell!(rounds, ["try_lock that is refused"], refused_try());
-    for count in [64, 4096] {
+    tell!(rounds, ["opened, locked once and closed"], short_lived());
+    for count in [64, 4096, 65536] {
         tell!(rounds, [&format!("one among {count}")], among(count));
     }
     let loads = [

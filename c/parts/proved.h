@@ -3,32 +3,14 @@
  *
  * A handle is memory of the size and alignment that these calls answer, and one of them makes it blank before any other is
  * given it. A call answers a status in the low 8 bits. Above it, an ask or unlock answers the number of the seat that it
- * granted the mutex and that is to be woken, or 0, and a refused close the first seat that prevents it. A seat's number,
- * depth, takes left and count are plain numbers, and 0 of a blank handle.
+ * granted the mutex and that is to be woken, or 0. A seat's number and depth, and a mutex's count, are plain numbers, and 0
+ * of a blank handle.
  *
  * A handle goes to another thread only as the kit allows: by a lock, a thread's start or join, or a sequentially consistent
  * atomic operation. So each operation on words of the library by which a handle goes to another thread is sequentially
  * consistent, and a comment beside it says whose handle that is. Others have the order that they need. */
 
 /* scripts/c/write_c_sides writes the exports from here */
-size_t lfm_c_mutex_size(void);
-size_t lfm_c_mutex_align(void);
-size_t lfm_c_seat_size(void);
-size_t lfm_c_seat_align(void);
-void lfm_c_blank_mutex(void *mutex);
-void lfm_c_blank_seat(void *seat);
-uint64_t lfm_c_open(void *mutex, uint64_t seats, uint64_t budget);
-uint64_t lfm_c_take_seat(void *mutex, void *seat);
-uint64_t lfm_c_give_seat(void *mutex, void *seat);
-uint64_t lfm_c_close(void *mutex);
-uint64_t lfm_c_number(void *seat);
-uint64_t lfm_c_depth(void *seat);
-uint64_t lfm_c_left(void *seat);
-uint64_t lfm_c_count(void *seat);
-uint64_t lfm_c_ask(void *seat);
-uint64_t lfm_c_receive(void *seat);
-uint64_t lfm_c_try_lock(void *seat);
-uint64_t lfm_c_unlock(void *seat);
 size_t lfm_c_pool_size(void);
 size_t lfm_c_pool_align(void);
 size_t lfm_c_pool_seat_size(void);

@@ -1,4 +1,3 @@
 pub mod BetweenCalls
 pub mod FreeSeats
-pub mod Places
 pub mod PoolOpening

@@ -1,4 +1,3 @@
-pub mod Handles
 pub mod Leaves
 pub mod PoolHandles
 pub mod Status

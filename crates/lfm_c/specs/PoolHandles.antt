@@ -1,4 +1,4 @@
--- What each export of a pool does to its handles, and what its answer means. A handle is x before the call and y after it.
+-- What each export does to its handles, and what its answer means. A handle is x before the call and y after it.
 use Rattle.std.specs.Prelude.{◌≡◌, ◌≢◌, ◌⊎◌, ℕ, ◌+◌, ◌≤◌, length, true, false, Option, Some, None, Result, Ok, Err}
 use Rattle.std.specs.Arc.{arc_value}
 use Rattle.lfm_model.specs.declared.answers.Asked.{Asked}

@@ -3,8 +3,6 @@ use Rattle.std.specs.Prelude.{ℕ, ◌+◌, ◌*◌, ◌<◌, ◌≤◌, Result,
 use Rattle.lfm_model.specs.declared.answers.Asked.{Asked}
 use Rattle.lfm_model.specs.declared.answers.How.{How}
 use Rattle.lfm_model.specs.declared.answers.Locked.{Locked}
-use Rattle.lfm_model.specs.declared.answers.Unlocked.{Unlocked}
-use Rattle.lfm_model.specs.declared.refusals.Missing.{Missing}
 use Rattle.lfm_model.specs.declared.refusals.NewFault.{NewFault}
 use Rattle.lfm_model.specs.declared.refusals.Refusal.{Refusal}
 use Rattle.lfm_model.specs.declared.refusals.Refusal.TheVariants.{Asleep, NotOwner, Nested, DepthFull, Spent, NoSuchSeat, NotWaiting, Busy}
@@ -32,9 +30,6 @@ code Status.Taken = 17
 code Status.Limit = 18
 code Status.Memory = 19
 code Status.NoSeat = 20
-code Status.NotBack = 21
-code Status.Holding = 22
-code Status.Foreign = 23
 code (Status.Refused r) = code_of_refusal r
 
 -- an answer: the status, and above its low 8 bits the seat of the call's wake-up, or 0 for none
@@ -66,26 +61,7 @@ locked (Ok (Locked.Held how)) = Status.Done
 locked (Ok (Locked.Again depth)) = Status.Again
 locked (Err r) = Status.Refused r
 
--- the status of an unlock that was not refused
-abbrev pub released : Unlocked → Status
-released (Unlocked.Still depth) = Status.Still
-released Unlocked.Free = Status.Done
-released (Unlocked.Granted seat) = Status.Granted
-released Unlocked.Posted = Status.Posted
-released Unlocked.TakenOver = Status.Posted
-
--- the status of an answer of `unlock`
-abbrev pub unlocked : Result Unlocked Refusal → Status
-unlocked (Ok u) = released u
-unlocked (Err r) = Status.Refused r
-
--- the answer of a close that a seat prevents: why, and above the low 8 bits the number of that seat
-abbrev pub hindered : Missing → ℕ
-hindered (Missing.NotBack seat) = code Status.NotBack + 256 * seat
-hindered (Missing.Holding seat) = code Status.Holding + 256 * seat
-hindered (Missing.Asleep seat) = code_of_refusal Refusal.Asleep + 256 * seat
-
--- the status if a mutex could not be opened
+-- the status if a pool could not be opened
 abbrev pub faulted : NewFault → Status
 faulted NewFault.Limit = Status.Limit
 faulted NewFault.Memory = Status.Memory

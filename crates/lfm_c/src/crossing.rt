@@ -1,7 +1,6 @@
 //! Handles may move to another thread: the functions here can be proved only if the types of the handles are `Send`.
 ghost use Rattle.std.specs.Prelude.{◌≡◌};
 
-use crate::handles::{MutexHandle, SeatHandle};
 use crate::pool_handles::{PoolHandle, PoolSeatHandle};
 
 /// Returns the value. The bound allows it to move to another thread, so a call can be proved only if the value's type is
@@ -10,20 +9,6 @@ fn sent<T: Send>(value: T) -> T
     ensures { result ≡ value }
 {
     value
-}
-
-/// A seat's handle may move to another thread.
-pub fn seat_crosses(handle: SeatHandle) -> SeatHandle
-    ensures { result ≡ handle }
-{
-    sent(handle)
-}
-
-/// A mutex's handle may move to another thread.
-pub fn mutex_crosses(handle: MutexHandle) -> MutexHandle
-    ensures { result ≡ handle }
-{
-    sent(handle)
 }
 
 /// The handle of a seat of a pool may move to another thread.

@@ -1,16 +1,15 @@
-//! A recursive mutex for programs in C, and a pool of such mutexes. The handle of a mutex or pool and the handle of each seat
-//! are in memory of the caller, who passes each to one call at a time. A static library may neither sleep nor wake, so no call
-//! here does. Instead, c/ligdrosa.c sleeps if a call returns that the seat sleeps, and wakes the seat that a call names. It
-//! makes no call of a pool.
+//! Pools of recursive mutexes for programs in C. The handle of a pool and the handle of each seat are in memory of the caller,
+//! who passes each to one call at a time. A static library may neither sleep nor wake, so no call here does. Instead,
+//! c/ligdrosa.c sleeps if a call returns that the seat sleeps, and wakes the seat that a call names.
 //!
-//! An export returns the answer of the mutex's call as a status in the low 8 bits. Its contract states what the status means:
-//! the clauses of the mutex's own call about answers, steps and the bound on steps hold for it. An `ask` or `unlock` may grant
+//! An export returns the answer of the pool's call as a status in the low 8 bits. Its contract states what the status means:
+//! the clauses of the pool's own call about answers, steps and the bound on steps hold for it. An `ask` or `unlock` may grant
 //! the mutex to at most one other seat. The number of that seat is above the status, or 0 if there is none, and the contract
 //! states that it is the seat of the call's wake-up. So no wake-up is lost on this side: the caller must wake the seat that an
 //! answer names.
 //!
-//! A call of a seat of a pool is passed the number of the mutex, from 0. If the pool has no mutex of this number, it is refused
-//! as Limit.
+//! A call of a seat in a mutex is passed the number of this mutex, from 0. If the pool has no mutex of this number, the call is
+//! refused as Limit, and a reader returns 0.
 #![tactic(auto)]
 
 ghost use Rattle.std.specs.Borrow.{full_share, sem};
@@ -20,226 +19,24 @@ ghost use Rattle.std.specs.Prelude.{◌≡◌, None};
 ghost use base.Fml.{fsep};
 ghost use denote.Param.{layout};
 ghost use prog.Memory.{align, capped};
-ghost use Rattle.lfm_c.specs.declared.handles.MutexHandle.{MutexHandle as MutexNow};
-ghost use Rattle.lfm_c.specs.declared.handles.SeatHandle.{SeatHandle as SeatNow};
-ghost use Rattle.lfm_c.specs.contracts.handles.MutexHandle.{the_row as mutex_row};
-ghost use Rattle.lfm_c.specs.contracts.handles.SeatHandle.{the_row as seat_row};
 ghost use Rattle.lfm_c.specs.declared.pool_handles.PoolHandle.{PoolHandle as PoolNow};
 ghost use Rattle.lfm_c.specs.declared.pool_handles.PoolSeatHandle.{PoolSeatHandle as PoolSeatNow};
 ghost use Rattle.lfm_c.specs.contracts.pool_handles.PoolHandle.{the_row as pool_row};
 ghost use Rattle.lfm_c.specs.contracts.pool_handles.PoolSeatHandle.{the_row as pool_seat_row};
-ghost use Rattle.lfm_c.specs.Handles.{TellsAsk, TellsClose, TellsCount, TellsDepth, TellsGive, TellsLeft, TellsNumber, TellsOpen, TellsReceive, TellsTake, TellsTry, TellsUnlock};
 ghost use Rattle.lfm_c.specs.Leaves.{leaves};
 ghost use Rattle.lfm_c.specs.PoolHandles.{TellsPoolAsk, TellsPoolCount, TellsPoolDepth, TellsPoolNumber, TellsPoolOpen, TellsPoolReceive, TellsPoolTake, TellsPoolTry, TellsPoolUnlock};
 
-mod calls;
-mod close;
+mod answers;
 pub mod crossing;
-mod handles;
-mod open;
 mod pool_calls;
 mod pool_handles;
 mod pool_open;
 mod pool_reading;
-mod reading;
 mod status;
 
-use crate::handles::{MutexHandle, SeatHandle};
 use crate::pool_handles::{PoolHandle, PoolSeatHandle};
 use std::alloc::Global;
 use std::mem::{align_of, size_of};
-
-/// The size of a mutex's handle, in bytes.
-#[unsafe(no_mangle)]
-pub extern "C" fn lfm_c_mutex_size() -> usize
-    ensures { result ≡ capped (type_size mutex_row) }
-{
-    size_of::<MutexHandle>()
-}
-
-/// The alignment of a mutex's handle, in bytes.
-#[unsafe(no_mangle)]
-pub extern "C" fn lfm_c_mutex_align() -> usize
-    ensures { result ≡ capped (align (layout mutex_row)) }
-{
-    align_of::<MutexHandle>()
-}
-
-/// The size of a seat's handle, in bytes.
-#[unsafe(no_mangle)]
-pub extern "C" fn lfm_c_seat_size() -> usize
-    ensures { result ≡ capped (type_size seat_row) }
-{
-    size_of::<SeatHandle>()
-}
-
-/// The alignment of a seat's handle, in bytes.
-#[unsafe(no_mangle)]
-pub extern "C" fn lfm_c_seat_align() -> usize
-    ensures { result ≡ capped (align (layout seat_row)) }
-{
-    align_of::<SeatHandle>()
-}
-
-/// Writes the blank handle of a mutex. C passes only the pointer, since an allocator has no bytes.
-#[unsafe(no_mangle)]
-pub unsafe extern "C" fn lfm_c_blank_mutex(alloc: Global, mutex: *mut u8)
-    requires* { sem 𝓛 (room_at mutex_row mutex) }
-    ensures* { sem 𝓛 (lies_at mutex_row full_share mutex (record { alloc = alloc; whole = None })) }
-{
-    (mutex as *mut MutexHandle).write(handles::blank_mutex(alloc));
-}
-
-/// Writes the blank handle of a seat.
-#[unsafe(no_mangle)]
-pub unsafe extern "C" fn lfm_c_blank_seat(seat: *mut u8)
-    requires* { sem 𝓛 (room_at seat_row seat) }
-    ensures* { sem 𝓛 (lies_at seat_row full_share seat (record { seated = None })) }
-{
-    (seat as *mut SeatHandle).write(handles::blank_seat());
-}
-
-/// Opens a mutex with this many seats, 1 to 4,095, and this many takes for each seat, 1 to 2^36.
-///
-/// Returns Done, or Taken (the handle is not blank), Limit, Memory, which change nothing. No other export allocates.
-#[unsafe(no_mangle)]
-pub unsafe extern "C" fn lfm_c_open(mutex: *mut u8, seats: u64, budget: u64) -> u64
-    ghost x: { MutexNow }
-    requires* { sem 𝓛 (lies_at mutex_row full_share mutex x) }
-    ensures* { sem 𝓛 (leaves (λ (y : MutexNow). lies_at mutex_row full_share mutex y) (λ y. TellsOpen x seats budget y result)) }
-{
-    open::open(&mut *(mutex as *mut MutexHandle), seats, budget)
-}
-
-/// Takes the next seat of the mutex: the first is seat 1, and a seat that was given back is taken before those never taken.
-///
-/// Returns Done, or Taken (the seat's handle is not blank), Blank (the mutex's handle is blank), NoSeat, which change nothing.
-#[unsafe(no_mangle)]
-pub unsafe extern "C" fn lfm_c_take_seat(mutex: *mut u8, seat: *mut u8) -> u64
-    ghost x: { MutexNow × SeatNow }
-    requires* { sem 𝓛 (fsep (lies_at mutex_row full_share mutex x.0) (lies_at seat_row full_share seat x.1)) }
-    ensures* { sem 𝓛 (leaves (λ (y : MutexNow × SeatNow). fsep (lies_at mutex_row full_share mutex y.0) (lies_at seat_row full_share seat y.1)) (λ y. TellsTake x.0 x.1 y.0 y.1 result)) }
-{
-    open::take_seat(
-        &mut *(mutex as *mut MutexHandle),
-        &mut *(seat as *mut SeatHandle),
-    )
-}
-
-/// Gives the seat back to its mutex, and makes its handle blank. The seat keeps its number and its takes.
-///
-/// Returns Done, or Blank, Foreign (all seats of this mutex are back, so this seat belongs to another), Holding, Asleep, which
-/// change nothing. In all other cases the caller must ensure that the seat belongs to this mutex.
-#[unsafe(no_mangle)]
-pub unsafe extern "C" fn lfm_c_give_seat(mutex: *mut u8, seat: *mut u8) -> u64
-    ghost x: { MutexNow × SeatNow }
-    requires* { sem 𝓛 (fsep (lies_at mutex_row full_share mutex x.0) (lies_at seat_row full_share seat x.1)) }
-    ensures* { sem 𝓛 (leaves (λ (y : MutexNow × SeatNow). fsep (lies_at mutex_row full_share mutex y.0) (lies_at seat_row full_share seat y.1)) (λ y. TellsGive x.0 x.1 y.0 y.1 result)) }
-{
-    open::give_seat(
-        &mut *(mutex as *mut MutexHandle),
-        &mut *(seat as *mut SeatHandle),
-    )
-}
-
-/// Closes the mutex if each of its seats is back and none holds or sleeps, and frees its memory.
-///
-/// Returns Done, or Blank, NotBack, Holding, Asleep, which change nothing. With each of the last three, the bits above the
-/// status have the number of the first seat, starting with seat 1, that is not back, holds or sleeps. This is the seat that
-/// `missing` of the mutex returns; `missing` knows the seats only by their numbers. `close` of the mutex is not used here. It
-/// requires that each seat belongs to this mutex, and the running code cannot know to which mutex a seat from C belongs. The
-/// guarded number, which nothing reads, is dropped with the mutex.
-#[unsafe(no_mangle)]
-pub unsafe extern "C" fn lfm_c_close(mutex: *mut u8) -> u64
-    ghost x: { MutexNow }
-    requires* { sem 𝓛 (lies_at mutex_row full_share mutex x) }
-    ensures* { sem 𝓛 (leaves (λ (y : MutexNow). lies_at mutex_row full_share mutex y) (λ y. TellsClose x y result)) }
-{
-    close::close(&mut *(mutex as *mut MutexHandle))
-}
-
-/// Returns the seat's number, 1 to 4,095, or 0 if the handle is blank.
-#[unsafe(no_mangle)]
-pub unsafe extern "C" fn lfm_c_number(seat: *mut u8) -> u64
-    ghost x: { SeatNow }
-    requires* { sem 𝓛 (lies_at seat_row full_share seat x) }
-    ensures* { sem 𝓛 (leaves (λ (y : SeatNow). lies_at seat_row full_share seat y) (λ y. TellsNumber x y result)) }
-{
-    reading::number(&mut *(seat as *mut SeatHandle))
-}
-
-/// Returns how many times the seat holds the mutex, 0 to 65,535, or 0 if the handle is blank.
-#[unsafe(no_mangle)]
-pub unsafe extern "C" fn lfm_c_depth(seat: *mut u8) -> u64
-    ghost x: { SeatNow }
-    requires* { sem 𝓛 (lies_at seat_row full_share seat x) }
-    ensures* { sem 𝓛 (leaves (λ (y : SeatNow). lies_at seat_row full_share seat y) (λ y. TellsDepth x y result)) }
-{
-    reading::depth(&mut *(seat as *mut SeatHandle))
-}
-
-/// Returns how many takes the seat has left, 0 to 2^36, or 0 if the handle is blank.
-#[unsafe(no_mangle)]
-pub unsafe extern "C" fn lfm_c_left(seat: *mut u8) -> u64
-    ghost x: { SeatNow }
-    requires* { sem 𝓛 (lies_at seat_row full_share seat x) }
-    ensures* { sem 𝓛 (leaves (λ (y : SeatNow). lies_at seat_row full_share seat y) (λ y. TellsLeft x y result)) }
-{
-    reading::left(&mut *(seat as *mut SeatHandle))
-}
-
-/// Returns how many seats hold or want the mutex, by one load, or 0 if the handle is blank. A thread that spins or naps loads
-/// it before each try.
-#[unsafe(no_mangle)]
-pub unsafe extern "C" fn lfm_c_count(seat: *mut u8) -> u64
-    ghost x: { SeatNow }
-    requires* { sem 𝓛 (lies_at seat_row full_share seat x) }
-    ensures* { sem 𝓛 (leaves (λ (y : SeatNow). lies_at seat_row full_share seat y) (λ y. TellsCount x y result)) }
-{
-    reading::count(&mut *(seat as *mut SeatHandle))
-}
-
-/// `ask` of the seat. Returns Done (it holds), Again (it holds once more), Asleep, Blank, or why it is refused. The number of
-/// the seat to be woken, or 0, is above the status.
-#[unsafe(no_mangle)]
-pub unsafe extern "C" fn lfm_c_ask(seat: *mut u8) -> u64
-    ghost x: { SeatNow }
-    requires* { sem 𝓛 (lies_at seat_row full_share seat x) }
-    ensures* { sem 𝓛 (leaves (λ (y : SeatNow). lies_at seat_row full_share seat y) (λ y. TellsAsk x y result)) }
-{
-    calls::ask(&mut *(seat as *mut SeatHandle))
-}
-
-/// `try_receive` of the seat. Returns Done (it holds), Asleep (it has no grant), Blank, or why it is refused.
-#[unsafe(no_mangle)]
-pub unsafe extern "C" fn lfm_c_receive(seat: *mut u8) -> u64
-    ghost x: { SeatNow }
-    requires* { sem 𝓛 (lies_at seat_row full_share seat x) }
-    ensures* { sem 𝓛 (leaves (λ (y : SeatNow). lies_at seat_row full_share seat y) (λ y. TellsReceive x y result)) }
-{
-    calls::receive(&mut *(seat as *mut SeatHandle))
-}
-
-/// `try_lock` of the seat. Returns Done (it holds), Again (it holds once more), Blank, or why it is refused.
-#[unsafe(no_mangle)]
-pub unsafe extern "C" fn lfm_c_try_lock(seat: *mut u8) -> u64
-    ghost x: { SeatNow }
-    requires* { sem 𝓛 (lies_at seat_row full_share seat x) }
-    ensures* { sem 𝓛 (leaves (λ (y : SeatNow). lies_at seat_row full_share seat y) (λ y. TellsTry x y result)) }
-{
-    calls::try_lock(&mut *(seat as *mut SeatHandle))
-}
-
-/// `unlock` of the seat. Returns Still (it has one hold less and still holds), Done, Posted, Granted, Blank, or why it is
-/// refused. The number of the seat to be woken, or 0, is above the status.
-#[unsafe(no_mangle)]
-pub unsafe extern "C" fn lfm_c_unlock(seat: *mut u8) -> u64
-    ghost x: { SeatNow }
-    requires* { sem 𝓛 (lies_at seat_row full_share seat x) }
-    ensures* { sem 𝓛 (leaves (λ (y : SeatNow). lies_at seat_row full_share seat y) (λ y. TellsUnlock x y result)) }
-{
-    calls::unlock(&mut *(seat as *mut SeatHandle))
-}
 
 /// The size of a pool's handle, in bytes.
 #[unsafe(no_mangle)]
@@ -293,7 +90,7 @@ pub unsafe extern "C" fn lfm_c_blank_pool_seat(seat: *mut u8)
 
 /// Opens a pool of this many mutexes, 1 to 2^32 - 1, with this many seats, 1 to 4,095. Each seat may make 2^63 takes.
 ///
-/// Returns Done, or Taken (the handle is not blank), Limit, Memory, which change nothing. No other export of a pool allocates.
+/// Returns Done, or Taken (the handle is not blank), Limit, Memory, which change nothing. No other export allocates.
 #[unsafe(no_mangle)]
 pub unsafe extern "C" fn lfm_c_pool_open(pool: *mut u8, mutexes: u64, seats: u64) -> u64
     ghost x: { PoolNow }

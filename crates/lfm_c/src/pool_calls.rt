@@ -12,7 +12,7 @@ ghost use Rattle.lfm_pool.specs.WakeUps.{WakesSeatOf, granted_by_release};
 ghost use Rattle.lfm_c.specs.PoolHandles.{KnowsTheSame, TellsPoolAsk, TellsPoolDepth, TellsPoolReceive, TellsPoolTry, TellsPoolUnlock, granted_by, released_in, seat_of, unlocked_in};
 ghost use Rattle.lfm_c.specs.Status.{told as told_of, Names};
 
-use crate::calls::{asked, locked, received};
+use crate::answers::{asked, locked, received};
 use crate::pool_handles::{PoolSeatHandle, PoolSeated};
 use crate::status::Status;
 use lfm_model::{Asked, How, Locked, Refusal};

@@ -23,18 +23,12 @@ pub enum Status {
     Blank,
     /// The handle is not blank.
     Taken,
-    /// A number is outside its limits: of seats, mutexes or the budget, or the number of a mutex of a pool.
+    /// A number is outside its limits: of seats or mutexes, or the number of a mutex of the pool.
     Limit,
     /// The allocator had no memory.
     Memory,
     /// All seats are taken.
     NoSeat,
-    /// A seat has not been given back.
-    NotBack,
-    /// The seat holds the mutex.
-    Holding,
-    /// The seat belongs to another mutex.
-    Foreign,
     /// The mutex refused the call.
     Refused(Refusal),
 }
@@ -74,9 +68,6 @@ impl Status {
             Status::Limit => 18,
             Status::Memory => 19,
             Status::NoSeat => 20,
-            Status::NotBack => 21,
-            Status::Holding => 22,
-            Status::Foreign => 23,
             Status::Refused(refusal) => code_of_refusal(refusal),
         }
     }

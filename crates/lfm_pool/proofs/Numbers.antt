@@ -1,5 +1,5 @@
 -- In a pool, the stamps and the numbers of posts of each mutex fit their words.
-use Rattle.std.proofs.Common.{◌≡◌, ◌≢◌, ℕ, zero, suc, ◌+◌, ◌^◌, ◌<◌, ◌≤◌, List, [], ◌∷◌, length, set, refl, sym, ap, ◌∙◌, subst, inl, inr, arith}
+use Rattle.std.proofs.Common.{◌≡◌, ◌≢◌, ℕ, zero, suc, ◌+◌, ◌^◌, ◌<◌, ◌≤◌, List, [], ◌∷◌, length, set, refl, sym, ap, ◌∙◌, inl, inr, arith}
 use Rattle.std.specs.Prelude.{slice_index}
 use Rattle.std.proofs.lemmas.Bool.{cases_eq, cases_lt}
 use Rattle.std.proofs.lemmas.List.{get_or-set_other}
@@ -14,8 +14,7 @@ use Rattle.lfm_laws.proofs.steady.frames.Entries.{seat_zero}
 use Rattle.lfm_laws.proofs.table.Exact.{push_narrow}
 use Rattle.lfm_laws.proofs.table.Packing.{link_packed}
 use Rattle.lfm_pool.specs.declared.view.PoolView.{PoolView}
-use Rattle.lfm_table.specs.Rule.{sum_over}
-use Rattle.lfm_pool.specs.Admissions.{HasSeen, HasStamps, admitted_in, stamp_in}
+use Rattle.lfm_pool.specs.Admissions.{HasSeen, HasStamps, stamp_in}
 use Rattle.lfm_pool.specs.Posts.{HeldPosts}
 use Rattle.lfm_pool.specs.Rule.{own_at}
 use Rattle.lfm_pool.specs.Tables.{IsKept, MutexTable, part}

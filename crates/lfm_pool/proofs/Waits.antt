@@ -1,5 +1,6 @@
 -- The calls that wait: the receives of a seat that sleeps, one after another, and the tries before a lock.
-use Rattle.std.proofs.Common.{◌≡◌, ◌≢◌, ℕ, zero, suc, ◌<◌, ◌≤◌, inl, inr, refl, subst, Option, Some, None, Result, Ok, Err}
+use Rattle.std.proofs.Common.{◌≡◌, ◌≢◌, ◌↔◌, Bool, true, false, IsTrue, ℕ, zero, suc, ◌+◌, ◌<◌, ◌≤◌, inl, inr, refl, sym, subst, Option, Some, None, Result, Ok, Err, arith}
+use Rattle.std.proofs.lemmas.Bool.{false≢true}
 use Rattle.lfm_model.specs.declared.answers.Asked.{Asked}
 use Rattle.lfm_model.specs.declared.answers.How.{How}
 use Rattle.lfm_model.specs.declared.answers.Locked.{Locked}
@@ -8,7 +9,7 @@ use Rattle.lfm_pool.specs.declared.pool.Pool.{Pool}
 use Rattle.lfm_pool.specs.declared.seat.PoolSeat.{PoolSeat}
 use Rattle.lfm_pool.specs.Belongs.{IsMutex}
 use Rattle.lfm_pool.specs.Calls.{AsksWaking, IsBetweenCalls, Receives, SamePoolSeat, Tries}
-use Rattle.lfm_pool.specs.Locks.{Awaits, Barges, FailsTries, FindsNothing, Locks}
+use Rattle.lfm_pool.specs.Locks.{Awaits, BargesOn, FailsTries, FindsNothing, Locks, MayTry, TriesUpTo}
 use Rattle.lfm_pool.proofs.SeveralSteps.{same_then}
 
 -- the number of a seat of the pool
@@ -63,24 +64,60 @@ locks_asleep s t u p m how asked awaited = inr (t, asked, awaited)
 
 -- Tries
 
--- The seat was s at first. This number of tries have been refused as Busy, and it is t now.
-pub record Failing (k : ℕ) (s t : PoolSeat) (p : Pool) (m : ℕ) : Type 0 where
-  pub same : SamePoolSeat s t
-  pub between : IsBetweenCalls t p
-  pub fails : FailsTries k s t p m
+module _ (p : Pool) (m : ℕ) where
+  -- failed tries, and then further ones
+  fails_on : (j k : ℕ) (s t u : PoolSeat) → FailsTries j s t p m → FailsTries k t u p m → (i : ℕ) × (i ≡ j + k) × FailsTries i s u p m
+  fails_on j zero s t u before none = (j, omega arith, subst (λ (x : PoolSeat). FailsTries j s x p m) (sym none) before)
+  fails_on j (suc k) s t u before after =
+      let made = fails_on j k s t after.0 before after.1 in
+      (suc made.0, omega (arith, made.1), (after.0, made.2, after.2))
 
-module _ (s : PoolSeat) (p : Pool) (m : ℕ) where
-  module _ (k : ℕ) (t u : PoolSeat) (w : Failing k s t p m) (r : Result Locked Refusal) where
-    pub tries_on : SamePoolSeat t u → IsBetweenCalls u p → r ≡ Err Refusal.Busy → Tries r t u p m → Failing (suc k) s u p m
-    tries_on same between busy did = record {
-      same = same_then s.table_seat t.table_seat u.table_seat w.same same;
-      between = between;
-      fails = (t, w.fails, subst (λ (x : Result Locked Refusal). Tries x t u p m) busy did);
-    }
+  -- what tries that have all failed are
+  have_failed : (n : ℕ) (s t : PoolSeat) → TriesUpTo n (Err Refusal.Busy) s t p m → (k : ℕ) × (k ≤ n) × FailsTries k s t p m
+  have_failed n s t (inl h) = h.1
+  have_failed n s t (inr h) = absurd (h.0 refl)
 
-    module _ (n : ℕ) where
-      pub barges_by_try : k < n → r ≢ Err Refusal.Busy → Tries r t u p m → Barges n r s u p m
-      barges_by_try less other did = (k, t, w.fails, inl (less, did, other))
+  pub no_tries : (s t : PoolSeat) → t ≡ s → TriesUpTo 0 (Err Refusal.Busy) s t p m
+  no_tries s t same = inl (refl, (0, omega arith, same))
 
-      pub barges_by_lock : k ≡ n → Locks r t u p m → Barges n r s u p m
-      barges_by_lock all did = (k, t, w.fails, inr (all, did))
+  -- tries that have all failed, and then further ones
+  pub tries_join : (a b n : ℕ) (s t u : PoolSeat) (r : Result Locked Refusal) → a + b ≤ n → TriesUpTo a (Err Refusal.Busy) s t p m → TriesUpTo b r t u p m → TriesUpTo n r s u p m
+  tries_join a b n s t u r few before (inl h) =
+      let failed = have_failed a s t before in
+      let made = fails_on failed.0 h.1.0 s t u failed.2 h.1.2 in
+      inl (h.0, (made.0, omega (arith, few, failed.1, h.1.1, made.1), made.2))
+  tries_join a b n s t u r few before (inr h) =
+      let failed = have_failed a s t before in
+      let made = fails_on failed.0 h.1.0 s t h.1.1 failed.2 h.1.3 in
+      inr (h.0, (made.0, h.1.1, omega (arith, few, failed.1, h.1.2, made.1), made.2, h.1.4))
+
+  pub tries_fewer : (a n : ℕ) (s t : PoolSeat) (r : Result Locked Refusal) → a ≤ n → TriesUpTo a r s t p m → TriesUpTo n r s t p m
+  tries_fewer a n s t r few did = tries_join 0 a n s s t r (omega (arith, few)) (no_tries s s refl) did
+
+  -- at most one try
+  tries_once : (s t : PoolSeat) (r : Result Locked Refusal) (busy : Bool) → (IsTrue busy ↔ (r ≡ Err Refusal.Busy)) → MayTry r s t p m → TriesUpTo 1 r s t p m
+  tries_once s t r busy is (inl h) = inl (h.0, (0, omega arith, h.1))
+  tries_once s t r true is (inr did) = inl (is.0 refl, (1, omega arith, (s, refl, subst (λ (x : Result Locked Refusal). Tries x s t p m) (is.0 refl) did)))
+  tries_once s t r false is (inr did) = inr (λ same. false≢true (is.1 same), (0, s, omega arith, refl, did))
+
+  pub when_busy : (n : ℕ) (s t : PoolSeat) (r : Result Locked Refusal) → (IsTrue true ↔ (r ≡ Err Refusal.Busy)) → TriesUpTo n r s t p m → TriesUpTo n (Err Refusal.Busy) s t p m
+  when_busy n s t r is tried = subst (λ (x : Result Locked Refusal). TriesUpTo n x s t p m) (is.0 refl) tried
+
+  module _ (a n : ℕ) (s t u : PoolSeat) (r : Result Locked Refusal) (few : a + 1 ≤ n) where
+    -- tries that have all failed, and then one more that fails
+    pub fails_again : (IsTrue true ↔ (r ≡ Err Refusal.Busy)) → TriesUpTo a (Err Refusal.Busy) s t p m → MayTry r t u p m → TriesUpTo n (Err Refusal.Busy) s u p m
+    fails_again is before did = when_busy n s u r is (tries_join a 1 n s t u r few before (tries_once t u r true is did))
+
+    -- tries that have all failed, and then one that does not
+    pub ends_by_try : (IsTrue false ↔ (r ≡ Err Refusal.Busy)) → TriesUpTo a (Err Refusal.Busy) s t p m → MayTry r t u p m → TriesUpTo n r s u p m
+    ends_by_try is before did = tries_join a 1 n s t u r few before (tries_once t u r false is did)
+
+  module _ (n : ℕ) (s t : PoolSeat) (r : Result Locked Refusal) where
+    -- one of the tries has acquired the mutex, or was refused for another reason than Busy
+    pub barges_by_try : TriesUpTo n r s t p m → r ≢ Err Refusal.Busy → BargesOn n r s t p m
+    barges_by_try (inl h) other = absurd (other h.0)
+    barges_by_try (inr h) other = (h.1.0, h.1.1, h.1.3, inl (h.1.2, h.1.4, other))
+
+    -- all tries have failed, and a lock was made
+    pub barges_by_lock : (u : PoolSeat) → TriesUpTo n (Err Refusal.Busy) s u p m → Locks r u t p m → BargesOn n r s t p m
+    barges_by_lock u tried did = let failed = have_failed n s u tried in (failed.0, u, failed.2, inr (failed.1, did))

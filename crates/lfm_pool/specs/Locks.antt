@@ -1,5 +1,5 @@
 -- What the calls that wait for a mutex make of a seat of a pool.
-use Rattle.std.specs.Prelude.{◌≡◌, ◌≢◌, ◌⊎◌, ℕ, zero, suc, ◌<◌, Some, None, Result, Ok, Err}
+use Rattle.std.specs.Prelude.{◌≡◌, ◌≢◌, ◌⊎◌, ℕ, zero, suc, ◌<◌, ◌≤◌, ◌-◌, Some, None, Result, Ok, Err}
 use Rattle.lfm_model.specs.declared.answers.Asked.{Asked}
 use Rattle.lfm_model.specs.declared.answers.How.{How}
 use Rattle.lfm_model.specs.declared.answers.Locked.{Locked}
@@ -32,9 +32,26 @@ abbrev pub FailsTries : ℕ → PoolSeat → PoolSeat → Pool → ℕ → Type 
 FailsTries zero s t p m = t ≡ s
 FailsTries (suc k) s t p m = (u : PoolSeat) × FailsTries k s u p m × Tries (Err Refusal.Busy) u t p m
 
--- From s to t the seat has made a lock_barging of mutex m, with at most n tries and this answer: tries that failed, and then
--- either a try with this answer, or, after all n have failed, a lock with it.
+-- from s to t the seat has made a try of mutex m with this answer, or none, and then the answer is Busy
+abbrev pub MayTry : Result Locked Refusal → PoolSeat → PoolSeat → Pool → ℕ → Type 0
+MayTry result s t p m = ((result ≡ Err Refusal.Busy) × (t ≡ s)) ⊎ Tries result s t p m
+
+-- From s to t the seat has made at most n tries of mutex m. This is the answer of the last one: Busy if all have failed, also if
+-- there was none.
+abbrev pub TriesUpTo : ℕ → Result Locked Refusal → PoolSeat → PoolSeat → Pool → ℕ → Type 0
+TriesUpTo n result s t p m =
+    ((result ≡ Err Refusal.Busy) × ((k : ℕ) × (k ≤ n) × FailsTries k s t p m))
+    ⊎ ((result ≢ Err Refusal.Busy) × ((k : ℕ) × (u : PoolSeat) × (k < n) × FailsTries k s u p m × Tries result u t p m))
+
+-- From s to t the seat has made at most n tries of mutex m, and a lock if all of them have failed, with this answer.
+abbrev pub BargesOn : ℕ → Result Locked Refusal → PoolSeat → PoolSeat → Pool → ℕ → Type 0
+BargesOn n result s t p m =
+    (k : ℕ) × (u : PoolSeat) × FailsTries k s u p m
+    × (((k < n) × Tries result u t p m × (result ≢ Err Refusal.Busy)) ⊎ ((k ≤ n) × Locks result u t p m))
+
+-- From s to t the seat has made a lock_barging of mutex m, with at most n tries and this answer: a try with this answer, which is
+-- not Busy; or a try that failed, then at most n - 1 more, and a lock if all of them have failed.
 abbrev pub Barges : ℕ → Result Locked Refusal → PoolSeat → PoolSeat → Pool → ℕ → Type 0
 Barges n result s t p m =
-    (k : ℕ) × (u : PoolSeat) × FailsTries k s u p m
-    × (((k < n) × Tries result u t p m × (result ≢ Err Refusal.Busy)) ⊎ ((k ≡ n) × Locks result u t p m))
+    (Tries result s t p m × (result ≢ Err Refusal.Busy))
+    ⊎ ((u : PoolSeat) × Tries (Err Refusal.Busy) s u p m × BargesOn (n - 1) result u t p m)

@@ -30,6 +30,7 @@ mod admission;
 mod any_depth;
 mod ask;
 mod ask_all;
+mod barging;
 pub mod calls;
 mod chain;
 mod collect;

@@ -6,13 +6,14 @@
 //! nothing.
 //!
 //! The loads by which a thread polls or parks are no steps of its seat, and no proof learns anything from them. They are made
-//! only here, in calls that may wait. Besides them, `count` of `reading` makes such a load, and no other call makes that one.
-ghost use Rattle.std.specs.Prelude.{◌≡◌, ◌≢◌, ◌<◌, ◌≤◌, ◌↔◌, Err, IfErr, IsTrue};
+//! only here and in `barging`, by calls that may wait. Besides them, `count` of `reading` makes such a load.
+ghost use Rattle.std.specs.Prelude.{◌≡◌, ◌≢◌, ◌<◌, ◌≤◌, IfErr};
 ghost use Rattle.lfm_model.specs.declared.refusals.Refusal.{Refusal as RefusalNow};
 ghost use Rattle.lfm_pool.specs.Belongs.{IsMutex};
 ghost use Rattle.lfm_pool.specs.Calls.{IsBetweenCalls, SamePoolSeat};
-ghost use Rattle.lfm_pool.specs.Locks.{Awaits, Barges, Locks};
+ghost use Rattle.lfm_pool.specs.Locks.{Awaits, Barges, BargesOn, Locks};
 
+use crate::barging::{is_busy, nap, spin};
 use crate::calls::{ask, try_lock, try_receive};
 use crate::layout::wake_at;
 use crate::pool::Pool;
@@ -24,12 +25,6 @@ use std::sync::Wait;
 
 /// How often the processor is told to pause between two polls, so that the cache line stays with the seat that grants.
 const PAUSES: u32 = 4;
-
-/// How often `lock_barging` tries before it queues.
-const TRIES: u32 = 13;
-
-/// The number of pauses after a failed try doubles from one try to the next, up to 2 to the power of this.
-const MOST_DOUBLINGS: u32 = 8;
 
 /// Acquires this mutex, or deepens the hold: `ask`, and then `receive_lock` if that answered Asleep. Returns Held with how the
 /// seat acquired the mutex, or Again with the new depth. Queued seats are served in the order in which they queued.
@@ -56,9 +51,14 @@ pub fn lock<R: Wait>(
     }
 }
 
-/// A `lock` that first tries to acquire the mutex, at most 13 times, and queues only if each try fails. After a failed try it
-/// pauses, twice as long each time, up to 256 pauses. A seat that tries has no place in the queue yet. From its push on, the
-/// order of the queue applies to it, as after `lock`. A hold is deepened at once.
+/// A `lock` that first tries to acquire the mutex, at most 16 times, and queues only if each try fails. It makes one try at once.
+/// Then it spins 11 times and naps 4 times, and makes a try each time that a read of the count finds 0 afterwards. A spin is
+/// up to 256 pauses, and a nap a sleep of 20 to 70 microseconds. It queues earlier if others queue already: the spins end if
+/// the count is above 2, and the naps if it is above 16. A pool that never polls never spins. A read of the count is no step of
+/// the protocol.
+///
+/// A seat that tries has no place in the queue yet. From its push on, the order of the queue applies to it, as after `lock`. A
+/// hold is deepened at once.
 ///
 /// Refuses as `lock`: Asleep, DepthFull, Spent, in this order. It may sleep, and may wake the thread of another seat as `ask`
 /// does. It allocates nothing. Nothing changes in other mutexes.
@@ -73,15 +73,34 @@ pub fn lock_barging<R: Wait>(
     requires mutex { IsMutex mutex pool.now }
     ensures belongs { SamePoolSeat seat.old seat.new }
     ensures between { IsBetweenCalls seat.new pool.now }
-    ensures barges { Barges 13 result seat.old seat.new pool.now mutex }
+    ensures barges { Barges 16 result seat.old seat.new pool.now mutex }
     ensures never_busy { IfErr result (λ e. e ≢ RefusalNow.Busy) }
 {
-    for tries in 0..TRIES {
-        let tried = try_lock(pool, seat, mutex);
-        if !is_busy(&tried) {
-            return tried;
-        }
-        pause_for(1 << tries.min(MOST_DOUBLINGS));
+    // It does not read the count first: mostly no seat holds, and the read would be one more load of its cache line.
+    let tried = try_lock(pool, seat, mutex);
+    if !is_busy(&tried) {
+        return tried;
+    }
+    barge(rt, pool, seat, mutex)
+}
+
+/// The slow path of `lock_barging`, after its first try: spins, then naps, and then queues.
+#[inline(never)]
+fn barge<R: Wait>(rt: &R, pool: &Pool, seat: &mut PoolSeat, mutex: usize) -> Result<Locked, Refusal>
+    requires between { IsBetweenCalls seat.old pool.now }
+    requires mutex { IsMutex mutex pool.now }
+    ensures belongs { SamePoolSeat seat.old seat.new }
+    ensures between { IsBetweenCalls seat.new pool.now }
+    ensures barges { BargesOn 15 result seat.old seat.new pool.now mutex }
+    ensures never_busy { IfErr result (λ e. e ≢ RefusalNow.Busy) }
+{
+    let spun = spin(pool, seat, mutex);
+    if !is_busy(&spun) {
+        return spun;
+    }
+    let napped = nap(rt, pool, seat, mutex);
+    if !is_busy(&napped) {
+        return napped;
     }
     lock(rt, pool, seat, mutex)
 }
@@ -143,19 +162,5 @@ fn park<R: Wait>(rt: &R, pool: &Pool, word: usize)
     let seen = words.peek(word);
     if !Wake::is_grant_word(seen) {
         words.park(rt, word, seen as u32);
-    }
-}
-
-/// Whether this try was refused as Busy.
-fn is_busy(tried: &Result<Locked, Refusal>) -> bool
-    ensures { IsTrue result ↔ (tried.now ≡ Err RefusalNow.Busy) }
-{
-    matches!(tried, Err(Refusal::Busy))
-}
-
-/// Makes this number of pauses.
-fn pause_for(pauses: u32) {
-    for _ in 0..pauses {
-        spin_loop();
     }
 }

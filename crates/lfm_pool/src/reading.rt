@@ -15,7 +15,7 @@ use crate::seat::PoolSeat;
 
 /// How many seats hold this mutex or want it, by one load of its count. A queued seat is counted. The holder is counted twice
 /// while its `ask` adds a hold. The number is a hint, since it may change at once, and the contract promises nothing of it: the
-/// load is no step of any seat. No call of `calls` or `lock` makes it.
+/// load is no step of any seat. `lock_barging` makes it between its tries, and no other call does.
 #[inline(always)]
 pub fn count(pool: &Pool, mutex: usize) -> u64
     requires mutex { IsMutex mutex pool.now }

@@ -1,6 +1,5 @@
 use Rattle.std.proofs.Common.{ℕ, sym, ◌<◌, ◌+◌, length, subst, inr, arith, ◌∙◌}
 use Rattle.std.proofs.lemmas.Bool.{false≢true}
-use Rattle.std.specs.Prelude.{false}
 use Rattle.lfm_pool.specs.Admissions.{most_stamps, stamp_in}
 use Rattle.lfm_pool.specs.Depths.{AskAgainSteps, HasDepthIn}
 use Rattle.lfm_pool.specs.Seats.{popped_of}

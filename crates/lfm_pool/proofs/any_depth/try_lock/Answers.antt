@@ -2,7 +2,6 @@ use Rattle.std.proofs.Common.{ℕ, sym, ◌<◌, ◌+◌, subst, arith, ◌∙�
 use Rattle.std.proofs.lemmas.Bool.{false≢true}
 use Rattle.atomic_table.specs.Table.{Me}
 use Rattle.lfm_pool.specs.declared.view.PoolView.{PoolView}
-use Rattle.std.specs.Prelude.{false}
 use Rattle.lfm_pool.specs.Depths.{HasDepthIn, TryAgainSteps}
 use Rattle.lfm_pool.specs.Steps.{state_in}
 use Rattle.lfm_pool.proofs.AnyDepth.{again_told, bounded_then, deep_rest, deepens_then, depth_then_at, full, may_at_rest, may_try_flat, others_rest, refused_made, rest_then, tried_again_made, tries_then, try_rest, try_told}

@@ -12,6 +12,7 @@ void make_shared(void) {
   for (int i = 0; i < MOST_FIBERS; i++) shared->seats[i] = zeroed(sizeof *shared->seats[i]);
 }
 void end_early(void) { explorer_set_specific(NULL); explorer_end_thread(NULL); }
+void end_in_last_round(void) { end_early(); explorer_set_specific(NULL); }
 static void take_all(int count) {
   for (int i = 0; i < count; i++) CHECK(lfm_seat_take(shared->mutex, shared->seats[i]) == LFM_DONE);
 }

@@ -64,13 +64,14 @@ static void open_middle(void) {
   open_mutex_only();
   CHECK(lfm_seat_take(shared->mutex, shared->seats[1]) == LFM_DONE);
 }
-static void late_once(void) {
+static void hold_late(void (*end_thread)(void)) {
   acquired(lfm_lock_in_order_here(shared->mutex));
-  end_early();
+  end_thread();
   section();
   released(lfm_unlock_here(shared->mutex));
 }
-static void late_again(void) { late_once(); here_in_order(); }
+static void late_once(void) { hold_late(end_in_last_round); }
+static void late_again(void) { hold_late(end_early); here_in_order(); }
 static void late_timed(void) {
   lfm_status status = lfm_try_lock_for_here(shared->mutex, LONG_TIME);
   CHECK(status == LFM_DONE || status == LFM_BUSY);

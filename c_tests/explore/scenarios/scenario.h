@@ -25,8 +25,10 @@ void open3(void);
 void open4(void);
 /* Memory that is zero. */
 void *zeroed(size_t bytes);
-/* The calling thread ends as far as the library knows. Then it may call again, as destructors of thread-specific data do. */
+/* The calling thread ends as far as the library knows. Then it may call again, as destructors of thread-specific data do. After
+ * the second no more round of these comes. */
 void end_early(void);
+void end_in_last_round(void);
 /* Gives back seats in hand, closes the mutex unless it is closed, and gives back what the threads shared. */
 void end(void);
 

@@ -41,6 +41,10 @@ static uint64_t count_by(struct participant *by, mutex_word mutex) {
   return lfm_c_pool_count(seat_in(by, mutex), index_of(mutex));
 }
 
+static uint64_t depth_by(struct participant *by, mutex_word mutex) {
+  return lfm_c_pool_depth(seat_in(by, mutex), index_of(mutex));
+}
+
 /* Counts a hold of the participant if a call with this status has begun one. */
 FAST_PATH lfm_status note_hold(struct participant *by, lfm_status status) {
   by->holds += status == LFM_DONE;
@@ -50,9 +54,9 @@ FAST_PATH lfm_status note_hold(struct participant *by, lfm_status status) {
 /* How many times the participant holds the mutex, by its own seat or by a deputy. */
 static uint64_t depth_of(struct participant *by, mutex_word mutex) {
   if (by->pools < pool_in(mutex)) return 0;
-  uint64_t depth = lfm_c_pool_depth(seat_in(by, mutex), index_of(mutex));
+  uint64_t depth = depth_by(by, mutex);
   struct participant *deputy = depth == 0 && by->deputies ? holding_deputy(by, mutex) : NULL;
-  return deputy ? lfm_c_pool_depth(seat_in(deputy, mutex), index_of(mutex)) : depth;
+  return deputy ? depth_by(deputy, mutex) : depth;
 }
 
 /* The queue */
@@ -79,8 +83,8 @@ SLOW_PATH lfm_status await_deputy(struct participant *by, struct participant *de
   return note_hold(by, status_of(lfm_c_pool_receive(seat_in(deputy, mutex), index_of(mutex))));
 }
 
-/* Makes the call by a deputy that holds the mutex or is still queued there: whether there is one. The own seat would wait behind
- * it. */
+/* Makes the call by a deputy that holds the mutex or is still queued there: whether there is one. The own seat, which doesn't
+ * hold, would wait behind it. */
 SLOW_PATH bool is_by_deputy(struct participant *by, mutex_word mutex, const struct deadline *deadline, lfm_status *status) {
   struct participant *deputy = holding_deputy(by, mutex);
   if (deputy) {
@@ -92,10 +96,11 @@ SLOW_PATH bool is_by_deputy(struct participant *by, mutex_word mutex, const stru
   return deputy;
 }
 
-/* Locks in order, by the own seat. */
+/* Locks in order, by the own seat. If that seat holds, since a try has acquired the mutex, a deputy that is still queued waits
+ * behind it. */
 static lfm_status queue(struct participant *by, mutex_word mutex) {
   lfm_status status;
-  if (UNLIKELY(by->deputies) && is_by_deputy(by, mutex, NULL, &status)) return status;
+  if (UNLIKELY(by->deputies) && depth_by(by, mutex) == 0 && is_by_deputy(by, mutex, NULL, &status)) return status;
   status = wake_named(mutex, lfm_c_pool_ask(seat_in(by, mutex), index_of(mutex)));
   if (status == LFM_ASLEEP) {
     await_bell(by, mutex, NULL);

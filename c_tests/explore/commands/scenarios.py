@@ -10,8 +10,8 @@ WAYS = [
     (MODEL, "-w", None),
     (PROVED, "-w", None),
     (MODEL, "-w", "wake_all4"),
-    (MODEL, "", "lock2 lock3 order2 order3 try3 deep2 timed2 timed3 timed_both timed_give timed_lock timed_order "
-                "timed_timed timed_try timed_depth deputy_deep2 deputy_wait2 deputy_wake2 here_timed late2 late_timed2 "
+    (MODEL, "", "lock2 lock3 order2 order3 try3 deep2 timed2 timed3 timed_both timed_give timed_lock timed_order timed_timed "
+                "timed_try timed_depth deputy_deep2 deputy_behind2 deputy_wait2 deputy_wake2 here_timed late2 late_timed2 "
                 "give2 here2 give_order2 close_while_held2 close_deputy2 here_timed_close close2 close_barging2 reopen2 "
                 "reopen3 close_hand2 close_give2 wait2 wait2_inside wait_for2 wait_for2_inside condvar_close2 "
                 "condvar_close2_inside condvar_close_refused2 here_wait2 ping_pong timed_wait2 wake_by_another_mutex2 "

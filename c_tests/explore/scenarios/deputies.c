@@ -24,6 +24,17 @@ static void timed_deep(void) {
   CHECK(lfm_unlock(mine()) == LFM_NOT_OWNER);
 }
 
+/* A try acquires the mutex while the deputy of a timed lock is still queued, which then waits behind that hold. */
+static void timed_try_deep(void) {
+  timed();
+  lfm_status status = lfm_try_lock(mine());
+  CHECK(status == LFM_DONE || status == LFM_BUSY);
+  if (status != LFM_DONE) return;
+  deepen();
+  section();
+  released(lfm_unlock(mine()));
+}
+
 /* A thread waits at a condition variable by a hold that a deputy may have, or wakes another then. */
 static void hold_by_deputy(void) {
   lfm_status status = lfm_try_lock_for(mine(), LONG_TIME);
@@ -127,6 +138,8 @@ static void timed_refused(void) {
 
 const struct scenario deputy_scenarios[] = {
     {"deputy_deep2", "a hold by a deputy is deepened", 2, false, open2, {timed_deep, twice_in_order}, end},
+    {"deputy_behind2", "a hold by a try is deepened while a deputy is queued behind it",
+     2, false, open2, {timed_try_deep, twice_in_order}, end},
     {"deputy_wait2", "a wait by a thread whose deputy holds", 2, false, open2, {await_by_deputy, once_and_make_ready}, end},
     {"deputy_wake2", "a wake by a thread whose deputy holds", 2, false, open2, {wake_by_deputy, once_and_await}, end},
     {"deputy_nested2", "a nested wait is refused", 2, false, open2, {nest_by_deputy, once_in_order}, end},

@@ -34,13 +34,14 @@
 #define LFM_ROUNDS(count) (count)
 #endif
 
-#include "parts/proved.h"            /* the proved calls */
-#include "parts/futex.h"             /* sleeping on a word; clocks and deadlines */
-#include "parts/bell.h"              /* one thread waits for another */
-#include "parts/latch.h"             /* a lock for a few steps */
-#include "parts/tools.h"             /* what sanitizers are told; processors; memory */
+#include "parts/proved.h"       /* the proved calls */
+#include "parts/futex.h"        /* sleeping on a word; clocks and deadlines */
+#include "parts/bell.h"         /* one thread waits for another */
+#include "parts/latch.h"        /* a lock for a few steps */
+#include "parts/tools.h"        /* what sanitizers are told; processors; memory */
 #include "parts/numbers.h"      /* numbers that any thread takes and gives back */
 #include "parts/layout.h"       /* the fields of participants, pools and seats */
+#include "parts/forks.h"        /* the latches over a fork */
 #include "parts/pools.h"        /* pools, and how mutexes of them are opened */
 #include "parts/participants.h" /* who takes part in mutexes */
 #include "parts/waiter.h"       /* a wait at a condition variable */
@@ -49,7 +50,7 @@
 #include "parts/hand.h"         /* seats in hand */
 #include "parts/threads.h"      /* the participant of each thread */
 #include "parts/here.h"         /* the calls that find the thread's participant */
-#include "parts/held.h"              /* the calls that end the program unless a seat holds */
+#include "parts/held.h"         /* the calls that end the program unless a seat holds */
 #include "parts/end.h"          /* closing, and forked children */
 #include "parts/condvar.h"      /* condition variables */
-#include "parts/texts.h"             /* the version and the texts of statuses */
+#include "parts/texts.h"        /* the version and the texts of statuses */

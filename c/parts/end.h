@@ -3,32 +3,7 @@
  * A child has the pools of its parent as they were at the fork, and one of its threads. The other threads make no further step:
  * to the core they are threads that are late for ever. So the child goes on with each mutex that none of them held or asked for.
  * Of one that the forking thread held, lfm_after_fork takes another in its place if others had asked for it: they would be
- * granted it in their turn. It does so too if seats of it are in hand that the child forgets. The latches of the library are
- * held over a fork, so none is held by a thread that the child lacks. */
-
-static void hold_latches(void) {
-  acquire_latch(&LFM_PROCESS.latch);
-  for (uint32_t i = 1; i <= LFM_PROCESS.count_of_pools; i++) acquire_latch(&LFM_PROCESS.pools[i]->latch);
-}
-
-static void release_latches(void) {
-  for (uint32_t i = 1; i <= LFM_PROCESS.count_of_pools; i++) release_latch(&LFM_PROCESS.pools[i]->latch);
-  release_latch(&LFM_PROCESS.latch);
-}
-
-static void count_fork(void) {
-  LFM_PROCESS.forks++;
-  release_latches();
-}
-
-/* Made before a program's constructors run, or as the first mutex is opened, which may be earlier. So handlers of a program that
- * lock, as those of a malloc do, are called while the latches are free. */
-__attribute__((constructor(101))) static void watch_forks(void) {
-  static bool is_watching;
-  hide(&LFM_PROCESS, sizeof LFM_PROCESS);
-  if (__atomic_exchange_n(&is_watching, true, __ATOMIC_SEQ_CST)) return;
-  if (pthread_atfork(hold_latches, release_latches, count_fork) != 0) __atomic_store_n(&is_watching, false, __ATOMIC_SEQ_CST);
-}
+ * granted it in their turn. It does so too if seats of it are in hand that the child forgets. */
 
 #define IS_UNKNOWN UINT64_MAX
 

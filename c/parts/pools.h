@@ -54,8 +54,6 @@ SLOW_PATH lfm_status open_pool(uint32_t number) {
   return LFM_DONE;
 }
 
-static void watch_forks(void);
-
 /* Opens one more pool than this number, unless another thread has. */
 SLOW_PATH lfm_status grow(uint32_t known) {
   lfm_status status = LFM_DONE;

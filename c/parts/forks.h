@@ -1,0 +1,26 @@
+/* Forks: how often a process was forked from the first one, and that no latch is held by a thread that a child lacks. The latches
+ * of the process and of its pools are held over a fork. What a child does with mutexes of its parent is in end.h. */
+
+static void hold_latches(void) {
+  acquire_latch(&LFM_PROCESS.latch);
+  for (uint32_t i = 1; i <= LFM_PROCESS.count_of_pools; i++) acquire_latch(&LFM_PROCESS.pools[i]->latch);
+}
+
+static void release_latches(void) {
+  for (uint32_t i = 1; i <= LFM_PROCESS.count_of_pools; i++) release_latch(&LFM_PROCESS.pools[i]->latch);
+  release_latch(&LFM_PROCESS.latch);
+}
+
+static void count_fork(void) {
+  LFM_PROCESS.forks++;
+  release_latches();
+}
+
+/* Made before a program's constructors run, or as the first mutex is opened, which may be earlier. So handlers of a program that
+ * lock, as those of a malloc do, are called while the latches are free. */
+__attribute__((constructor(101))) static void watch_forks(void) {
+  static bool is_watching;
+  hide(&LFM_PROCESS, sizeof LFM_PROCESS);
+  if (__atomic_exchange_n(&is_watching, true, __ATOMIC_SEQ_CST)) return;
+  if (pthread_atfork(hold_latches, release_latches, count_fork) != 0) __atomic_store_n(&is_watching, false, __ATOMIC_SEQ_CST);
+}

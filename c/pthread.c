@@ -4,7 +4,8 @@
  *     LD_PRELOAD=/usr/local/lib/libligdrosa_pthread.so program
  *
  * Mutexes of all four kinds are Ligdrosa's, whether they are initialized by a call or by a constant, and so are condition
- * variables. The calls answer what POSIX says. One of a thread that is the 4,096th in a process is refused as EAGAIN.
+ * variables. The calls answer what POSIX says. A process has 4,095 numbers. A thread takes one by its first call, and another
+ * one for a lock with a time limit that queues, and keeps them until it ends. A call that finds none left is refused as EAGAIN.
  *
  * What is passed on to the system:
  *
@@ -26,17 +27,21 @@
  *   - A recursive mutex is held at most 65,535 times. A wait at a condition variable gives up all holds of it, and takes them
  *     again. That of glibc gives up one, so others are shut out.
  *   - pthread_cond_destroy is refused as EBUSY while a thread waits, and doesn't wait for it.
- *   - Threads wait in the order in which they came, and no wait ends without a wake, a signal or the end of its time.
+ *   - A lock tries before it queues. Those that are queued acquire the mutex in the order in which they queued.
+ *   - Threads that wait at a condition variable are woken in the order in which they began to wait. A wait ends only by a wake
+ *     or at the end of its time.
  *   - A thread that sleeps at a condition variable is not woken by pthread_cancel. It acts on that at its next cancellation
  *     point after it was woken. A wait is one before it sleeps, and when its time is over.
  *   - The memory of a mutex in the library is not given back if the program never destroys it, as those of std::mutex are not,
  *     until another mutex lies in the same place. A mutex that was copied is another one, which nobody holds.
  *
- * In a forked child, a mutex that another thread of the parent held stays held. One that the forking thread held, or
- * nobody, is made new by its first call, so the child goes on with it, also between handlers of pthread_atfork. A condition
- * variable that others waited at is to be initialized anew, as with the system.
+ * In a forked child, a mutex that another thread of the parent held stays held, or that nobody held and another thread asked
+ * for. One that the forking thread held, or that nobody held or asked for, is made new by its first call. So the child goes on
+ * with it, also between handlers of pthread_atfork. A condition variable that others waited at is to be initialized anew, as
+ * with the system.
  *
- * Nothing here calls malloc, which may lock mutexes of its own by these calls.
+ * Nothing here asks malloc for memory, since malloc may lock mutexes of its own by these calls. The system may ask it in a
+ * thread's first call. No latch is held then.
  *
  * This is one compilation unit with the library, so that the fast paths are in line. A preloaded library has its
  * thread-local memory from the start. It is initialized before all others (-z initfirst), so that its handlers of

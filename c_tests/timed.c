@@ -1,5 +1,5 @@
 /* Calls with a time limit: they end by it, not before it and not much later, on both clocks; and they acquire a mutex that
- * is released before. A time that is as good as never doesn't end them. */
+ * is released before. A time more than 500 years ahead doesn't end them. */
 #define _GNU_SOURCE
 #include "expect.h"
 

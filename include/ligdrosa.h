@@ -14,18 +14,20 @@
  * Most programs need only the calls whose names end in `here`, and lfm_wake_one and lfm_wake_all. A status is tested by
  * lfm_is_refused, and not against 0: each one below LFM_BLANK is a success, as LFM_AGAIN of a thread that held before.
  * lfm_status_text has its meaning in words. A program that goes on after a refused lock may call lfm_acquire_here, which
- * answers a bool. Null, a mutex that is not open and a seat that is not taken are answered by LFM_BLANK. A call that is
- * refused has changed nothing, unless it says so; but it may have opened an LFM_MUTEX_INIT and taken the thread's number.
+ * answers a bool. Null, a mutex that is neither open nor LFM_MUTEX_INIT, and a seat that is not taken are answered by
+ * LFM_BLANK. An unlock or wait of an LFM_MUTEX_INIT that is not open yet is refused as LFM_NOT_OWNER. A call that is refused
+ * has changed nothing, unless it says so; but it may have opened an LFM_MUTEX_INIT and taken the thread's number. Below, the
+ * statuses after *Refused* stand in the order in which a call tests them, LFM_NO_MEMORY where memory is requested first.
  *
  * A thread has one number for all mutexes, from its first call until it ends. The calls whose names end in `here` find it.
  * The others are given a seat (lfm_seat_take), for programs that keep nothing in thread-local memory. Each such seat has a
  * number of its own, and so has each lock with a time limit that queues. A process has 4,095 numbers at a time. Only a call
  * that needs one more is refused as LFM_NO_SEAT.
  *
- * The library keeps its memory until the process ends: 80 bytes for each mutex of a pool, up to 1.1 kB for each number, and
- * up to some 360 kB more for each pool. The first pool has 512 mutexes, and each other one twice as many as the one before.
- * Memory is requested only by calls that open a mutex or make it new after a fork, by the first call of a thread, and by
- * lfm_seat_take and lfm_seat_here.
+ * The library keeps its memory until the process ends: 80 bytes for each mutex of a pool, some 100 kB more for each pool,
+ * and 1.1 kB for each number with its seats. The first pool has 512 mutexes, and each other one twice as many as the one
+ * before. There are at most 15 pools, with 16,776,704 mutexes. Memory is requested only by calls that open a mutex or make
+ * it new after a fork, by the first call of a thread, and by lfm_seat_take and lfm_seat_here.
  *
  * Only these may change errno: calls that open or close a mutex, make it new after a fork, take or give back a seat, the
  * first call of a thread, and calls by destructors of thread-specific data.
@@ -49,11 +51,11 @@
  *     If all files of a program are compiled with -DLFM_CHECKED, two threads in one seat of lfm_seat_take end it with a
  *     text. This does not check lfm_depth and lfm_assert_held.
  *   - No call comes from a signal handler.
- *   - A forked child calls a mutex that the thread which forked held only after lfm_after_fork, and doesn't call one that
- *     another thread held, asked for or was releasing. All others it calls as its parent does. It may close each mutex and
- *     give back each seat. If other threads of the parent may have waited at a condition variable or been in a call of it,
- *     the child sets it to zero before it calls it: it has none of these threads. The child is one of fork: the library
- *     doesn't see those of _Fork, vfork and clone.
+ *   - A forked child calls a mutex that the forking thread held only after lfm_after_fork. It doesn't call one that another
+ *     thread held, or that nobody held and another thread asked for or was releasing. All others it calls as its parent
+ *     does. It may close each mutex and give back each seat. If other threads of the parent may have waited at a condition
+ *     variable or been in a call of it, the child sets it to zero before it calls it: it has none of these threads. The
+ *     child is one of fork: the library doesn't see those of _Fork, vfork and clone.
  *   - A proved call that opens a pool takes memory, so its proof excludes a child whose parent had other threads. The
  *     library takes it from the system, which such a child may ask. For lfm_seat_here malloc has to be usable there.
  *   - While a mutex is opened by lfm_mutex_new or closed, no other call of it begins. See lfm_mutex_close.
@@ -95,10 +97,10 @@ typedef enum lfm_status {
   LFM_NOBODY = 6,    /* no thread waited, so none was woken */
   LFM_TIMED_OUT = 7, /* the wait ended since its time was over; the seat holds the mutex */
 
-  LFM_BLANK = 16,        /* null, a mutex that is not open, or a seat that is not taken */
+  LFM_BLANK = 16,        /* null, a mutex that is neither open nor LFM_MUTEX_INIT, or a seat that is not taken */
   LFM_TAKEN = 17,        /* the mutex is open, or the seat taken, already */
   LFM_LIMIT = 18,        /* a number is outside its limits */
-  LFM_NO_MEMORY = 19,    /* memory was refused */
+  LFM_NO_MEMORY = 19,    /* memory was refused, or 16,776,704 mutexes are open */
   LFM_NO_SEAT = 20,      /* threads, seats and locks with a time limit have all 4,095 numbers */
   LFM_NOT_BACK = 21,     /* some seats are not given back */
   LFM_HOLDING = 22,      /* the seat holds the mutex, or for a close: some seat holds it or asks for it */
@@ -110,7 +112,8 @@ typedef enum lfm_status {
   LFM_NOT_OWNER = 33,    /* the seat doesn't hold the mutex */
   LFM_NESTED = 34,       /* the seat holds more than once, and a wait releases one hold alone */
   LFM_DEPTH_FULL = 35,   /* the seat holds 65,535 times already */
-  LFM_SPENT = 36,        /* the mutex has had 2^48 - 2^13 queued locks, or the seat 2^47 posts: after years */
+  /* the mutex has had 2^48 - 2^13 queued locks, or the number 2^47 posts, which at a million a second takes four years */
+  LFM_SPENT = 36,
   LFM_NO_SUCH_SEAT = 37, /* no seat has this number; no call of this header answers it */
   LFM_NOT_WAITING = 38,  /* the seat doesn't sleep; no call of this header answers it */
   /* at some moment of the call another seat held the mutex, asked for it or was releasing it; or a lock's time was over */
@@ -171,7 +174,7 @@ typedef struct LFM_CAPABILITY lfm_mutex {
 #define LFM_MUTEX_INIT_WITH(seats) {NULL, (seats), LFM_VERSION}
 #define LFM_MUTEX_INIT LFM_MUTEX_INIT_WITH(LFM_USUAL_SEATS)
 
-/* A handle of a mutex, of 256 bytes, for one thread at a time. It is aligned as memory of malloc is, and ends with bytes
+/* A seat of a mutex, of 256 bytes, for one thread at a time. It is aligned as memory of malloc is, and ends with bytes
  * that nothing uses, so that no two of them share a cache line wherever they lie. */
 typedef struct lfm_seat lfm_seat;
 #ifndef LFM_IN_LIBRARY /* which has the fields */
@@ -197,7 +200,8 @@ LFM_API const char *lfm_status_text(lfm_status status);
 /* Mutexes */
 
 /* Opens a mutex. `version` is LFM_VERSION. The number of seats is 1 to 4,095, and the budget 1 to LFM_MOST_TAKES; neither
- * limits anything. It takes a few atomic operations, unless a pool is opened.
+ * limits anything. It takes a few atomic operations, unless it opens a pool: then it may sleep while another thread opens
+ * one or forks.
  * Refused: LFM_BLANK (null), LFM_TAKEN, LFM_OTHER_HEADER, LFM_LIMIT, LFM_NO_MEMORY. */
 LFM_API lfm_status lfm_mutex_open(lfm_mutex *mutex, uint64_t seats, uint64_t budget, int version);
 /* The same for programs that have this header. */
@@ -208,7 +212,8 @@ static inline lfm_status lfm_mutex_new(lfm_mutex *mutex, uint64_t seats, uint64_
 /* Ends the mutex, which is zero then, also if it was LFM_MUTEX_INIT: a later call doesn't open it anew, and is refused as
  * LFM_BLANK. A thread may close it as soon as it has acquired it last and released it, though calls of others that released
  * it before have not returned yet, and then give back the memory of the lfm_mutex. It may also be closed during the last
- * lfm_seat_give, and then the memory of that lfm_seat may go too.
+ * lfm_seat_give, and then the memory of that lfm_seat may go too. A close may sleep while another thread opens a pool,
+ * takes a seat in one or forks.
  * Refused: LFM_BLANK, LFM_NOT_BACK if a seat of lfm_seat_take is not given back, LFM_HOLDING, also if a timed lock has left
  * its number queued. The last is not seen if the calling thread has no number and is refused one. */
 LFM_API lfm_status lfm_mutex_close(lfm_mutex *mutex);
@@ -219,15 +224,18 @@ LFM_API uint64_t lfm_takes_left(lfm_mutex *mutex);
 /* In a forked child, makes a mutex new that the thread which forked held, or that no seat held or asked for: that thread
  * holds it as often as before. `seat` is the seat by which it held, or null if it calls those that end in `here`. Other
  * seats in hand of the mutex are forgotten: an lfm_seat is set to zero before it is taken anew. What the library had of the
- * parent's mutex stays taken. In the process that opened the mutex it changes nothing.
- * Refused: LFM_BLANK, LFM_FOREIGN, LFM_NO_SEAT, LFM_NO_MEMORY, and LFM_BUSY if another seat held the mutex, asked for it or
- * was releasing it when the parent forked. */
+ * parent's mutex stays taken. In the process that opened the mutex it changes nothing. It may sleep while another thread
+ * opens a pool, takes a seat in one or forks.
+ * Refused: LFM_BLANK, LFM_FOREIGN, LFM_NO_MEMORY, LFM_NO_SEAT, and LFM_BUSY if the thread that forked did not hold the
+ * mutex, and another seat held it, asked for it or was releasing it. */
 LFM_NODISCARD lfm_status lfm_after_fork(lfm_mutex *mutex, lfm_seat *seat);
 
 /* Seats in hand */
 
-/* Takes a seat of the mutex, with a number of its own. It may sleep while another thread takes a number or opens a pool.
- * Refused: LFM_BLANK, LFM_TAKEN, LFM_NO_SEAT, LFM_NO_MEMORY, and as lfm_mutex_open if it opens the mutex. */
+/* Takes a seat of the mutex, with a number of its own. It may sleep while another thread opens a pool, takes a seat in one
+ * or forks.
+ * Refused: LFM_BLANK; if it opens the mutex, LFM_OTHER_HEADER, LFM_LIMIT, LFM_NO_MEMORY; LFM_TAKEN, LFM_NO_MEMORY and
+ * LFM_NO_SEAT. */
 LFM_API lfm_status lfm_seat_take(lfm_mutex *mutex, lfm_seat *seat);
 LFM_API lfm_status lfm_seat_take_checked(lfm_mutex *mutex, lfm_seat *seat);
 #ifdef LFM_CHECKED
@@ -236,8 +244,8 @@ LFM_API lfm_status lfm_seat_take_checked(lfm_mutex *mutex, lfm_seat *seat);
 
 /* Gives the seat back. A place that a timed lock of it has left in the queue is passed by in its turn. A seat of
  * lfm_seat_here is given back as by lfm_seat_give_here. It never sleeps.
- * Refused: LFM_BLANK, LFM_HOLDING, LFM_SEAT_ASLEEP, and LFM_FOREIGN of a seat that lfm_seat_here has answered another
- * thread. */
+ * Refused: LFM_BLANK, LFM_HOLDING, LFM_SEAT_ASLEEP. A seat of lfm_seat_here: LFM_BLANK, LFM_FOREIGN if it was answered
+ * another thread, LFM_HOLDING. */
 LFM_API lfm_status lfm_seat_give(lfm_seat *seat);
 
 /* The seat's number, 1 to 4,095, or 0 of a seat that is not taken. No two that are taken have the same, except those of
@@ -271,10 +279,12 @@ LFM_NODISCARD lfm_status lfm_try_lock(lfm_seat *seat);
  * such lock until it is given back or its thread ends.
  *
  * If the time is over while it is queued, that number alone stays queued. The seat's next lock, with a time limit or
- * without, waits from the same place, unless an unlock has passed it by, since its turn came first. Until then
- * lfm_mutex_close answers LFM_HOLDING. If its turn comes as the time ends, the call acquires the mutex.
- * Refused: as lfm_lock, LFM_LIMIT (no such clock, or not 0 to 999,999,999 nanoseconds in `time`), LFM_NO_SEAT, and LFM_BUSY,
- * which tells that the time is over. */
+ * without, waits from the same place, unless it acquires the mutex by a try. If the turn of the place comes first, an unlock
+ * passes it by. Until then lfm_mutex_close answers LFM_HOLDING. If its turn comes as the time ends, the call acquires the
+ * mutex.
+ * Refused: as lfm_lock, LFM_NO_SEAT if it has to queue, and LFM_BUSY, which tells that the time is over. Before all these
+ * lfm_try_lock_until is refused as LFM_BLANK if `time` is null, and as LFM_LIMIT if there is no such clock, or not 0 to
+ * 999,999,999 nanoseconds in `time`. */
 LFM_NODISCARD lfm_status lfm_try_lock_for(lfm_seat *seat, uint64_t nanoseconds);
 LFM_NODISCARD lfm_status lfm_try_lock_until(lfm_seat *seat, int clock, const struct timespec *time);
 
@@ -296,21 +306,24 @@ LFM_API lfm_status lfm_unlock(lfm_seat *seat);
 
 /* The calling thread's number as a seat of the mutex, or null if it is refused, with the cause. `cause` is not null, and it
  * is to be read only then. The seat ends by lfm_seat_give_here, when the thread closes the mutex, or with the thread. The
- * more such seats the thread has, the longer it takes to find one.
+ * more such seats the thread has, the longer it takes to find one. The call may sleep while another thread opens a pool,
+ * takes a seat in one or forks.
  *
  * A thread takes its number by its first call of a mutex, and gives it back when it ends, unless it holds then, or the
  * system had no thread-specific key left. Destructors of thread-specific data may call too. In them a seat of lfm_seat_here
  * ends with the thread's next call whose name ends in `here`, if that leaves it without a hold. Only a number that
- * lfm_seat_here takes in the last round of destructors, the fourth in glibc, is not given back. */
+ * lfm_seat_here takes in the last round of destructors, the fourth in glibc, is not given back.
+ * Refused: LFM_BLANK; if it opens the mutex, LFM_OTHER_HEADER, LFM_LIMIT, LFM_NO_MEMORY; if it takes the thread's number,
+ * LFM_NO_MEMORY, LFM_NO_SEAT; and LFM_NO_MEMORY. */
 LFM_API lfm_seat *lfm_seat_here(lfm_mutex *mutex, lfm_status *cause);
 
 /* Ends what lfm_seat_here has answered of this mutex. The thread keeps its number until it ends.
- * Refused: LFM_HOLDING, and LFM_BLANK, also if the thread has made no call. */
+ * Refused: LFM_BLANK, also if the thread has no seat in the mutex's pool, and LFM_HOLDING. */
 LFM_API lfm_status lfm_seat_give_here(lfm_mutex *mutex);
 
-/* The calls above by the calling thread. The first call of a thread, and its first in each pool, may sleep while another
- * thread takes a number or opens a pool.
- * Refused also: LFM_NO_SEAT, LFM_NO_MEMORY, and as lfm_mutex_open if it opens the mutex. */
+/* The calls above by the calling thread. The first call of a thread, its first in each pool, and the first of a mutex may
+ * sleep while another thread opens a pool, takes a seat in one or forks.
+ * Refused: as lfm_seat_here if it opens the mutex or takes the thread's number, and then as the call above. */
 LFM_NODISCARD lfm_status lfm_lock_here(lfm_mutex *mutex) LFM_ACQUIRES(*mutex);
 LFM_NODISCARD lfm_status lfm_lock_in_order_here(lfm_mutex *mutex) LFM_ACQUIRES(*mutex);
 LFM_NODISCARD lfm_status lfm_try_lock_here(lfm_mutex *mutex) LFM_TRIES(*mutex);
@@ -335,7 +348,7 @@ LFM_NODISCARD lfm_status lfm_wait(lfm_condvar *condvar, lfm_seat *seat);
 
 /* The same, but waits for at most this many nanoseconds, or until this time on this clock: LFM_DONE after a wake, or
  * LFM_TIMED_OUT.
- * Refused also: LFM_LIMIT, as lfm_try_lock_until. */
+ * Refused: as lfm_wait. Before that lfm_wait_until is refused for its time as lfm_try_lock_until. */
 LFM_NODISCARD lfm_status lfm_wait_for(lfm_condvar *condvar, lfm_seat *seat, uint64_t nanoseconds);
 LFM_NODISCARD lfm_status lfm_wait_until(lfm_condvar *condvar, lfm_seat *seat, int clock, const struct timespec *time);
 
@@ -362,7 +375,8 @@ LFM_API lfm_status lfm_wake_one(lfm_condvar *condvar);
 LFM_API lfm_status lfm_wake_all(lfm_condvar *condvar);
 /* The same by a thread with a seat in hand. If that seat holds, threads that wait without a time limit and for its mutex are
  * woken when it releases the mutex, as by lfm_wake_one of a holder without one. So they don't find it held. The unlock wakes
- * the first of them, at most four. Each that was woken so wakes at most two others, before it locks. */
+ * the first four of them, or two if it also grants the mutex. Each that was woken so wakes at most two others, before it
+ * locks. A thread that holds two mutexes puts off wakes for one of them, and makes those for the other at once. */
 LFM_API lfm_status lfm_wake_one_by(lfm_condvar *condvar, lfm_seat *seat);
 LFM_API lfm_status lfm_wake_all_by(lfm_condvar *condvar, lfm_seat *seat);
 

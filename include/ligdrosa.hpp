@@ -153,8 +153,8 @@ bool lock_until(Lock &lock, lfm_status (*call)(By *, int, const timespec *), By 
   return true;
 }
 
-// A mutex for any threads: up to 4,095 at a time in a process, with seats in hand and locks with a time limit. One more is
-// refused as LFM_NO_SEAT.
+// A mutex that any thread may lock. A process has 4,095 numbers. Each thread that calls a mutex takes one, and so does each
+// seat in hand and each lock with a time limit that queues. A call that finds none left is refused as LFM_NO_SEAT.
 //
 // A mutex of static storage is initialized before the program runs, and its destructor does nothing. So constructors and
 // destructors of globals may lock it, and so may threads that go on after main. Any other mutex may be destroyed by the thread
@@ -334,7 +334,8 @@ public:
   // The condition variable for calls of ligdrosa.h.
   lfm_condvar *native_handle() noexcept { return &raw; }
 
-  // Throws as lfm_wait refuses: LFM_NOT_OWNER, and LFM_NESTED if the lock is not the only hold.
+  // Throws as lfm_wait refuses: LFM_NOT_OWNER, LFM_NESTED if the lock is not the only hold, and LFM_SPENT. After LFM_SPENT the
+  // thread doesn't hold, so a program that goes on calls `release` of the lock.
   template <class Lock> void wait(std::unique_lock<Lock> &lock) { lfm::made(wait_by(lock.mutex()->native_handle())); }
   // Waits until the predicate is true.
   template <class Predicate, class Lock> void wait(std::unique_lock<Lock> &lock, Predicate predicate) {
@@ -372,7 +373,8 @@ public:
   bool notify_one() noexcept { return lfm_wake_one(&raw) == LFM_DONE; }
   bool notify_all() noexcept { return lfm_wake_all(&raw) == LFM_DONE; }
   // The same by a thread that holds by this seat. Threads that wait for its mutex without a time limit are woken when the
-  // seat releases it, so they don't find it held. notify_one and notify_all do so if the caller holds a recursive_mutex.
+  // seat releases it, so they don't find it held. notify_one and notify_all do so if the caller holds a recursive_mutex, unless
+  // they have put off such wakes for another one.
   bool notify_one_by(seat_lock &holder) noexcept { return lfm_wake_one_by(&raw, holder.native_handle()) == LFM_DONE; }
   bool notify_all_by(seat_lock &holder) noexcept { return lfm_wake_all_by(&raw, holder.native_handle()) == LFM_DONE; }
 };

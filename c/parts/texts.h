@@ -15,7 +15,7 @@ const char *lfm_status_text(lfm_status status) {
     case LFM_BLANK: return "null, a mutex that is neither open nor LFM_MUTEX_INIT, or a seat that is not taken";
     case LFM_TAKEN: return "the mutex is open, or the seat taken, already";
     case LFM_LIMIT: return "a number is outside its limits";
-    case LFM_NO_MEMORY: return "memory was refused";
+    case LFM_NO_MEMORY: return "memory was refused, or 16,776,704 mutexes are open";
     case LFM_NO_SEAT: return "threads, seats and locks with a time limit have all 4,095 numbers of the process";
     case LFM_NOT_BACK: return "some seats are not given back";
     case LFM_HOLDING: return "the mutex is held";
@@ -26,7 +26,7 @@ const char *lfm_status_text(lfm_status status) {
     case LFM_NOT_OWNER: return "the seat doesn't hold the mutex";
     case LFM_NESTED: return "the seat holds the mutex more than once";
     case LFM_DEPTH_FULL: return "the seat holds the mutex 65,535 times already";
-    case LFM_SPENT: return "the mutex has had 2^48 - 2^13 queued locks, or the seat 2^47 posts";
+    case LFM_SPENT: return "the mutex has had 2^48 - 2^13 queued locks, or the seat's number 2^47 posts";
     case LFM_NO_SUCH_SEAT: return "no seat has this number";
     case LFM_NOT_WAITING: return "the seat doesn't sleep";
     case LFM_BUSY: return "the mutex is busy";

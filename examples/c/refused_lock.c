@@ -30,7 +30,7 @@ static bool add(long number) {
 }
 
 /* Takes this number out as soon as the sum is that large: whether the calls were made. After a refused wait the thread holds
- * as before. */
+ * as before, unless the wait was refused as LFM_SPENT. Then the unlock is refused too. */
 static bool take(long number) {
   if (!lfm_acquire_here(&mutex)) return false;
   bool is_refused = false;

@@ -2,6 +2,8 @@
 use crate::{library::*, Guard};
 use std::{
     fmt,
+    io::{self, Write},
+    process,
     time::{Duration, Instant},
 };
 
@@ -44,6 +46,23 @@ impl WaitTimeoutResult {
     }
 }
 
+/// The status of a wait that was made, or why it was refused. A wait that is refused as `Spent` has released the mutex. Its
+/// guard would give the value without a hold, so the program ends.
+fn waited(status: u32) -> Result<u32, Refusal> {
+    let told = made(status);
+    if told == Err(Refusal::Spent) {
+        end_as_spent();
+    }
+    told
+}
+
+#[cold]
+fn end_as_spent() -> ! {
+    let text = "ligdrosa: a wait can't acquire its mutex again";
+    let _ = writeln!(io::stderr(), "{text}: {}", Refusal::Spent);
+    process::abort()
+}
+
 impl Condvar {
     /// A condition variable at which no thread waits.
     pub const fn new() -> Condvar {
@@ -51,9 +70,10 @@ impl Condvar {
     }
 
     /// Releases the mutex, waits until a wake, and acquires the mutex again: as `lock`, or as `lock_in_order` if the wake woke
-    /// several threads. Refused: `Nested` if the seat holds more than once, and `Spent`.
+    /// several threads. Refused: `Nested` if the seat holds more than once, and then the guard holds as before. If the lock is
+    /// refused as `Spent`, no guard holds any more, and the program ends with a text.
     pub fn wait<T: ?Sized, By: Lock>(&self, guard: &mut Guard<'_, T, By>) -> Result<(), Refusal> {
-        made(guard.by.wait(&self.0)).map(|_| ())
+        waited(guard.by.wait(&self.0)).map(|_| ())
     }
 
     /// Waits until the function is false. Refused: as `wait`.
@@ -74,7 +94,7 @@ impl Condvar {
         guard: &mut Guard<'_, T, By>,
         time: Duration,
     ) -> Result<WaitTimeoutResult, Refusal> {
-        let status = made(guard.by.wait_for(&self.0, nanoseconds(time)))?;
+        let status = waited(guard.by.wait_for(&self.0, nanoseconds(time)))?;
         Ok(WaitTimeoutResult(status == TIMED_OUT))
     }
 

@@ -18,8 +18,9 @@
 //! ```
 //!
 //! A forked child may drop what it has of its parent's mutexes, except for guards. It calls a mutex that its thread held as
-//! the parent forked only after [`Mutex::after_fork`], [`Seat::after_fork`] or [`Guard::after_fork`], and none that another
-//! thread held or asked for. It calls a condition variable after [`Condvar::after_fork`].
+//! the parent forked only after [`Mutex::after_fork`], [`Seat::after_fork`] or [`Guard::after_fork`]. It doesn't call one that
+//! another thread held, or that nobody held and another thread asked for or was releasing. It calls a condition variable after
+//! [`Condvar::after_fork`].
 
 #[cfg(not(all(target_os = "linux", target_pointer_width = "64")))]
 compile_error!("ligdrosa needs Linux with addresses of 64 bits");

@@ -19,13 +19,15 @@ pub const TIMED_OUT: u32 = 7;
 pub const BLANK: u32 = 16;
 pub const FOREIGN: u32 = 23;
 
-/// Why a call was refused. A refused call has changed nothing, unless its text names an effect.
+/// Why a call was refused. A refused call has changed nothing, unless its text names an effect; but it may have opened the
+/// mutex and taken the thread's number.
 #[derive(Clone, Copy, Debug, PartialEq, Eq, Hash)]
 #[non_exhaustive]
 pub enum Refusal {
     /// Not 1 to 4,095 seats, or not a budget of 1 to 2^36.
     Limit = 18,
-    /// Memory was refused to the library. If memory is refused to this crate, the program ends, as elsewhere in Rust.
+    /// Memory was refused to the library, or 16,776,704 mutexes are open. If memory is refused to this crate, the program ends,
+    /// as elsewhere in Rust.
     NoMemory = 19,
     /// Threads, seats in hand and locks with a time limit have all 4,095 numbers of the process.
     NoSeat = 20,
@@ -37,7 +39,8 @@ pub enum Refusal {
     Nested = 34,
     /// The seat holds 65,535 times already.
     DepthFull = 35,
-    /// The mutex has had 2^48 - 2^13 queued locks, or the seat 2^47 posts: after years.
+    /// The mutex has had 2^48 - 2^13 queued locks, or the seat's number 2^47 posts, which at a million a second takes four
+    /// years.
     Spent = 36,
     /// At some moment of the call another seat held the mutex, asked for it or was releasing it. For a call with a time limit,
     /// the time is over.

@@ -23,8 +23,9 @@ use std::{
 /// # assert_eq!(count(), Ok(1));
 /// ```
 ///
-/// Its first lock opens it, which may take memory, as may the first call of a thread. Any thread may call it: up to 4,095 at
-/// a time in a process, with seats in hand and locks with a time limit. One more is refused as [`NoSeat`](Refusal::NoSeat).
+/// Its first lock opens it, which may take memory, as may the first call of a thread. Any thread may call it. A process has
+/// 4,095 numbers. Each thread that calls a mutex takes one, and so does each seat in hand and each lock with a time limit that
+/// queues. A call that finds none left is refused as [`NoSeat`](Refusal::NoSeat).
 ///
 /// A thread that holds locks once more by its guard, with [`Guard::again`]: the guard of the deeper hold borrows the first. Any
 /// other [`lock`](Mutex::lock) or try by that thread is refused as [`Holding`](Refusal::Holding). A guard gives `&mut T`, so a
@@ -106,8 +107,8 @@ impl<T: ?Sized> Mutex<T> {
 
     /// Acquires the mutex. It first tries a bounded number of times, between pauses and naps, and so may acquire before threads
     /// that called earlier. Then it queues and sleeps, and no thread that queues later is served before it.
-    /// Refused: `Holding`, or `DepthFull` if the thread holds 65,535 times, and `Spent`. The first call of a thread or of
-    /// the mutex is also refused as `NoSeat`, `NoMemory`, `Limit` and `OtherHeader`.
+    /// Refused: the first call of the mutex as `OtherHeader`, `Limit` or `NoMemory`, and the first one of a thread as `NoMemory`
+    /// or `NoSeat`; then `DepthFull` if the thread holds 65,535 times, `Spent`, and `Holding` if it holds.
     #[inline]
     pub fn lock(&self) -> Result<MutexGuard<'_, T>, Refusal> {
         self.guard(self.raw.0.lock())
@@ -147,11 +148,11 @@ impl<T: ?Sized> Mutex<T> {
     }
 
     /// In a forked child, makes the mutex new if the thread that forked held it without a [`Seat`](crate::Seat), or if no
-    /// thread held it: then the call isn't needed. That thread holds it as often as before, and its guards stay valid. If it
+    /// thread held it or asked for it: then the call isn't needed. That thread holds it as often as before, and its guards stay valid. If it
     /// held by a seat, it calls [`Guard::after_fork`] instead. In the process that opened the mutex the call does nothing.
     ///
-    /// Refused: `NoMemory`, `NoSeat`, and `Busy` if another thread held the mutex, asked for it or was releasing it when the
-    /// parent forked.
+    /// Refused: `NoMemory`, `NoSeat`, and `Busy` if the thread that forked did not hold the mutex, and another one held it,
+    /// asked for it or was releasing it.
     ///
     /// # Safety
     ///

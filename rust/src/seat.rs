@@ -19,7 +19,7 @@ use std::{
 /// share(ligdrosa::mutex(1, 1, ()).unwrap());
 /// ```
 pub struct Seat<T: ?Sized> {
-    /// A box, since the library refers to the seat.
+    /// A box, since ligdrosa.h promises nothing of a taken seat that is moved.
     raw: NonNull<RawSeat>,
     mutex: Arc<Mutex<T>>,
 }
@@ -28,7 +28,7 @@ pub struct Seat<T: ?Sized> {
 unsafe impl<T: ?Sized + Send> Send for Seat<T> {}
 
 /// Makes a mutex that guards the value, and returns this many seats, 1 to 4,095. [`Mutex::seat`] takes more. The budget is 1 to
-/// 2^36, and limits nothing. Refused: `Limit`, `NoSeat`, `NoMemory`, `OtherHeader`.
+/// 2^36, and limits nothing. Refused: `OtherHeader`, `Limit`, `NoMemory`, `NoSeat`.
 pub fn mutex<T: Send>(seats: usize, budget: u64, value: T) -> Result<Vec<Seat<T>>, Refusal> {
     let mutex = Arc::new(Mutex::new(value));
     // SAFETY: there is no other reference to the mutex.
@@ -38,7 +38,7 @@ pub fn mutex<T: Send>(seats: usize, budget: u64, value: T) -> Result<Vec<Seat<T>
 
 impl<T: ?Sized> Mutex<T> {
     /// Takes a seat in hand. If a thread holds by it and locks by the mutex, it waits for itself, since the seat is not the
-    /// thread. Refused: `NoSeat`, `NoMemory`, and `Limit` and `OtherHeader` if the call opens the mutex.
+    /// thread. Refused: `OtherHeader`, `Limit` and `NoMemory` if the call opens the mutex, and then `NoMemory` and `NoSeat`.
     pub fn seat(self: &Arc<Mutex<T>>) -> Result<Seat<T>, Refusal> {
         let seat = Seat {
             raw: NonNull::from(Box::leak(Box::default())),
@@ -79,7 +79,7 @@ impl<T: ?Sized> Seat<T> {
         lfm_left(self.raw())
     }
 
-    /// Acquires the mutex as [`Mutex::lock`]. Refused: `Spent`, and `DepthFull` if guards were forgotten.
+    /// Acquires the mutex as [`Mutex::lock`]. Refused: `DepthFull` if guards were forgotten, and `Spent`.
     #[inline]
     pub fn lock(&mut self) -> Result<Guard<'_, T>, Refusal> {
         self.guard(self.raw().lock())
@@ -107,8 +107,8 @@ impl<T: ?Sized> Seat<T> {
         self.try_lock_for(end.saturating_duration_since(Instant::now()))
     }
 
-    /// In a forked child, makes the mutex new as [`Mutex::after_fork`] does, if no thread held it when the parent forked, or if
-    /// this seat held it and its guard was forgotten. If the mutex is new already, by an `after_fork` of the mutex, a guard or
+    /// In a forked child, makes the mutex new as [`Mutex::after_fork`] does, if no thread held it or asked for it when the parent
+    /// forked, or if this seat held it and its guard was forgotten. If the mutex is new already, by an `after_fork` of the mutex, a guard or
     /// another seat, this seat is taken anew, and gets another number.
     ///
     /// Refused: as [`Mutex::after_fork`]. After `NoSeat` other calls of this seat are refused as `Other`.
@@ -123,7 +123,7 @@ impl<T: ?Sized> Seat<T> {
         if status != FOREIGN && status != BLANK {
             return made(status).map(drop);
         }
-        // SAFETY: the mutex is new and doesn't refer to the seat. It is not moved, and is given back when it is dropped.
+        // SAFETY: the library has forgotten the seat. It is not moved, and is given back when it is dropped.
         made(unsafe {
             self.raw.write(RawSeat::default());
             lfm_seat_take(mutex, self.raw.as_ref())
@@ -134,7 +134,7 @@ impl<T: ?Sized> Seat<T> {
 
 impl<T: ?Sized> Drop for Seat<T> {
     fn drop(&mut self) {
-        // Otherwise the library still refers to the seat. `BLANK` is the answer for a seat that was never taken.
+        // A seat that holds stays taken, and its memory is leaked with it. A seat that was never taken answers `BLANK`.
         if matches!(lfm_seat_give(self.raw()), DONE | BLANK) {
             // SAFETY: the library has no reference to the seat, and this was the last one.
             drop(unsafe { Box::from_raw(self.raw.as_ptr()) });

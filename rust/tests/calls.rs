@@ -4,7 +4,9 @@ use ligdrosa::{mutex, Condvar, Mutex, Refusal, Seat};
 use std::{
     alloc::{GlobalAlloc, Layout, System},
     cell::{Cell, RefCell},
-    mem,
+    env, mem,
+    os::unix::process::ExitStatusExt,
+    process::Command,
     sync::Arc,
     time::{Duration, Instant},
 };
@@ -222,7 +224,7 @@ fn seats_lie_still() {
     assert_eq!(calls, ["lfm_seat_give", "lfm_mutex_close"]);
 }
 
-/// The library still refers to a seat that it doesn't take back.
+/// The memory of a seat that stays taken is kept.
 #[test]
 fn a_seat_that_is_not_given_back_is_kept() {
     for (status, freed) in [(HOLDING, 0), (SEAT_ASLEEP, 0), (255, 0), (BLANK, 1), (0, 1)] {
@@ -338,6 +340,33 @@ fn what_waits_and_wakes_tell() {
             while_it_answers("lfm_wake_all", status, || condvar.notify_all()),
             anybody
         );
+    }
+}
+
+/// After a wait that is refused as spent the guard holds no more, so the program ends. The test runs itself as a program that
+/// makes this wait.
+#[test]
+fn a_wait_that_does_not_acquire_again() {
+    const WAIT: &str = "LIGDROSA_TEST_WAIT";
+    const ABORTED: i32 = 6;
+    if let Some(is_timed) = env::var_os(WAIT).map(|wait| wait == "timed") {
+        let (mutex, condvar) = (Mutex::new(()), Condvar::new());
+        let mut guard = mutex.lock().unwrap();
+        let told = if is_timed {
+            let waits = || condvar.wait_timeout(&mut guard, Duration::ZERO).err();
+            while_it_answers("lfm_wait_for_here", SPENT, waits)
+        } else {
+            while_it_answers("lfm_wait_here", SPENT, || condvar.wait(&mut guard).err())
+        };
+        panic!("the wait returned: {told:?}");
+    }
+    for wait in ["untimed", "timed"] {
+        let mut program = Command::new(env::current_exe().unwrap());
+        program.args(["--exact", "a_wait_that_does_not_acquire_again"]);
+        let ended = program.arg("--nocapture").env(WAIT, wait).output().unwrap();
+        assert_eq!(ended.status.signal(), Some(ABORTED));
+        let text = String::from_utf8(ended.stderr).unwrap();
+        assert!(text.contains("a wait can't acquire its mutex again"));
     }
 }
 

@@ -8,8 +8,8 @@ use std::{
 
 /// A condition variable for any [`Mutex`](crate::Mutex), as parking_lot's, by a [`ligdrosa::Condvar`]. A wait returns only
 /// after a wake or when its time is over, but another thread may hold the mutex in between, so wait in a loop, as
-/// `wait_while` does. A wait that is refused panics, and then the thread holds as before.
-/// [`ReentrantMutex`](crate::ReentrantMutex) has no waits.
+/// `wait_while` does. A wait that is refused panics, and then the thread holds as before. If the mutex can't be acquired again,
+/// the program ends, as [`ligdrosa::Condvar::wait`] says. [`ReentrantMutex`](crate::ReentrantMutex) has no waits.
 ///
 /// ```
 /// use ligdrosa_lock_api::{Condvar, Mutex};

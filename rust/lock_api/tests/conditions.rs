@@ -1,8 +1,6 @@
-//! Waits with the guards of lock_api's mutexes, and a mutex whose seats are all taken.
+//! Waits with the guards of lock_api's mutexes.
 use ligdrosa_lock_api::{Condvar, Mutex};
 use std::{
-    panic::{catch_unwind, AssertUnwindSafe},
-    sync::Barrier,
     thread,
     time::{Duration, Instant},
 };
@@ -49,30 +47,4 @@ fn waits_with_a_time_limit() {
     });
     drop(guard);
     assert!(!is_set.is_locked());
-}
-
-#[test]
-fn a_thread_that_finds_no_seat() {
-    const SEATS: usize = 64;
-    let (mutex, barrier) = (Mutex::new(7), Barrier::new(SEATS + 1));
-    let told = thread::scope(|scope| {
-        for _ in 0..SEATS {
-            scope.spawn(|| {
-                drop(mutex.lock());
-                barrier.wait();
-                barrier.wait();
-            });
-        }
-        barrier.wait();
-        let told = catch_unwind(AssertUnwindSafe(|| {
-            let shown = format!("{mutex:?}");
-            (mutex.try_lock().is_none(), mutex.is_locked(), shown)
-        }));
-        let locked = catch_unwind(AssertUnwindSafe(|| drop(mutex.lock())));
-        barrier.wait();
-        assert!(locked.is_err());
-        told.unwrap()
-    });
-    assert_eq!(told, (true, true, "Mutex { data: <locked> }".into()));
-    assert_eq!(format!("{mutex:?}"), "Mutex { data: 7 }");
 }

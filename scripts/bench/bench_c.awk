@@ -1,7 +1,7 @@
 # Makes the tables of scripts/bench/bench_c from the lines of its programs, ROW|LOCK|MEDIAN|LEAST|GREATEST. It needs
 # scripts/bench/situations.awk. `form` is
 #   table    for all rows a column for each lock, with the medians, and after most of them the ratio to its base
-#   page     the ratios of some rows, as a table of docs/BENCHMARKS.md, the greatest of ours first
+#   page     our ratios of some rows, as a table of docs/BENCHMARKS.md, the greatest first
 #   rows     the ratios of all rows, as parts of docs/benchmarks.rows
 
 # Adds the column of a lock; `base` is the lock that it is compared with, if it is.
@@ -91,6 +91,11 @@ function sort_rows(order,    row, j, lock, value, worst, lines) {
   return lines
 }
 
+# The ratio, or a dash if there is none.
+function cell(row, lock) {
+  return ratio(row, lock) == "" ? "–" : ratio(row, lock)
+}
+
 # The table of a page.
 function page(    at, i, line, lines, order) {
   lines = sort_rows(order)
@@ -98,7 +103,7 @@ function page(    at, i, line, lines, order) {
     if (i && !(order[i] in is_of_page)) continue
     line = i ? "| " situation(order[i]) : "|"
     for (at = 1; at <= count; at++)
-      if (locks[at] in found && bases[locks[at]]) line = line " | " (i ? ratio(order[i], locks[at]) : headings[locks[at]])
+      if (locks[at] in found && locks[at] in ours) line = line " | " (i ? cell(order[i], locks[at]) : headings[locks[at]])
     print line " |"
     if (i == 0) print rule(line)
   }

@@ -293,7 +293,7 @@ function faultOf(graph, node) {
   // a sleeper is named when all calls have ended: until then a reader looks to those that are open for help
   const isOver = seats.every(({ point }) => !point.includes(':'));
   const asleep = isOver ? seats.findIndex((seat, i) => sleepsForEver(graph, node, i + 1)) + 1 : 0;
-  return asleep === 0 ? '' : `Seat ${asleep} sleeps for ever: whatever the seats do from here, it gets no grant.`;
+  return asleep === 0 ? '' : `Seat ${asleep} sleeps for ever: no call that a seat may still begin here gives it a grant.`;
 }
 
 // ---- the queue in memory: which of the queued records are where

@@ -160,7 +160,7 @@ function choose(seat, act) {
 function load(graph, schedule, moment) {
   const { path, fault } = follow(graph, schedule);
   Object.assign(view, { graph, path });
-  $('fault').textContent = fault ? `line ${fault} leads out of this graph` : '';
+  $('fault').textContent = fault ? `line ${fault} of the schedule can't come here, or leads to a state that this page doesn't hold` : '';
   goTo(moment ?? path.length);
 }
 
@@ -274,10 +274,13 @@ function pressKey(event) {
   event.preventDefault();
 }
 
+const isStep = act => act === '.' || act === '*';
+
 function click(event) {
   const find = selector => event.target.closest(selector)?.dataset;
   const button = find('button[data-act]'), task = find('[data-task]'), row = find('[data-moment]');
-  if (button) choose(Number(button.seat), button.act);
+  // the second click of two may be meant for a step that the first one has made: it begins no call
+  if (button && (event.detail < 2 || isStep(button.act))) choose(Number(button.seat), button.act);
   else if (task) startTask(Number(task.task));
   else if (row) goTo(Number(row.moment));
   else if (event.target.closest('#hint')) showTheTask();

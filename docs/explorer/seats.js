@@ -42,13 +42,13 @@ function refusedText(sentences, refusals, seat) {
 
 // the sentences of a seat that rests or sleeps: what it may begin, and what its checks refuse
 function idleText(view, sentences, { moves, refusals }, { depth, point }, seat) {
-  if (view.graph.kind === 'path') return moves.length ? '' : '<p class="next">It does nothing next in this schedule.</p>';
+  if (view.graph.kind === 'path') return moves.length ? '' : '<p class="next">It makes no further step in this schedule.</p>';
   const only = moves.map(({ act }) => act).join(' or '), isAsleep = point.startsWith('sleeps');
   const rest = moves.length === 0 ? 'It can begin no call here.'
     : isAsleep ? `It sleeps, and may only call ${only}, which looks for a grant.` : 'Choose the call that it begins.';
   const isLeftOut = depth > 0 && ![...moves, ...refusals].some(({ act }) => act === 'lock');
   return `<p class="next">${rest}</p>${refusedText(sentences, refusals, seat)}`
-    + (isLeftOut ? '<p class="next">Left out here: a lock by a seat that holds already.</p>' : '');
+    + (isLeftOut ? '<p class="next">This page leaves out a lock by a seat that already holds.</p>' : '');
 }
 
 function buttonsOf(choice, seat, isOpen) {

@@ -14,11 +14,20 @@ function taskTexts(view, tasks) {
   if (view.task === null) return [];
   const number = tasks.indexOf(view.task) + 1, stands = taskStands(view);
   const again = `<button data-task="${number - 1}">again</button>`;
-  const next = number < tasks.length ? ` <button id="following" data-task="${number}">next task<kbd>n</kbd></button>` : '';
+  const next = number < tasks.length ? ` <button id="following" data-task="${number}">next task<kbd>n</kbd></button>`
+    : ' That was the last task.';
   const text = `<b>Task ${number}.</b> ${escape(view.task.text)}`, seen = escape(view.task.seen);
-  if (stands === 'open') return [`${text} ${again}<button id="hint">show me</button>`];
+  if (stands === 'open') return [`${text} ${again}<button id="hint">show me</button>`, ...lostTexts(view)];
   if (stands === 'done') return [text, `<span class="done"><b>✓ Done.</b> ${seen}</span>${next}`];
   return [text, `<b>Shown.</b> ${seen} To do it yourself, press ${again}${next}`];
+}
+
+// says so if more events lead from this moment to the end of the task than from its start
+function lostTexts({ graph, task, path, given, at }) {
+  const eventsFrom = moment => wayTo(graph, endOf(path.slice(0, moment)), event => isGoal(graph, task.goal, event)).length || Infinity;
+  const isLost = at > given && eventsFrom(at) > eventsFrom(given);
+  const lost = 'Here you are farther from the end of this task than at its start: press <b>again</b>, or go back.';
+  return isLost ? [`<span class="fault">${lost}</span>`] : [];
 }
 
 // what has just happened, in sentences
@@ -27,7 +36,7 @@ function eventTexts(event, sentences) {
   const texts = [], name = nameOf(event.step);
   if (event.act !== '.') {
     const what = event.turn === 'begins' ? sentences.begins.does : 'its checks answer at once.';
-    texts.push(`<b>${escape(event.seat + ' ' + shownAct(event.act))}</b>: ${what}`);
+    texts.push(`<b>Seat ${event.seat}, ${escape(shownAct(event.act))}</b>: ${what}`);
   } else {
     const raw = `<code class="soft">${escape(event.step.slice(name.length + 2))}</code>`;
     const does = withStop(sentence(sentences, name, event.seat).does);
@@ -51,7 +60,7 @@ function wrongTexts(graph, node) {
   const fault = faultOf(graph, node);
   const said = 'This mutex has a fault on purpose, to show what a step is for. The right mutex does not have it.';
   return [`<span class="fault">${said}</span>`,
-    ...(fault ? [`<b class="fault">A fault: ${fault}</b>`] : [])];
+    ...(fault ? [`<b class="fault">Here is the fault. ${fault}</b>`] : [])];
 }
 
 // who has the responsibility. The place that a trace names is right in the right mutex alone
@@ -64,9 +73,10 @@ function placeTexts(state, sentences) {
 }
 
 // how to go on, if more events of the path follow
-function onwardTexts({ path, at }) {
+function onwardTexts({ graph, path, at }) {
   if (at === path.length) return [];
-  return ['<span class="soft">More events follow: <b>on ▶</b> shows the next one. A choice at a seat drops them.</span>'];
+  const drops = graph.kind === 'path' ? '' : ' A choice at a seat drops them.';
+  return [`<span class="soft">More events follow: <b>on ▶</b> shows the next one.${drops}</span>`];
 }
 
 // all of it, each part as a text of its own

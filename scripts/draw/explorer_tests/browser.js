@@ -78,8 +78,8 @@ class Browser {
     return result.value;
   }
 
-  // a click of the mouse in the middle of the element that the selector finds
-  async click(selector) {
+  // a click of the mouse in the middle of the element that the selector finds, or the second one of a double click
+  async click(selector, clickCount = 1) {
     const place = await this.run(`(() => {
       const element = document.querySelector(${JSON.stringify(selector)});
       element?.scrollIntoView({ block: 'nearest' });
@@ -88,7 +88,7 @@ class Browser {
     })()`);
     if (!place) throw new Error('nothing to click: ' + selector);
     for (const type of ['mousePressed', 'mouseReleased']) {
-      await this.send('Input.dispatchMouseEvent', { type, ...place, button: 'left', clickCount: 1 });
+      await this.send('Input.dispatchMouseEvent', { type, ...place, button: 'left', clickCount });
     }
   }
 
@@ -108,8 +108,20 @@ class Browser {
   async close() {
     const ended = new Promise(end => this.child.on('exit', end));
     await this.send('Browser.close').catch(() => {});
-    await Promise.race([ended, pause(3000)]);
-    fs.rmSync(this.folder, { recursive: true, force: true, maxRetries: 5 });
+    await Promise.race([ended, pause(10000)]);
+    this.child.kill('SIGKILL');
+    await this.removeFolder();
+  }
+
+  // the browser's helpers may still write into it for a moment, longer on a busy machine
+  async removeFolder() {
+    for (let i = 0; i < 100; i++) {
+      try {
+        return fs.rmSync(this.folder, { recursive: true, force: true });
+      } catch {
+        await pause(100);
+      }
+    }
   }
 }
 

@@ -104,6 +104,33 @@ test('a task is not done by a way that the page shows', async () => {
   assert.match(await text('story'), /Done\./);
 });
 
+test('a choice that leads away from the end of a task says so', async () => {
+  const isLost = async () => /farther from the end/.test(await text('story'));
+  const posts = await browser.run(`tasks.findIndex(({ goal }) => goal === '^ends Posted$')`);
+  await browser.run(`startTask(${posts})`);
+  assert(!await isLost());
+  await browser.run(`choose(1, 'unlock')`);
+  assert(!await isLost());
+  await browser.run(`choose(2, '*')`);
+  assert(await isLost());
+  await browser.run('goTo(view.given)');
+  assert(!await isLost());
+  await browser.run(`startTask(${posts}); choose(1, 'unlock'); choose(1, '*')`);
+  assert.match(await text('story'), /Done\./);
+  assert(!await isLost());
+});
+
+test('the second click of two makes a step, and begins no call', async () => {
+  await browser.run(`startFree(); choose(1, 'lock'); choose(1, '.')`);
+  const last = 'button[data-seat="1"][data-act="."]', next = 'button[data-seat="1"][data-act="unlock"]';
+  await browser.click(last, 2);
+  assert.match(await text('story'), /ends Held Free/);
+  await browser.click(next, 2);
+  assert.match(await text('story'), /ends Held Free/);
+  await browser.click(next);
+  assert.match(await text('story'), /Seat 1, unlock: The call has begun/);
+});
+
 // writes a schedule into its field, as an edit that the focus has left
 const writeSchedule = lines => browser.run(`(() => {
   const schedule = document.getElementById('schedule');
@@ -127,9 +154,9 @@ test('a fault is named, and its task done, when all calls have ended', async () 
   await browser.run(`startTask(tasks.findIndex(({ graph }) => graph.name === 'without_recheck'))`);
   for (const act of ['1 .', '1 .', '1 .', '2 *']) await browser.run(`choose(${act[0]}, '${act[2]}')`);
   assert.match(await text('story'), /ends Asleep/);
-  assert(!/Done|A fault:/.test(await text('story')));
+  assert(!/Done|Here is the fault/.test(await text('story')));
   await browser.run(`choose(1, '.')`);
-  assert.match(await text('story'), /Done\..*A fault: Seat 2 sleeps for ever/);
+  assert.match(await text('story'), /Done\..*Here is the fault\. Seat 2 sleeps for ever/);
 });
 
 test('a choice in the past drops what came after it', async () => {
@@ -210,10 +237,10 @@ test('a wrong mutex says so, and names its fault', async () => {
   for (const task of page.tasks.filter(({ goal }) => goal === 'fault')) {
     await browser.run(`startTask(tasks.findIndex(({ text }) => text === ${JSON.stringify(task.text)}))`);
     assert.match(await text('story'), /This mutex has a fault on purpose/);
-    assert(!/A fault:/.test(await text('story')));
+    assert(!/Here is the fault/.test(await text('story')));
     const [name, given] = await browser.run('[view.graph.name, view.given]');
     await browser.run(WALK_THE_WAY);
-    assert.match(await text('story'), /A fault: Seat/);
+    assert.match(await text('story'), /Here is the fault\. Seat/);
     await browser.click('#anew');
     assert.deepStrictEqual(await browser.run('[view.graph.name, view.path.length]'), [name, given]);
     await browser.click('#anew');
@@ -310,7 +337,7 @@ test('an address that is typed in a task ends the task', async () => {
 test('an address that names nothing opens the free mutex, and the line that leads nowhere is named', async () => {
   for (const [hash, fault] of [['#%', ''], ['#seats 9', 'line 1'], ['#nothing;1 lock;1 lock', 'line 3']]) {
     await browser.open(address(pageFile) + hash);
-    assert.strictEqual((await text('fault')).split(' leads')[0], fault);
+    assert.strictEqual((await text('fault')).split(' of the schedule')[0], fault);
     assert.match(await text('trace'), /^1 seats 2 \| 0 0 0 free -/);
   }
 });

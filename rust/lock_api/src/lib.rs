@@ -19,16 +19,22 @@ use ligdrosa::Refusal;
 pub use ligdrosa::WaitTimeoutResult;
 use lock_api::{GetThreadId, GuardNoSend, RawMutexTimed};
 use std::{
+    io::{self, Write},
     mem,
     num::NonZeroUsize,
-    ptr,
+    process, ptr,
     time::{Duration, Instant},
 };
 
-/// A [`ligdrosa::Mutex`] without a value, whose guards are forgotten. A lock that is refused panics, also by a thread that
-/// holds. A `try_lock` that is refused is false, for whatever cause: then `is_locked` is true and `Debug` shows the mutex as
-/// locked. A try with a time limit is false if the time is over, or at once if the thread holds. If it is refused for another
-/// cause, it panics.
+/// A [`ligdrosa::Mutex`] without a value, whose guards are forgotten.
+///
+/// A lock that is refused ends the program with a text, for whatever cause. So does a lock by a thread that holds, and thus the
+/// end of [`unlocked`](lock_api::MutexGuard::unlocked) if its function has kept or forgotten another guard of the mutex. A lock
+/// doesn't panic, since a panic at that end could be caught: then the guard would live on without a hold.
+///
+/// A `try_lock` that is refused is false, for whatever cause: then `is_locked` is true and `Debug` shows the mutex as locked. A
+/// try with a time limit is false if the time is over, or at once if the thread holds. If it is refused for another cause, it
+/// panics, and holds are as before.
 pub struct RawMutex(ligdrosa::Mutex<()>);
 
 /// A mutex like parking_lot's.
@@ -43,7 +49,18 @@ fn panic_as_refused(refusal: Refusal) -> ! {
     panic!("ligdrosa refuses a call: {refusal}")
 }
 
-/// Whether a call acquired the mutex.
+/// Ends the program, since `lock` of lock_api's trait can't answer that it was refused.
+#[cold]
+fn end_as_refused(refusal: Refusal) -> ! {
+    let call = match refusal {
+        Refusal::Holding => "a thread locks a mutex that it holds already",
+        _ => "a lock that may not fail is refused",
+    };
+    let _ = writeln!(io::stderr(), "ligdrosa: {call}: {refusal}");
+    process::abort()
+}
+
+/// Whether a try with a time limit acquired the mutex.
 fn has_acquired(call: Result<ligdrosa::MutexGuard<'_, ()>, Refusal>) -> bool {
     match call.map(mem::forget) {
         Ok(()) => true,
@@ -52,17 +69,17 @@ fn has_acquired(call: Result<ligdrosa::MutexGuard<'_, ()>, Refusal>) -> bool {
     }
 }
 
-// SAFETY: a ligdrosa mutex has one holder at a time, and its guards stay with their threads.
+// SAFETY: a ligdrosa mutex has one holder at a time, and its guards stay with their threads. `lock` never unwinds: lock_api
+// calls it while a guard lives that has given up its hold, and that guard must hold again or be gone.
 unsafe impl lock_api::RawMutex for RawMutex {
     type GuardMarker = GuardNoSend;
     #[allow(clippy::declare_interior_mutable_const)] // each use is another mutex, as lock_api requires
     const INIT: RawMutex = RawMutex(ligdrosa::Mutex::new(()));
 
     fn lock(&self) {
-        assert!(
-            has_acquired(self.0.lock()),
-            "the thread holds the mutex already"
-        );
+        if let Err(refusal) = self.0.lock().map(mem::forget) {
+            end_as_refused(refusal);
+        }
     }
 
     fn try_lock(&self) -> bool {
@@ -75,7 +92,7 @@ unsafe impl lock_api::RawMutex for RawMutex {
     }
 }
 
-// SAFETY: as for `RawMutex`.
+// SAFETY: as for `RawMutex`. A try may unwind: then it has acquired nothing, and lock_api makes it only for a guard to come.
 unsafe impl RawMutexTimed for RawMutex {
     type Duration = Duration;
     type Instant = Instant;

@@ -4,6 +4,7 @@ use std::{
     iter,
     panic::{catch_unwind, AssertUnwindSafe},
     sync::Arc,
+    time::Duration,
 };
 
 #[test]
@@ -13,7 +14,8 @@ fn a_thread_that_finds_no_number() {
     assert_eq!(seats.len(), 4_095);
     assert!(mutex.try_lock().is_none() && mutex.is_locked());
     assert_eq!(format!("{mutex:?}"), "Mutex { data: <locked> }");
-    assert!(catch_unwind(AssertUnwindSafe(|| drop(mutex.lock()))).is_err());
+    let tries = AssertUnwindSafe(|| drop(mutex.try_lock_for(Duration::ZERO)));
+    assert!(catch_unwind(tries).is_err());
     drop(seats);
     assert_eq!(format!("{mutex:?}"), "Mutex { data: 7 }");
 }

@@ -1,6 +1,11 @@
 //! Threads count by lock_api's mutexes over this raw mutex.
-use ligdrosa_lock_api::{Mutex, ReentrantMutex};
-use std::{cell::Cell, panic::catch_unwind, thread, time::Duration};
+use ligdrosa_lock_api::{Mutex, MutexGuard, ReentrantMutex};
+use std::{
+    cell::Cell,
+    panic::{catch_unwind, AssertUnwindSafe},
+    thread,
+    time::Duration,
+};
 
 #[test]
 fn threads_count() {
@@ -24,9 +29,32 @@ fn a_mutex_that_is_held() {
     static HELD: Mutex<()> = Mutex::const_new(lock_api::RawMutex::INIT, ());
     let guard = HELD.lock();
     assert!(HELD.is_locked() && HELD.try_lock().is_none());
-    assert!(catch_unwind(|| drop(HELD.lock())).is_err());
+    assert!(HELD.try_lock_for(Duration::MAX).is_none());
     let times_out = || HELD.try_lock_for(Duration::from_millis(1)).is_none();
     assert!(thread::spawn(times_out).join().unwrap());
     drop(guard);
     assert!(!HELD.is_locked());
+}
+
+/// The guard holds again after the function, even if that panics.
+#[test]
+fn a_mutex_that_is_unlocked_meanwhile() {
+    let mutex = Mutex::new(0);
+    let mut guard = mutex.lock();
+    let adds = || *mutex.lock() += 1;
+    MutexGuard::unlocked(&mut guard, adds);
+    let told = catch_unwind(AssertUnwindSafe(|| {
+        MutexGuard::unlocked(&mut guard, || {
+            adds();
+            panic!("meanwhile");
+        })
+    }));
+    assert!(told.is_err() && mutex.is_locked());
+    assert!(thread::scope(|scope| scope
+        .spawn(|| mutex.try_lock().is_none())
+        .join()
+        .unwrap()));
+    assert_eq!(*guard, 2);
+    drop(guard);
+    assert!(!mutex.is_locked());
 }

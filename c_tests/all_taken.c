@@ -1,14 +1,14 @@
 /* All 4,095 numbers of a process are taken, by threads and by seats in hand. Whoever comes next is refused as LFM_NO_SEAT: a
- * thread, a seat in hand, and a lock with a time limit that has to queue and has no deputy yet. Those that have a number go on.
- * After one has ended or was given back, the next gets its number. A thread without a number closes a mutex of whose holders it
- * sees nothing: then no other mutex gets the number of that.
+ * thread, and a seat in hand. Those that have a number go on, also by a lock with a time limit that gets no deputy. After one has
+ * ended or was given back, the next gets its number. A thread without a number closes a mutex of whose holders it sees nothing:
+ * then no other mutex gets the number of that. Threads whose timed locks end leave at most half of the numbers in a queue.
  *
  * The test has the C file of the library in it. */
 #include "../c/ligdrosa.c"
 #include "expect.h"
 
 enum { THREADS = 50, SEATS = MOST_PARTICIPANTS - THREADS - 1 };
-static const uint64_t LIMIT = 60000000000;
+static const uint64_t LIMIT = 60000000000, SHORT = 3000000, SHORTEST = 50000;
 static lfm_mutex mutex = LFM_MUTEX_INIT, of_seats, unseen = LFM_MUTEX_INIT;
 static lfm_seat seats[SEATS], next;
 static int arrived, may_end;
@@ -62,17 +62,25 @@ static void in_a_thread(void *(*run)(void *)) {
   EXPECT(pthread_join(thread, NULL), 0);
 }
 
-/* Those that have a number lock as before. A deputy would be one more. */
+static void *unlock_later(void *at) {
+  nap_for(10 * LONG_NAP);
+  EXPECT(lfm_unlock((lfm_seat *)at), LFM_DONE);
+  return NULL;
+}
+
+/* Those that have a number lock as before. A deputy would be one more: without it a timed lock tries. */
 static void those_that_have_one(void) {
   count_once();
   for (int i = 0; i < SEATS; i += SEATS / 7) {
     EXPECT(lfm_lock(&seats[i]), LFM_DONE);
     EXPECT(lfm_try_lock_here(&of_seats), LFM_BUSY);
     EXPECT(lfm_try_lock_for_here(&of_seats, 0), LFM_BUSY);
-    EXPECT(lfm_try_lock_for_here(&of_seats, LIMIT), LFM_NO_SEAT);
+    EXPECT(lfm_try_lock_for_here(&of_seats, SHORT), LFM_BUSY);
     EXPECT(lfm_depth_here(&of_seats), 0);
-    EXPECT(lfm_unlock(&seats[i]), LFM_DONE);
+    pthread_t unlocks;
+    EXPECT(pthread_create(&unlocks, NULL, unlock_later, &seats[i]), 0);
     EXPECT(lfm_try_lock_for_here(&of_seats, LIMIT), LFM_DONE);
+    EXPECT(pthread_join(unlocks, NULL), 0);
     EXPECT(lfm_unlock_here(&of_seats), LFM_DONE);
   }
 }
@@ -100,6 +108,24 @@ static void closed_unseen(void) {
     EXPECT(load_mutex(&later[i]) == word, false);
   }
   for (int i = 0; i < LATER; i++) EXPECT(lfm_mutex_close(&later[i]), LFM_DONE);
+}
+
+static void *give_up(void *at) {
+  EXPECT(lfm_try_lock_for_here(&mutex, SHORTEST), LFM_BUSY);
+  return at;
+}
+
+/* Threads give up and end while the mutex is held. The places that they leave take no number of those that come later. */
+static void places_left(void) {
+  EXPECT(lfm_lock_here(&mutex), LFM_DONE);
+  /* on a busy machine the time of some is over before they queue */
+  for (int i = 0; i < 8 * MOST_DEPUTIES && LFM_PROCESS.deputies < MOST_DEPUTIES; i++) in_a_thread(give_up);
+  for (int i = 0; i < 50; i++) in_a_thread(give_up);
+  EXPECT(LFM_PROCESS.deputies, MOST_DEPUTIES);
+  for (int i = 0; i < SEATS / 2 - THREADS; i++) EXPECT(lfm_seat_take(&of_seats, &seats[i]), LFM_DONE);
+  for (int i = 0; i < SEATS / 2 - THREADS; i++) EXPECT(lfm_seat_give(&seats[i]), LFM_DONE);
+  EXPECT(lfm_unlock_here(&mutex), LFM_GRANTED);
+  EXPECT(LFM_PROCESS.deputies, 0);
 }
 
 int main(void) {
@@ -130,6 +156,7 @@ int main(void) {
   for (int i = 0; i < SEATS; i++) EXPECT(lfm_seat_give(&seats[i]), LFM_DONE);
   EXPECT(lfm_mutex_close(&of_seats), LFM_NOT_BACK);
   EXPECT(lfm_seat_give(&next), LFM_DONE);
+  places_left();
   EXPECT(lfm_mutex_close(&of_seats), LFM_DONE);
   EXPECT(lfm_mutex_close(&mutex), LFM_DONE);
   return 0;

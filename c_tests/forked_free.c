@@ -1,13 +1,14 @@
 /* A forked child calls mutexes that nobody held or asked for at the fork, without lfm_after_fork: it locks and waits at them, by
- * the thread that forked and by its own threads, it takes seats of them, closes them, and opens others in their place. One that
- * another thread of the parent held stays busy for it. A child of the child does the same.
+ * the thread that forked and by its own threads, it takes seats of them and gives them back, closes them, and opens others in
+ * their place. Seats that its parent has in hand count for nothing. One that another thread of the parent held stays busy for it.
+ * A child of the child does the same.
  *
  * The test has the C file of the library in it. */
 #define _GNU_SOURCE
 #include "../c/ligdrosa.c"
 #include "children.h"
 
-enum { THREADS = 4, ROUNDS = 2000, LATER = 1000, SHORT = 1000000 };
+enum { THREADS = 4, ROUNDS = 2000, LATER = 1000, SHORT = 1000000, MORE_THAN_NUMBERS = 5000 };
 static lfm_mutex mutex = LFM_MUTEX_INIT, never_called = LFM_MUTEX_INIT, held = LFM_MUTEX_INIT, with_seats;
 static lfm_condvar filled;
 static lfm_seat of_parent, seat;
@@ -53,8 +54,18 @@ static void use_free_ones(void) {
   EXPECT(lfm_seat_take(&mutex, &seat), LFM_DONE);
   EXPECT(lfm_lock(&seat), LFM_DONE);
   EXPECT(lfm_try_lock_here(&mutex), LFM_BUSY);
+  EXPECT(lfm_seat_give(&seat), LFM_HOLDING);
   EXPECT(lfm_unlock(&seat), LFM_DONE);
+  EXPECT(lfm_mutex_close(&mutex), LFM_NOT_BACK);
   EXPECT(lfm_seat_give(&seat), LFM_DONE);
+}
+
+/* Each number of a seat comes back. */
+static void take_and_give_often(void) {
+  for (int i = 0; i < MORE_THAN_NUMBERS; i++) {
+    EXPECT(lfm_seat_take(&mutex, &seat), LFM_DONE);
+    EXPECT(lfm_seat_give(&seat), LFM_DONE);
+  }
 }
 
 /* Another thread of the parent holds it. The child can't, and forgets it: no other mutex gets its number. */
@@ -73,8 +84,9 @@ static void forget_held_one(void) {
   for (int i = 0; i < LATER; i++) EXPECT(lfm_mutex_close(&later[i]), LFM_DONE);
 }
 
-/* The child closes a mutex of which the parent has seats in hand, and opens another one in its place, which it can close too. */
-static void open_in_its_place(void) {
+/* The child closes a mutex of which the parent has a seat in hand, opens another one in its place, which it can close too, and
+ * gives the seat of its parent back before or after that. */
+static void open_in_its_place(bool gives_first) {
   mutex_word word = load_mutex(&with_seats);
   EXPECT(lfm_mutex_close(&with_seats), LFM_DONE);
   EXPECT(lfm_mutex_new(&with_seats, 1, 1), LFM_DONE);
@@ -82,21 +94,26 @@ static void open_in_its_place(void) {
   EXPECT(lfm_lock_here(&with_seats), LFM_DONE);
   EXPECT(lfm_mutex_close(&with_seats), LFM_HOLDING);
   EXPECT(lfm_unlock_here(&with_seats), LFM_DONE);
+  EXPECT(lfm_seat_take(&with_seats, &seat), LFM_DONE);
+  if (gives_first) EXPECT(lfm_seat_give(&of_parent), LFM_DONE);
+  EXPECT(lfm_mutex_close(&with_seats), LFM_NOT_BACK);
+  EXPECT(lfm_seat_give(&seat), LFM_DONE);
   EXPECT(lfm_mutex_close(&with_seats), LFM_DONE);
-  EXPECT(lfm_seat_give(&of_parent), LFM_DONE);
+  if (!gives_first) EXPECT(lfm_seat_give(&of_parent), LFM_DONE);
 }
 
 static void act_in_grandchild(void) {
   use_free_ones();
   EXPECT(lfm_try_lock_here(&held), LFM_BUSY);
-  open_in_its_place();
+  open_in_its_place(true);
 }
 
 static void act_in_child(void) {
   use_free_ones();
   EXPECT(in_child(act_in_grandchild), 0);
   use_free_ones();
-  open_in_its_place();
+  take_and_give_often();
+  open_in_its_place(false);
   forget_held_one();
   EXPECT(lfm_mutex_close(&mutex), LFM_DONE);
   EXPECT(lfm_mutex_close(&never_called), LFM_DONE);

@@ -1,7 +1,7 @@
 /* A program whose malloc locks a mutex of the library, as jemalloc may. Its first call comes before any constructor has run. The
  * thread-specific data of a thread's end needs memory, since other keys come before that of the library. Threads allocate,
  * time out, find seats, which are memory of malloc, and end. Meanwhile children are forked, for which the malloc holds its mutex:
- * they allocate too. Each number comes back.
+ * they allocate too. A thread also finds a seat as it ends, after its number was given back. Each number comes back.
  *
  * The test has the C file of the library in it. */
 #define _GNU_SOURCE
@@ -100,6 +100,40 @@ static void allocate_in_child(void) {
   _exit(block == NULL);
 }
 
+static bool is_free(uint32_t number) {
+  uint32_t free_one = (uint32_t)LFM_PROCESS.numbers.top;
+  while (free_one && free_one != number) free_one = LFM_PROCESS.numbers.below[free_one];
+  return free_one;
+}
+
+/* Called by the thread's end, after the library has given its number back. The malloc takes a number for its lock, and gives it
+ * back. The one of the seat stays taken while the seat holds. */
+static void find_late(void *at) {
+  lfm_status cause;
+  lfm_seat *seat = lfm_seat_here((lfm_mutex *)at, &cause);
+  EXPECT(seat == NULL, false);
+  EXPECT(is_free((uint32_t)lfm_number(seat)), false);
+  EXPECT(lfm_lock(seat), LFM_DONE);
+  void *volatile block = malloc(100);
+  free(block);
+  EXPECT(is_free((uint32_t)lfm_number(seat)), false);
+  EXPECT(lfm_unlock(seat), LFM_DONE);
+}
+
+static pthread_key_t late_key;
+
+static void *end_late(void *at) {
+  use_once(1);
+  EXPECT(pthread_setspecific(late_key, &mutex), 0);
+  return at;
+}
+
+static uint32_t count_taken(void) {
+  uint32_t taken = LFM_PROCESS.numbers.used;
+  for (uint32_t free_one = (uint32_t)LFM_PROCESS.numbers.top; free_one; free_one = LFM_PROCESS.numbers.below[free_one]) taken--;
+  return taken;
+}
+
 static void work(unsigned thread) {
   for (unsigned i = 0; i < ROUNDS; i++) {
     use_once(i + thread);
@@ -117,9 +151,12 @@ int main(void) {
   EXPECT(total != 0, true);
   /* a thread, the one that it starts, and a deputy of each */
   EXPECT(LFM_PROCESS.numbers.used <= 1 + 4 * THREADS, true);
-  uint32_t taken = LFM_PROCESS.numbers.used;
-  for (uint32_t free_one = (uint32_t)LFM_PROCESS.numbers.top; free_one; free_one = LFM_PROCESS.numbers.below[free_one]) taken--;
-  EXPECT(taken, 1);
+  EXPECT(count_taken(), 1);
+  pthread_t other;
+  EXPECT(pthread_key_create(&late_key, find_late), 0);
+  EXPECT(pthread_create(&other, NULL, end_late, NULL), 0);
+  EXPECT(pthread_join(other, NULL), 0);
+  EXPECT(count_taken(), 1);
   EXPECT(end_key > KEYS && end_key != IS_DROPPED, true);
   printf("%zu calls of malloc and free\n", calls);
   return 0;

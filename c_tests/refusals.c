@@ -219,6 +219,9 @@ static void calls_of_a_thread_without_seat(unsigned thread) {
   (void)thread;
   EXPECT(lfm_unlock_here(&own_mutex), LFM_NOT_OWNER);
   EXPECT(lfm_wait_here(&condvar, &own_mutex), LFM_NOT_OWNER);
+  EXPECT(lfm_wait_here(NULL, &own_mutex), LFM_BLANK);
+  EXPECT(lfm_wait_for_here(NULL, &own_mutex, 1), LFM_BLANK);
+  EXPECT(lfm_wait_all_holds_here(NULL, &own_mutex), LFM_BLANK);
   EXPECT(lfm_wait_for_here(&condvar, &own_mutex, 1), LFM_NOT_OWNER);
   EXPECT(own_mutex.core == NULL, true);
   EXPECT(lfm_seat_take(&own_mutex, &first), LFM_DONE);

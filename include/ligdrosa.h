@@ -21,8 +21,8 @@
  *
  * A thread has one number for all mutexes, from its first call until it ends. The calls whose names end in `here` find it.
  * The others are given a seat (lfm_seat_take), for programs that keep nothing in thread-local memory. Each such seat has a
- * number of its own, and so has each lock with a time limit that queues. A process has 4,095 numbers at a time. Only a call
- * that needs one more is refused as LFM_NO_SEAT.
+ * number of its own, and so has each lock with a time limit that queues. A process has 4,095 numbers at a time. Only the
+ * first call of a thread and the take of a seat, if they find none left, are refused as LFM_NO_SEAT.
  *
  * The library keeps its memory until the process ends: 80 bytes for each mutex of a pool, some 100 kB more for each pool,
  * and 1.1 kB for each number with its seats. The first pool has 512 mutexes, and each other one twice as many as the one
@@ -50,12 +50,14 @@
  *   - A seat is in one call at a time. It goes from one thread to another by a lock, a thread's start or join, or the like.
  *     If all files of a program are compiled with -DLFM_CHECKED, two threads in one seat of lfm_seat_take end it with a
  *     text. This does not check lfm_depth and lfm_assert_held.
- *   - No call comes from a signal handler.
+ *   - No call comes from a signal handler, and none forks. Handlers of pthread_atfork that were made before the library's
+ *     own, which it makes as it is initialized, call no mutex before a fork.
  *   - A forked child calls a mutex that the forking thread held only after lfm_after_fork. It doesn't call one that another
  *     thread held, or that nobody held and another thread asked for or was releasing. All others it calls as its parent
  *     does. It may close each mutex and give back each seat. If other threads of the parent may have waited at a condition
- *     variable or been in a call of it, the child sets it to zero before it calls it: it has none of these threads. The
- *     child is one of fork: the library doesn't see those of _Fork, vfork and clone.
+ *     variable or been in a call of it, the child sets it to zero before it calls it: it has none of these threads. A
+ *     close of a mutex of the parent sees only a hold of the calling thread. Numbers of threads that the child lacks stay
+ *     taken. The child is one of fork: the library doesn't see those of _Fork, vfork and clone.
  *   - A proved call that opens a pool takes memory, so its proof excludes a child whose parent had other threads. The
  *     library takes it from the system, which such a child may ask. For lfm_seat_here malloc has to be usable there.
  *   - While a mutex is opened by lfm_mutex_new or closed, no other call of it begins. See lfm_mutex_close.
@@ -222,10 +224,10 @@ LFM_API lfm_status lfm_mutex_close(lfm_mutex *mutex);
 LFM_API uint64_t lfm_takes_left(lfm_mutex *mutex);
 
 /* In a forked child, makes a mutex new that the thread which forked held, or that no seat held or asked for: that thread
- * holds it as often as before. `seat` is the seat by which it held, or null if it calls those that end in `here`. Other
- * seats in hand of the mutex are forgotten: an lfm_seat is set to zero before it is taken anew. What the library had of the
- * parent's mutex stays taken. In the process that opened the mutex it changes nothing. It may sleep while another thread
- * opens a pool, takes a seat in one or forks.
+ * holds it as often as before. If it held, it makes this call itself, before another thread calls the mutex. `seat` is the
+ * seat by which it held, or null if it calls those that end in `here`. Other seats in hand of the mutex are forgotten: an
+ * lfm_seat is set to zero before it is taken anew. What the library had of the parent's mutex stays taken. In the process
+ * that opened the mutex it changes nothing. It may sleep while another thread opens a pool, takes a seat in one or forks.
  * Refused: LFM_BLANK, LFM_FOREIGN, LFM_NO_MEMORY, LFM_NO_SEAT, and LFM_BUSY if the thread that forked did not hold the
  * mutex, and another seat held it, asked for it or was releasing it. */
 LFM_NODISCARD lfm_status lfm_after_fork(lfm_mutex *mutex, lfm_seat *seat);
@@ -243,7 +245,7 @@ LFM_API lfm_status lfm_seat_take_checked(lfm_mutex *mutex, lfm_seat *seat);
 #endif
 
 /* Gives the seat back. A place that a timed lock of it has left in the queue is passed by in its turn. A seat of
- * lfm_seat_here is given back as by lfm_seat_give_here. It never sleeps.
+ * lfm_seat_here is given back as by lfm_seat_give_here, which frees memory. Otherwise it never sleeps.
  * Refused: LFM_BLANK, LFM_HOLDING, LFM_SEAT_ASLEEP. A seat of lfm_seat_here: LFM_BLANK, LFM_FOREIGN if it was answered
  * another thread, LFM_HOLDING. */
 LFM_API lfm_status lfm_seat_give(lfm_seat *seat);
@@ -276,13 +278,14 @@ LFM_NODISCARD lfm_status lfm_try_lock(lfm_seat *seat);
 
 /* Locks as lfm_lock does, but at most until this many nanoseconds have passed, or until this time on this clock. It queues,
  * so other threads that queue don't keep it from its turn. It queues by another number, which the seat keeps for its next
- * such lock until it is given back or its thread ends.
+ * such lock until it is given back or its thread ends. At most 2,048 numbers are used so: a lock that finds no more tries
+ * until its time is over.
  *
  * If the time is over while it is queued, that number alone stays queued. The seat's next lock, with a time limit or
  * without, waits from the same place, unless it acquires the mutex by a try. If the turn of the place comes first, an unlock
  * passes it by. Until then lfm_mutex_close answers LFM_HOLDING. If its turn comes as the time ends, the call acquires the
  * mutex.
- * Refused: as lfm_lock, LFM_NO_SEAT if it has to queue, and LFM_BUSY, which tells that the time is over. Before all these
+ * Refused: as lfm_lock, and LFM_BUSY, which tells that the time is over. Before all these
  * lfm_try_lock_until is refused as LFM_BLANK if `time` is null, and as LFM_LIMIT if there is no such clock, or not 0 to
  * 999,999,999 nanoseconds in `time`. */
 LFM_NODISCARD lfm_status lfm_try_lock_for(lfm_seat *seat, uint64_t nanoseconds);
@@ -305,14 +308,14 @@ LFM_API lfm_status lfm_unlock(lfm_seat *seat);
 /* Threads */
 
 /* The calling thread's number as a seat of the mutex, or null if it is refused, with the cause. `cause` is not null, and it
- * is to be read only then. The seat ends by lfm_seat_give_here, when the thread closes the mutex, or with the thread. The
- * more such seats the thread has, the longer it takes to find one. The call may sleep while another thread opens a pool,
- * takes a seat in one or forks.
+ * is to be read only then. No other thread calls by this seat. It ends by lfm_seat_give_here, when the thread closes the
+ * mutex, or with the thread. The more such seats the thread has, the longer it takes to find one. The call may sleep while
+ * another thread opens a pool, takes a seat in one or forks.
  *
  * A thread takes its number by its first call of a mutex, and gives it back when it ends, unless it holds then, or the
- * system had no thread-specific key left. Destructors of thread-specific data may call too. In them a seat of lfm_seat_here
- * ends with the thread's next call whose name ends in `here`, if that leaves it without a hold. Only a number that
- * lfm_seat_here takes in the last round of destructors, the fourth in glibc, is not given back.
+ * system had no thread-specific key left. Destructors of thread-specific data may call too. Each round of
+ * them first ends the seats that the thread has from lfm_seat_here, unless it holds, so a destructor calls lfm_seat_here
+ * anew. A number that is taken in the last round, the fourth in glibc, may not be given back.
  * Refused: LFM_BLANK; if it opens the mutex, LFM_OTHER_HEADER, LFM_LIMIT, LFM_NO_MEMORY; if it takes the thread's number,
  * LFM_NO_MEMORY, LFM_NO_SEAT; and LFM_NO_MEMORY. */
 LFM_API lfm_seat *lfm_seat_here(lfm_mutex *mutex, lfm_status *cause);
@@ -380,11 +383,11 @@ LFM_API lfm_status lfm_wake_all(lfm_condvar *condvar);
 LFM_API lfm_status lfm_wake_one_by(lfm_condvar *condvar, lfm_seat *seat);
 LFM_API lfm_status lfm_wake_all_by(lfm_condvar *condvar, lfm_seat *seat);
 
-/* Ends a condition variable. All threads that waited have been woken, or their time is over, but they may still return: it
- * sleeps until waits with a time limit have left it. If none had one, the memory may also be given back without a close. In
- * both cases a program promises that no call of it is under way but those waits and the wakes that woke them: another wake
- * might still look at it.
- * Refused: LFM_BLANK (null), LFM_WAITED_FOR. */
+/* Ends a condition variable. All threads that waited have been woken, or have found that their time is over, but they may
+ * still return: it sleeps until waits with a time limit have left it. If none had one, the memory may also be given back
+ * without a close. In both cases a program promises that no call of it is under way but those waits and the wakes that woke
+ * them: another wake might still look at it.
+ * Refused: LFM_BLANK (null), and LFM_WAITED_FOR, also while a thread whose time is over has not run since. */
 LFM_API lfm_status lfm_condvar_close(lfm_condvar *condvar);
 
 #ifdef __cplusplus

@@ -154,7 +154,8 @@ bool lock_until(Lock &lock, lfm_status (*call)(By *, int, const timespec *), By 
 }
 
 // A mutex that any thread may lock. A process has 4,095 numbers. Each thread that calls a mutex takes one, and so does each
-// seat in hand and each lock with a time limit that queues. A call that finds none left is refused as LFM_NO_SEAT.
+// seat in hand. If none is left, these are refused as LFM_NO_SEAT. A lock with a time limit that queues takes one more. If
+// half of all are used for that, it tries until its time is over.
 //
 // A mutex of static storage is initialized before the program runs, and its destructor does nothing. So constructors and
 // destructors of globals may lock it, and so may threads that go on after main. Any other mutex may be destroyed by the thread

@@ -54,12 +54,12 @@ lfm_status lfm_wait_all_holds_until(lfm_condvar *condvar, lfm_seat *seat, int cl
   return WAIT_AT(condvar, CALL_BY(seat, wait_with_all_holds(condvar, seat->by, seat->mutex, &deadline)));
 }
 
-/* The body of a function that makes a call of `word` by the calling thread's participant `by`. A thread without a seat doesn't
+/* The body of a function that makes a wait of `word` by the calling thread's participant `by`. A thread without a seat doesn't
  * hold. */
-#define RETURN_WAIT_HERE(mutex, call)      \
+#define RETURN_WAIT_HERE(mutex, wait)      \
   mutex_word word = load_mutex(mutex);     \
   struct participant *by = own.by;         \
-  return has_seat(word) ? end_here(by, WAIT_AT(condvar, call)) : status_without_seat(mutex)
+  return WAIT_AT(condvar, has_seat(word) ? end_here(by, wait) : status_without_seat(mutex))
 
 lfm_status lfm_wait_here(lfm_condvar *condvar, lfm_mutex *mutex) {
   RETURN_WAIT_HERE(mutex, wait_until(condvar, by, word, NULL));

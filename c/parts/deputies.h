@@ -40,6 +40,21 @@ static bool change_state(struct participant *deputy, enum deputy_state from, enu
   return __atomic_compare_exchange_n(&deputy->state, &found, to, false, __ATOMIC_SEQ_CST, __ATOMIC_SEQ_CST);
 }
 
+/* Takes a participant to be a deputy, or null. At most half of all are: so timed locks, which leave deputies in queues for as long
+ * as others hold, don't take the numbers of all threads. */
+static struct participant *take_new_deputy(void) {
+  lfm_status cause;
+  uint32_t count = __atomic_add_fetch(&LFM_PROCESS.deputies, 1, __ATOMIC_RELAXED);
+  struct participant *deputy = count <= MOST_DEPUTIES ? take_participant(&cause) : NULL;
+  if (!deputy) __atomic_sub_fetch(&LFM_PROCESS.deputies, 1, __ATOMIC_RELAXED);
+  return deputy;
+}
+
+static void give_deputy(struct participant *deputy) {
+  __atomic_sub_fetch(&LFM_PROCESS.deputies, 1, __ATOMIC_RELAXED);
+  give_participant(deputy);
+}
+
 /* Wake-ups */
 
 /* Receives the mutex for a deputy that has abandoned its place, releases it, and lets the deputy rest, or gives it back if it has
@@ -50,7 +65,7 @@ static uint64_t pass_by(struct participant *deputy, mutex_word mutex) {
   uint64_t next = lfm_c_pool_unlock(seat, index_of(mutex)) >> 8;
   if (change_state(deputy, PASSING, RESTS)) return next;
   __atomic_store_n(&deputy->state, RESTS, __ATOMIC_SEQ_CST);
-  give_participant(deputy);
+  give_deputy(deputy);
   return next;
 }
 
@@ -101,11 +116,11 @@ SLOW_PATH struct participant *resumed_deputy(const struct participant *by, mutex
   return deputy;
 }
 
-/* A deputy that rests, or null and the cause. */
-static struct participant *take_deputy(struct participant *by, lfm_status *cause) {
+/* A deputy that rests, or null if there are too many. */
+static struct participant *take_deputy(struct participant *by) {
   for (struct participant *deputy = by->deputies; deputy; deputy = deputy->next)
     if (!deputy->holds && state_of(deputy) == RESTS) return deputy;
-  struct participant *deputy = take_participant(cause);
+  struct participant *deputy = take_new_deputy();
   if (!deputy) return NULL;
   deputy->next = by->deputies;
   by->deputies = deputy;
@@ -117,7 +132,7 @@ static void part_with(struct participant *deputy) {
   for (;;) {
     enum deputy_state found = state_of(deputy);
     if (found == RESTS) {
-      give_participant(deputy);
+      give_deputy(deputy);
       return;
     }
     if (change_state(deputy, found, found == ABANDONED ? ORPHANED : ORPHAN_PASSING)) return;

@@ -3,7 +3,7 @@
  * A child has the pools of its parent as they were at the fork, and one of its threads. The other threads make no further step:
  * to the core they are threads that are late for ever. So the child goes on with each mutex that none of them held or asked for.
  * Of one that the forking thread held, lfm_after_fork takes another in its place if others had asked for it: they would be
- * granted it in their turn. It does so too if seats of it are in hand that the child forgets. */
+ * granted it in their turn. */
 
 #define IS_UNKNOWN UINT64_MAX
 
@@ -30,8 +30,8 @@ lfm_status lfm_mutex_close(lfm_mutex *mutex) {
   mutex_word word = load_mutex(mutex);
   if (word) {
     uint64_t count = count_here(word);
+    if (seats_in_hand(info_of(word))) return LFM_NOT_BACK;
     if (is_of_process(word)) {
-      if (__atomic_load_n(&info_of(word)->in_hand, __ATOMIC_SEQ_CST)) return LFM_NOT_BACK;
       if (count && count != IS_UNKNOWN) return LFM_HOLDING;
     } else if (depth_of(own.by, word) != 0) {
       return LFM_HOLDING;
@@ -44,6 +44,15 @@ lfm_status lfm_mutex_close(lfm_mutex *mutex) {
   return LFM_DONE;
 }
 
+/* Makes a seat in hand of the parent, or null, one of the child's of this mutex. */
+static void take_over_seat(lfm_seat *seat, mutex_word word) {
+  if (!seat) return;
+  bool is_counted = seat->is_of_library || (seat->mutex == word && seat->forks == LFM_PROCESS.forks);
+  seat->mutex = word;
+  seat->forks = LFM_PROCESS.forks;
+  if (!is_counted) count_in_hand(info_of(word));
+}
+
 /* Takes another mutex in place of this one, which the participant holds as often then, by its own seat. */
 static lfm_status replace_mutex(lfm_mutex *mutex, struct participant *by, uint64_t depth, lfm_seat *seat) {
   lfm_status cause;
@@ -54,21 +63,19 @@ static lfm_status replace_mutex(lfm_mutex *mutex, struct participant *by, uint64
   take_seats(by, taken);
   for (uint64_t i = 0; i < depth; i++) try_by(by, taken);
   mutex->core = (struct lfm_core *)(uintptr_t)taken;
-  if (!seat) return LFM_DONE;
-  seat->mutex = taken;
-  info_of(taken)->in_hand = !seat->is_of_library;
+  take_over_seat(seat, taken);
   return LFM_DONE;
 }
 
-/* Makes a mutex of the parent one of the child, or takes another in its place if other seats asked for it or are in hand. */
+/* Makes a mutex of the parent one of the child, or takes another in its place if other seats asked for it. */
 static lfm_status renew_mutex(lfm_mutex *mutex, struct participant *by, lfm_seat *seat) {
   mutex_word word = load_mutex(mutex);
   uint64_t depth = depth_of(by, word), others = count_by(by, word) - (depth != 0);
   if (depth == 0 && others) return LFM_BUSY;
   if (by->unrung_at == word) by->unrung = NULL; /* those waiters are threads of the parent */
-  struct mutex_info *info = info_of(word);
-  if (others || info->in_hand != (seat && !seat->is_of_library)) return replace_mutex(mutex, by, depth, seat);
-  info->forks = LFM_PROCESS.forks;
+  if (others) return replace_mutex(mutex, by, depth, seat);
+  take_over_seat(seat, word);
+  info_of(word)->forks = LFM_PROCESS.forks;
   return LFM_DONE;
 }
 

@@ -16,11 +16,16 @@ static void count_fork(void) {
   release_latches();
 }
 
-/* Made before a program's constructors run, or as the first mutex is opened, which may be earlier. So handlers of a program that
- * lock, as those of a malloc do, are called while the latches are free. */
-__attribute__((constructor(101))) static void watch_forks(void) {
+/* Has the system call these handlers: whether it will. It is asked before a program's constructors run, or as the first mutex is
+ * opened, which may be earlier. So handlers of a program that lock, as those of a malloc do, are called while the latches are
+ * free. */
+static bool watch_forks(void) {
   static bool is_watching;
   hide(&LFM_PROCESS, sizeof LFM_PROCESS);
-  if (__atomic_exchange_n(&is_watching, true, __ATOMIC_SEQ_CST)) return;
-  if (pthread_atfork(hold_latches, release_latches, count_fork) != 0) __atomic_store_n(&is_watching, false, __ATOMIC_SEQ_CST);
+  if (__atomic_exchange_n(&is_watching, true, __ATOMIC_SEQ_CST)) return true;
+  if (pthread_atfork(hold_latches, release_latches, count_fork) == 0) return true;
+  __atomic_store_n(&is_watching, false, __ATOMIC_SEQ_CST);
+  return false;
 }
+
+__attribute__((constructor(101))) static void watch_forks_from_the_start(void) { watch_forks(); }

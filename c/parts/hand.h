@@ -72,8 +72,8 @@ static lfm_status take_in_hand(lfm_mutex *mutex, lfm_seat *seat, bool is_checked
   struct participant *by = take_participant(&cause);
   if (!by) return cause;
   take_seats(by, word);
-  __atomic_add_fetch(&info_of(word)->in_hand, 1, __ATOMIC_SEQ_CST);
-  *seat = (lfm_seat){.by = by, .mutex = word, .is_checked = is_checked};
+  count_in_hand(info_of(word));
+  *seat = (lfm_seat){.by = by, .mutex = word, .is_checked = is_checked, .forks = LFM_PROCESS.forks};
   return LFM_DONE;
 }
 

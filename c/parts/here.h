@@ -92,12 +92,25 @@ static lfm_seat *find_seat_here(mutex_word word) {
   return seat;
 }
 
-static lfm_seat *make_seat_here(struct participant *by, mutex_word word, lfm_status *cause) {
+/* The compiler takes malloc for a function that changes no word of the library. But it may lock. */
+static lfm_seat *allocate_seat_here(void) {
   int before = errno;
   lfm_seat *seat = (lfm_seat *)malloc(sizeof *seat);
   errno = before;
-  *cause = LFM_NO_MEMORY;
-  if (!seat) return NULL;
+  __asm__ volatile("" ::: "memory");
+  return seat;
+}
+
+/* Memory is requested first: if malloc locks while the thread ends, the end of that call gives the thread's participant back. */
+static lfm_seat *make_seat_here(mutex_word word, lfm_status *cause) {
+  lfm_seat *seat = allocate_seat_here();
+  struct participant *by = take_own(cause);
+  if (by) take_seats(by, word);
+  if (!by || !seat) {
+    if (by) *cause = end_here(by, LFM_NO_MEMORY);
+    free(seat);
+    return NULL;
+  }
   *seat = (lfm_seat){.by = by, .mutex = word, .next = own.seats_here, .is_of_library = true};
   own.seats_here = seat;
   return seat;
@@ -105,10 +118,9 @@ static lfm_seat *make_seat_here(struct participant *by, mutex_word word, lfm_sta
 
 lfm_seat *lfm_seat_here(lfm_mutex *mutex, lfm_status *cause) {
   lfm_status refused;
-  mutex_word word;
-  struct participant *by = prepare(mutex, &word, &refused);
-  lfm_seat *seat = by ? find_seat_here(word) : NULL;
-  if (by && !seat) seat = make_seat_here(by, word, &refused);
+  mutex_word word = open_mutex(mutex, &refused);
+  lfm_seat *seat = word ? find_seat_here(word) : NULL;
+  if (word && !seat) seat = make_seat_here(word, &refused);
   if (!seat) *cause = refused;
   return seat;
 }
@@ -120,11 +132,12 @@ static lfm_status give_here(lfm_seat *seat) {
   return forget_seat_here(seat) ? LFM_DONE : LFM_FOREIGN;
 }
 
-/* A forked child only forgets a seat in hand of its parent: a thread that it lacks may have been in a call of it. */
+/* A forked child only forgets a seat in hand of its parent, unless it was made new: a thread that it lacks may have been in a call
+ * of it. */
 lfm_status lfm_seat_give(lfm_seat *seat) {
   if (!is_taken(seat)) return LFM_BLANK;
   if (seat->is_of_library) return give_here(seat);
-  if (is_of_process(seat->mutex)) {
+  if (seat->forks == LFM_PROCESS.forks) {
     begin_call(seat);
     return give_in_hand(seat);
   }

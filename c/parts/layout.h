@@ -9,7 +9,7 @@
 #endif
 
 enum { LINE = 64, POOL_BYTES = LINE, SEAT_BYTES = LINE, MOST_POOLS = LFM_MOST_POOLS };
-enum { MOST_PARTICIPANTS = LFM_MOST_PARTICIPANTS };
+enum { MOST_PARTICIPANTS = LFM_MOST_PARTICIPANTS, MOST_DEPUTIES = (MOST_PARTICIPANTS + 1) / 2 };
 
 /* An open mutex as a word: the number of its pool, from 1, and below it its number there, from 1. The word of an lfm_mutex that
  * is not open is 0. */
@@ -49,7 +49,7 @@ struct participant {
 
 /* What the library keeps of a mutex beside its words in the pool. */
 struct mutex_info {
-  uint32_t in_hand; /* how many seats of lfm_seat_take are not given back */
+  uint32_t in_hand; /* how many seats of lfm_seat_take are not given back, and above that in which process: see pools.h */
   uint32_t queued;  /* how many participants are queued by locks that have not returned */
   uint32_t forks;   /* how many forks lie between the first process and the one in which it was opened */
 };
@@ -71,6 +71,7 @@ struct process {
   uint32_t forks; /* how many lie between the first process and this one */
   struct numbers numbers; /* of the participants */
   struct participant *participants; /* by their numbers, from 1 on; null while none was taken */
+  uint32_t deputies;                /* how many of them are deputies */
 };
 
 /* A tool that explores interleavings keeps it among the memory that it watches. */
@@ -87,7 +88,8 @@ struct lfm_seat {
   uint32_t is_in_call;
   bool is_checked;
   bool is_of_library; /* its participant is that of a thread */
-  uint64_t unused[28];
+  uint32_t forks;     /* of a seat in hand: those of the process in which it was taken or made new */
+  uint64_t unused[27];
 } __attribute__((aligned(16)));
 
 _Static_assert(sizeof(lfm_mutex) == 16 && sizeof(lfm_seat) == 256 && sizeof(lfm_condvar) == 32,

@@ -109,16 +109,14 @@ static lfm_status queue(struct participant *by, mutex_word mutex) {
   return note_hold(by, status);
 }
 
-/* Locks in order by a deputy, at most until the deadline. */
-static lfm_status queue_until(struct participant *by, mutex_word mutex, const struct deadline *deadline) {
-  lfm_status status;
-  struct participant *deputy = take_deputy(by, &status);
-  if (!deputy) return status;
+/* Locks in order by this deputy, at most until the deadline. */
+static lfm_status queue_until(struct participant *by, struct participant *deputy, mutex_word mutex,
+                              const struct deadline *deadline) {
   take_seats(deputy, mutex);
   deputy->at = mutex;
   silence(&deputy->bell); /* a time that was over left it listened to */
   __atomic_store_n(&deputy->state, TIMED, __ATOMIC_SEQ_CST);
-  status = wake_named(mutex, lfm_c_pool_ask(seat_in(deputy, mutex), index_of(mutex)));
+  lfm_status status = wake_named(mutex, lfm_c_pool_ask(seat_in(deputy, mutex), index_of(mutex)));
   if (status == LFM_ASLEEP) return await_deputy(by, deputy, deadline);
   __atomic_store_n(&deputy->state, RESTS, __ATOMIC_SEQ_CST);
   deputy->holds = status == LFM_DONE;
@@ -131,6 +129,9 @@ static lfm_status queue_until(struct participant *by, mutex_word mutex, const st
  * yield. The first try is made before the spins. */
 
 enum { SPINS = 11, MOST_DOUBLINGS = 8, HOLDER_AND_ONE_MORE = 2, NAPS = 4, NAP = 20000, FEW = 8 };
+/* How long a nap takes at most, as a rule, with what the system adds to it; and how long one is of a lock that can't queue. In
+ * nanoseconds. */
+enum { LONGEST_NAP = 100000, LONG_NAP = 1000000 };
 
 /* Tries if by this count no seat holds or wants the mutex, or else is busy. To read the count costs the holder less than a
  * try. */
@@ -152,15 +153,26 @@ static lfm_status spin(struct participant *by, mutex_word mutex) {
 }
 
 /* Naps a few times, and reads the count before and after each nap. Threads that sleep leave the processors to the holder, and a
- * queue can drain meanwhile. If many seats hold or wait, it is better to queue at once. */
-static lfm_status nap(struct participant *by, mutex_word mutex) {
+ * queue can drain meanwhile. If many seats hold or wait, it is better to queue at once, and also if the deadline, if there is
+ * one, might be over after the nap. */
+static lfm_status nap(struct participant *by, mutex_word mutex, const struct deadline *deadline) {
   uint64_t crowd = most_spinners() > FEW / 2 ? 2 * most_spinners() : FEW;
   lfm_status status = LFM_BUSY;
   for (int i = 0; status == LFM_BUSY && i < LFM_ROUNDS(NAPS); i++) {
     uint64_t count = count_by(by, mutex);
-    if (count > crowd) break;
+    if (count > crowd || (deadline && time_left(deadline) < LONGEST_NAP)) break;
     if (count) nap_for(NAP);
     status = try_if_free(by, mutex, count ? count_by(by, mutex) : 0);
+  }
+  return status;
+}
+
+/* Tries until the deadline, with naps between: a lock with a time limit that finds no deputy. */
+SLOW_PATH lfm_status try_until(struct participant *by, mutex_word mutex, const struct deadline *deadline) {
+  lfm_status status = LFM_BUSY;
+  for (uint64_t left = time_left(deadline); status == LFM_BUSY && left; left = time_left(deadline)) {
+    nap_for(left < LONG_NAP ? left : LONG_NAP);
+    status = try_if_free(by, mutex, count_by(by, mutex));
   }
   return status;
 }
@@ -170,7 +182,7 @@ SLOW_PATH lfm_status lock_slowly(struct participant *by, mutex_word mutex, lfm_s
   if (status != LFM_BUSY) return status;
   if (by->deputies && is_by_deputy(by, mutex, NULL, &status)) return status;
   status = spin(by, mutex);
-  if (status == LFM_BUSY) status = nap(by, mutex);
+  if (status == LFM_BUSY) status = nap(by, mutex, NULL);
   return status == LFM_BUSY ? queue(by, mutex) : note_hold(by, status);
 }
 
@@ -227,14 +239,16 @@ static lfm_status try_and_tell(struct participant *by, mutex_word mutex) {
   return tell_if_acquired(by, mutex, try_plainly(by, mutex));
 }
 
-/* It tries and spins as a lock does, and naps only if it has the time. Then it queues until the deadline. */
+/* It tries and spins as a lock does, and naps only while it has the time. Then it queues until the deadline. */
 static lfm_status lock_until(struct participant *by, mutex_word mutex, const struct deadline *deadline) {
   lfm_status status = try_by(by, mutex);
   if (status == LFM_BUSY && by->deputies && is_by_deputy(by, mutex, deadline, &status))
     return tell_if_acquired(by, mutex, status);
   if (status == LFM_BUSY && time_left(deadline) != 0) status = spin(by, mutex);
-  if (status == LFM_BUSY && time_left(deadline) >= 2 * NAPS * NAP) status = nap(by, mutex);
-  if (status == LFM_BUSY && time_left(deadline) != 0) return tell_if_acquired(by, mutex, queue_until(by, mutex, deadline));
+  if (status == LFM_BUSY) status = nap(by, mutex, deadline);
+  struct participant *deputy = status == LFM_BUSY && time_left(deadline) != 0 ? take_deputy(by) : NULL;
+  if (deputy) return tell_if_acquired(by, mutex, queue_until(by, deputy, mutex, deadline));
+  if (status == LFM_BUSY) status = try_until(by, mutex, deadline);
   return tell_if_acquired(by, mutex, note_hold(by, status));
 }
 

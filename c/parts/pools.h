@@ -23,12 +23,29 @@ FAST_PATH mutex_word load_mutex(const lfm_mutex *mutex) {
   return mutex ? (mutex_word)(uintptr_t)__atomic_load_n(&mutex->core, __ATOMIC_ACQUIRE) : 0;
 }
 
-static struct pool *pool_at(uint32_t number) { return __atomic_load_n(&LFM_PROCESS.pools[number], __ATOMIC_ACQUIRE); }
+/* Sequentially consistent, as the store in open_pool is: with it the pool's handle goes to the next thread that takes a seat. */
+static struct pool *pool_at(uint32_t number) { return __atomic_load_n(&LFM_PROCESS.pools[number], __ATOMIC_SEQ_CST); }
 static struct pool *pool_of(mutex_word mutex) { return pool_at(pool_in(mutex)); }
 static struct mutex_info *info_of(mutex_word mutex) { return &pool_of(mutex)->infos[number_in(mutex) - 1]; }
 
 /* Whether the mutex was opened in this process, and not in one that forked it. */
 static bool is_of_process(mutex_word mutex) { return info_of(mutex)->forks == LFM_PROCESS.forks; }
+
+/* How many seats in hand of a mutex the calling process has. A seat of its parents doesn't count: a child only forgets it. So the
+ * word has the count in its lower half, and above it the forks, modulo 2^16, of the process that counted. */
+enum { COUNT_BITS = 16 };
+static uint32_t count_in(uint32_t in_hand) {
+  return in_hand >> COUNT_BITS == (uint16_t)LFM_PROCESS.forks ? in_hand & ((1 << COUNT_BITS) - 1) : 0;
+}
+
+static uint32_t seats_in_hand(struct mutex_info *info) { return count_in(__atomic_load_n(&info->in_hand, __ATOMIC_SEQ_CST)); }
+
+/* Counts one more. Who gives a seat back that was counted so only subtracts 1. */
+static void count_in_hand(struct mutex_info *info) {
+  uint32_t found = __atomic_load_n(&info->in_hand, __ATOMIC_RELAXED), next;
+  do next = LFM_PROCESS.forks << COUNT_BITS | (count_in(found) + 1);
+  while (!__atomic_compare_exchange_n(&info->in_hand, &found, next, false, __ATOMIC_SEQ_CST, __ATOMIC_RELAXED));
+}
 
 /* The seat of the participant in the pool of the mutex. */
 FAST_PATH void *seat_in(struct participant *by, mutex_word mutex) { return by->seats[pool_in(mutex) - 1]; }
@@ -49,15 +66,16 @@ SLOW_PATH lfm_status open_pool(uint32_t number) {
   }
   pool->numbers.most = mutexes;
   pool->numbers.below = (uint32_t *)&pool->infos[mutexes];
-  __atomic_store_n(&LFM_PROCESS.pools[number], pool, __ATOMIC_RELEASE);
+  __atomic_store_n(&LFM_PROCESS.pools[number], pool, __ATOMIC_SEQ_CST);
   __atomic_store_n(&LFM_PROCESS.count_of_pools, number, __ATOMIC_RELEASE);
   return LFM_DONE;
 }
 
-/* Opens one more pool than this number, unless another thread has. */
+/* Opens one more pool than this number, unless another thread has. A child of a process that did not watch forks would not know
+ * whose mutexes it has. */
 SLOW_PATH lfm_status grow(uint32_t known) {
   lfm_status status = LFM_DONE;
-  watch_forks();
+  if (!watch_forks()) return LFM_NO_MEMORY;
   acquire_latch(&LFM_PROCESS.latch);
   if (LFM_PROCESS.count_of_pools == known) status = open_pool(known + 1);
   release_latch(&LFM_PROCESS.latch);
@@ -74,7 +92,7 @@ static mutex_word take_mutex(lfm_status *cause) {
       if (!number) continue;
       struct mutex_info *info = &pool->infos[number - 1];
       info->forks = LFM_PROCESS.forks;
-      info->in_hand = 0; /* a forked child that closed it may have forgotten some of its parent */
+      info->in_hand = 0;
       return word_of(i, number);
     }
     *cause = grow(known);

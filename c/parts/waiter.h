@@ -24,6 +24,11 @@ enum { RINGS = 2, CALLS_OF_AN_UNLOCK = 2 };
 #define LFM_RINGS(count) (count)
 #endif
 
+/* Whether an unlock rings for all of them in place of that. Then nobody waits for another waiter, which may be stopped. */
+#ifndef LFM_UNLOCK_RINGS_FOR_ALL
+#define LFM_UNLOCK_RINGS_FOR_ALL 0
+#endif
+
 struct lfm_waiter {
   struct lfm_waiter *older; /* of the list of its condition variable */
   struct lfm_waiter *newer; /* the same, or the next whose ring the same hold puts off */
@@ -63,6 +68,17 @@ static void ring_for_two(struct lfm_waiter *one, struct lfm_waiter *other) {
   }
 }
 
+/* Rings for this waiter and those after it. All are taken out of the tree before the first ring. */
+static void ring_for_all(struct lfm_waiter *first) {
+  for (struct lfm_waiter *waiter = first; waiter; waiter = waiter->newer)
+    for (int i = 0; i < RINGS; i++) waiter->rings_for[i] = NULL;
+  while (first) {
+    struct lfm_waiter *one = first, *other = one->newer;
+    first = other ? other->newer : NULL;
+    ring_for_two(one, other);
+  }
+}
+
 /* Makes the rings that were put off until the participant releases the mutex, after an unlock with this status: those for the
  * first waiters. If it has granted the mutex to another seat, a call of the system has been made to wake that. */
 static void ring_unrung(struct participant *by, lfm_status status) {
@@ -70,6 +86,10 @@ static void ring_unrung(struct participant *by, lfm_status status) {
   int calls = status == LFM_GRANTED ? CALLS_OF_AN_UNLOCK - 1 : CALLS_OF_AN_UNLOCK;
   int most = LFM_RINGS(can_ring_both() ? calls * RINGS : calls);
   by->unrung = NULL;
+  if (LFM_UNLOCK_RINGS_FOR_ALL) {
+    ring_for_all(waiter);
+    return;
+  }
   for (int i = 0; waiter && i < most; i++) {
     struct lfm_waiter *before = waiter->rung_by;
     if (before) before->rings_for[before->rings_for[0] == waiter ? 0 : 1] = NULL;

@@ -152,7 +152,7 @@ static void check_pool(const struct pool *pool) {
 
 /* All numbers are free again, and nobody holds a mutex or asks for one. */
 void explorer_check_all_given_back(void) {
-  CHECK(LFM_PROCESS.latch == 0);
+  CHECK(LFM_PROCESS.latch == 0 && LFM_PROCESS.deputies == 0);
   check_numbers(&LFM_PROCESS.numbers);
   for (uint32_t i = 1; i <= LFM_PROCESS.numbers.used; i++) check_participant(&LFM_PROCESS.participants[i]);
   for (uint32_t i = 1; i <= LFM_PROCESS.count_of_pools; i++) check_pool(pool_at(i));

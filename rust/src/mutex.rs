@@ -24,8 +24,9 @@ use std::{
 /// ```
 ///
 /// Its first lock opens it, which may take memory, as may the first call of a thread. Any thread may call it. A process has
-/// 4,095 numbers. Each thread that calls a mutex takes one, and so does each seat in hand and each lock with a time limit that
-/// queues. A call that finds none left is refused as [`NoSeat`](Refusal::NoSeat).
+/// 4,095 numbers. Each thread that calls a mutex takes one, and so does each seat in hand. If none is left, these are refused
+/// as [`NoSeat`](Refusal::NoSeat). A lock with a time limit that queues takes one more. If half of all are used for that, it
+/// tries until its time is over.
 ///
 /// A thread that holds locks once more by its guard, with [`Guard::again`]: the guard of the deeper hold borrows the first. Any
 /// other [`lock`](Mutex::lock) or try by that thread is refused as [`Holding`](Refusal::Holding). A guard gives `&mut T`, so a
@@ -127,8 +128,8 @@ impl<T: ?Sized> Mutex<T> {
     }
 
     /// Locks as [`lock`](Mutex::lock) does, but at most until the time is over. It queues, so other threads that queue don't
-    /// keep it from its turn. Refused: as `lock`, `NoSeat`, and `Busy`. After `Busy` its place may stay in the queue: if its
-    /// turn has not come, the thread's next lock waits from there.
+    /// keep it from its turn. Refused: as `lock`, and `Busy`. After `Busy` its place may stay in the queue: if its turn has not
+    /// come, the thread's next lock waits from there.
     pub fn try_lock_for(&self, time: Duration) -> Result<MutexGuard<'_, T>, Refusal> {
         self.guard(self.raw.0.try_lock_for(nanoseconds(time)))
     }

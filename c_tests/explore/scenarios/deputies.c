@@ -129,10 +129,10 @@ static void take_last(void) {
 }
 /* One of them gets it: none is refused unless the other has it. */
 static void end_one_taken(void) { CHECK(shared->told >= 1); end_all_taken(); }
-static void timed_refused(void) {
-  lfm_status status = lfm_try_lock_for(mine(), LONG_TIME);
-  CHECK(status == LFM_DONE || status == LFM_NO_SEAT);
-  if (status == LFM_DONE) { section(); released(lfm_unlock(mine())); }
+static void timed_without_deputy(void) {
+  CHECK(lfm_try_lock_for(mine(), LONG_TIME) == LFM_DONE);
+  section();
+  released(lfm_unlock(mine()));
   once_in_order();
 }
 
@@ -158,6 +158,6 @@ const struct scenario deputy_scenarios[] = {
     {"late_timed2", "the same with timed locks", 2, false, open_middle, {late_timed, twice_in_order}, end},
     {"last_number2", "one participant is left, and two threads take it",
      2, false, open_one_left, {take_last, take_last}, end_one_taken},
-    {"no_deputy2", "a timed lock gets no deputy", 2, false, open_none_left, {timed_refused, twice_in_order}, end_all_taken},
+    {"no_deputy2", "a timed lock gets no deputy, and tries until it acquires the mutex", 2, false, open_none_left, {timed_without_deputy, twice_in_order}, end_all_taken},
     {0}
 };

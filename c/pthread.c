@@ -1,23 +1,31 @@
 /* libligdrosa_pthread.so: pthread's mutexes and condition variables over those of Ligdrosa, for programs that are not
- * compiled anew, on Linux with glibc 2.34 or later:
+ * compiled anew, on Linux with glibc 2.34 to 2.40:
  *
  *     LD_PRELOAD=/usr/local/lib/libligdrosa_pthread.so program
  *
  * Mutexes of all four kinds are Ligdrosa's, whether they are initialized by a call or by a constant, and so are condition
- * variables. The calls answer what POSIX says. A process has 4,095 numbers. A thread takes one by its first call, and another
- * one for a lock with a time limit that queues, and keeps them until it ends. A call that finds none left is refused as EAGAIN.
+ * variables. The calls answer what POSIX says. With a glibc that has other condition variables, the program ends at its start,
+ * with a text.
+ *
+ * A process has 4,095 numbers. A thread takes one by its first call, which is refused as EAGAIN if none is left, and keeps it
+ * until it ends. A lock with a time limit that queues takes another one. If its time is over first, this one stays in the
+ * queue until its turn. At most 2,048 are used so: a lock that finds no more tries until its time is over. A thread that ends
+ * while it holds a mutex, or frees the memory of one that it holds, keeps its number for ever. There are at most 16,776,704
+ * mutexes at a time, and those that are never destroyed count by their places. A call that would begin another one is refused
+ * as ENOMEM.
  *
  * What is passed on to the system:
  *
  *   - Mutexes that are robust, shared between processes, or have a protocol of priorities; and condition variables that are
- *     waited at with such a mutex. A condition variable that the system's mutexes were used with is refused to others, as
- *     EINVAL.
+ *     waited at with such a mutex. Until it is initialized anew, a condition variable is waited at with the system's mutexes
+ *     only, or with others only. Another wait is refused as EINVAL.
  *   - All else of pthread: locks for reading and writing, barriers, semaphores, spin locks, pthread_once.
  *   - What glibc locks inside itself, and C11's mtx_lock, cnd_wait and so on. glibc calls its own functions for these.
  *   - What was linked statically.
  *
  * A mutex that lies in memory which processes share, but was not initialized as shared, is not known as one. It works in
- * glibc, and not here.
+ * glibc, and not here. Neither does a shared object that is opened with RTLD_DEEPBIND: it calls glibc's functions, and the
+ * libraries that it calls have these, for the same mutexes.
  *
  * What differs from glibc:
  *
@@ -27,18 +35,21 @@
  *   - A recursive mutex is held at most 65,535 times. A wait at a condition variable gives up all holds of it, and takes them
  *     again. That of glibc gives up one, so others are shut out.
  *   - pthread_cond_destroy is refused as EBUSY while a thread waits, and doesn't wait for it.
- *   - A lock tries before it queues. Those that are queued acquire the mutex in the order in which they queued.
+ *   - A lock tries before it queues. Those that are queued acquire the mutex in the order in which they queued. An unlock
+ *     hands the mutex to the first, whatever its priority, and also while a handler of a signal stops it.
  *   - Threads that wait at a condition variable are woken in the order in which they began to wait. A wait ends only by a wake
  *     or at the end of its time.
+ *   - A thread that waits without a time limit, and is signalled by a holder of its mutex, is woken when that unlocks.
  *   - A thread that sleeps at a condition variable is not woken by pthread_cancel. It acts on that at its next cancellation
  *     point after it was woken. A wait is one before it sleeps, and when its time is over.
  *   - The memory of a mutex in the library is not given back if the program never destroys it, as those of std::mutex are not,
- *     until another mutex lies in the same place. A mutex that was copied is another one, which nobody holds.
+ *     until another mutex lies in the same place. A mutex that was copied, or stored by an earlier run of the program, is
+ *     another one, which nobody holds.
  *
- * In a forked child, a mutex that another thread of the parent held stays held, or that nobody held and another thread asked
- * for. One that the forking thread held, or that nobody held or asked for, is made new by its first call. So the child goes on
- * with it, also between handlers of pthread_atfork. A condition variable that others waited at is to be initialized anew, as
- * with the system.
+ * In a forked child, a mutex that another thread of the parent held stays held, or that nobody held and another thread
+ * asked for. One that the forking thread held is made new at the fork, and one that nobody held or asked for by its first
+ * call. So the child goes on with them, also between handlers of pthread_atfork. A condition variable forgets the parent's
+ * threads that wait there.
  *
  * Nothing here asks malloc for memory, since malloc may lock mutexes of its own by these calls. The system may ask it in a
  * thread's first call. No latch is held then.
@@ -46,6 +57,8 @@
  * This is one compilation unit with the library, so that the fast paths are in line. A preloaded library has its
  * thread-local memory from the start. It is initialized before all others (-z initfirst), so that its handlers of
  * pthread_atfork are the last before a fork and the first after it. */
+/* POSIX has a broadcast wake all. A ring that another waiter makes might never come, since a handler may stop that waiter. */
+#define LFM_UNLOCK_RINGS_FOR_ALL 1
 #include "ligdrosa.c"
 
 #include <dlfcn.h>

@@ -2,13 +2,21 @@
  * their place: whether it is shared between processes, and its clock.
  *
  * One that is flagged as shared is the system's. A wait with a mutex that is passed on sets that flag, and a wait with
- * another mutex clears it. Both are possible only while nobody has waited there by the other way: then all but the flags is
- * zero. The flag is changed before the wait releases the mutex, so a thread that acquires the mutex after it finds the flag
- * as it is. */
+ * another mutex clears it. Both are possible only if nobody has waited there by the other way since it was initialized: then
+ * all but the flags is zero. The flag is changed before the wait releases the mutex, so a thread that acquires the mutex
+ * after it finds the flag as it is.
+ *
+ * A wake that doesn't hold the mutex may come beside that change. So it loads the head of the list before the flag. If it finds
+ * the head null and the flag clear, no waiter was there that it has to wake, and it does nothing. If it finds a waiter and the
+ * flag clear, that waiter is one of the library, since one of the system would have set the flag before. Then the flag stays
+ * clear.
+ *
+ * A forked child lacks the threads of its parent that wait. What is listed of them lies in stacks that the child's own threads
+ * get. So before a call of the child uses the list, it is made empty. That it was is seen by `used_in`. */
 
 struct own_cond {
   lfm_condvar by;
-  uint32_t unused;
+  uint32_t used_in; /* of which process the listed waiters are: one more than its forks; or 0 if there was none yet */
   uint32_t flags;
   uint64_t also_unused;
 };
@@ -24,6 +32,22 @@ FAST_PATH bool is_cond_passed_on(const struct own_cond *own) {
   return UNLIKELY(__atomic_load_n(&own->flags, __ATOMIC_ACQUIRE) & IS_SHARED);
 }
 
+/* Ends the program if the flags of the system's condition variables lie elsewhere, as they do since glibc 2.41: this library
+ * may have been compiled with an older one. Otherwise one that is shared would be taken for one of this process. */
+__attribute__((constructor(103))) static void test_flags(void) {
+  enum { CANT_RUN = 127 };
+  static const char told[] = "libligdrosa_pthread.so: this needs the condition variables of glibc 2.34 to 2.40\n";
+  pthread_condattr_t attributes;
+  pthread_cond_t cond = PTHREAD_COND_INITIALIZER;
+  pthread_condattr_init(&attributes);
+  pthread_condattr_setpshared(&attributes, PTHREAD_PROCESS_SHARED);
+  pthread_condattr_setclock(&attributes, CLOCK_MONOTONIC);
+  system_cond_init(&cond, &attributes);
+  if (own_cond_of(&cond)->flags == FLAGS) return;
+  syscall(SYS_write, STDERR_FILENO, told, sizeof told - 1);
+  _exit(CANT_RUN);
+}
+
 /* Has the condition variable passed on, or not, as the mutex is that a wait has: whether that is possible. */
 static bool settle(struct own_cond *own, bool is_to_pass) {
   struct own_cond unused = {.flags = own->flags & FLAGS};
@@ -31,6 +55,24 @@ static bool settle(struct own_cond *own, bool is_to_pass) {
   if (memcmp(own, &unused, sizeof unused) != 0) return false;
   __atomic_xor_fetch(&own->flags, IS_SHARED, __ATOMIC_ACQ_REL);
   return true;
+}
+
+static uint32_t this_process(void) { return LFM_PROCESS.forks + 1; }
+
+/* The latch is that by which forks are counted. So it is free in a child, and one thread there makes the list empty. No waiter
+ * is listed before. */
+SLOW_PATH void begin_use(struct own_cond *own) {
+  acquire_latch(&LFM_PROCESS.latch);
+  if (own->used_in != this_process()) {
+    memset(&own->by, 0, sizeof own->by);
+    __atomic_store_n(&own->used_in, this_process(), __ATOMIC_RELEASE);
+  }
+  release_latch(&LFM_PROCESS.latch);
+}
+
+/* Has the list be one of waiters of this process. It is not passed on. */
+FAST_PATH void use_here(struct own_cond *own) {
+  if (UNLIKELY(__atomic_load_n(&own->used_in, __ATOMIC_ACQUIRE) != this_process())) begin_use(own);
 }
 
 /* Waits, at most until this time if there is one, with all holds of a recursive mutex. */
@@ -46,6 +88,7 @@ static lfm_status wait_by(struct own_cond *cond, struct own_mutex *mutex, clocki
   struct own_mutex *with = own_of(mutex);                                                    \
   if (!settle(own, is_passed_on(with))) return EINVAL;                                       \
   MAKE_READY_OR_RETURN(with, passed_on);                                                     \
+  use_here(own);                                                                             \
   pthread_testcancel();                                                                      \
   lfm_status status = wait_by(own, with, clock, end);                                        \
   if (status == LFM_TIMED_OUT) pthread_testcancel();                                         \
@@ -61,7 +104,9 @@ EXPORTED int pthread_cond_init(pthread_cond_t *cond, const pthread_condattr_t *a
 
 EXPORTED int pthread_cond_destroy(pthread_cond_t *cond) {
   struct own_cond *own = own_cond_of(cond);
-  return is_cond_passed_on(own) ? system_cond_destroy(cond) : error_of(lfm_condvar_close(&own->by));
+  if (is_cond_passed_on(own)) return system_cond_destroy(cond);
+  use_here(own);
+  return error_of(lfm_condvar_close(&own->by));
 }
 
 EXPORTED int pthread_cond_wait(pthread_cond_t *cond, pthread_mutex_t *mutex) {
@@ -79,16 +124,20 @@ EXPORTED int pthread_cond_clockwait(pthread_cond_t *cond, pthread_mutex_t *mutex
   RETURN_WAIT(cond, mutex, clock, end, system_cond_clockwait(cond, mutex, clock, end));
 }
 
+/* The body of the two wakes. */
+#define RETURN_WAKE(cond, passed_on, own_wake)                                               \
+  struct own_cond *own = own_cond_of(cond);                                                  \
+  bool has_waiter = __atomic_load_n(&own->by.oldest, __ATOMIC_ACQUIRE);                      \
+  if (is_cond_passed_on(own)) return passed_on;                                              \
+  if (!has_waiter) return 0;                                                                 \
+  use_here(own);                                                                             \
+  own_wake;                                                                                  \
+  return 0
+
 EXPORTED int pthread_cond_signal(pthread_cond_t *cond) {
-  struct own_cond *own = own_cond_of(cond);
-  if (is_cond_passed_on(own)) return system_cond_signal(cond);
-  lfm_wake_one(&own->by);
-  return 0;
+  RETURN_WAKE(cond, system_cond_signal(cond), lfm_wake_one(&own->by));
 }
 
 EXPORTED int pthread_cond_broadcast(pthread_cond_t *cond) {
-  struct own_cond *own = own_cond_of(cond);
-  if (is_cond_passed_on(own)) return system_cond_broadcast(cond);
-  lfm_wake_all(&own->by);
-  return 0;
+  RETURN_WAKE(cond, system_cond_broadcast(cond), lfm_wake_all(&own->by));
 }

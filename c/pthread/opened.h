@@ -5,12 +5,14 @@
  * place, where constants and pthread_mutex_init write it. Before it lies what glibc changes in a lock: zero, so glibc's own
  * calls find a mutex that is free. After it lies a mark.
  *
- * The mark says that the mutex is open: it was made of the address, and of a number that each forked child changes. So a
- * call sees by one comparison whether the mutex is open in this process and in this place. Otherwise it is
+ * The mark says that the mutex is open: it was made of the address, and of a number that each program draws as it begins, and
+ * each forked child changes. So a call sees by one comparison whether the mutex is open in this process and in this place.
+ * Otherwise it is
  *
  *   - zero, as it was initialized;
  *   - or one of the parent, which a forked child makes new (lfm_after_fork);
- *   - or a copy of another one, which POSIX doesn't allow, but works in glibc. It gets a mutex of its own.
+ *   - or a copy of another one, which POSIX doesn't allow, but works in glibc. It gets a mutex of its own;
+ *   - or one of an earlier run, in memory that was stored and is mapped at the same address. It gets one too.
  *
  * Many mutexes are never destroyed: the destructor of std::mutex doesn't. So a table says which mutex was opened at which
  * address. If another mutex is opened there, the one before is closed. So there are at most as many open ones as addresses
@@ -49,7 +51,7 @@ FAST_PATH bool is_ready(const struct own_mutex *mutex) {
  * is no free place between. The latch is held for what finds and changes them. */
 
 struct opening {
-  const struct own_mutex *at; /* null in a free place */
+  struct own_mutex *at; /* null in a free place */
   struct lfm_core *core;
 };
 
@@ -133,21 +135,45 @@ static lfm_status open_here(struct own_mutex *mutex) {
   return LFM_DONE;
 }
 
-/* Forks: the latch is held over them, and a child has another mark. The library's own handlers are made before, so its
- * latches are taken last. */
+/* The number of this program, from 16 bytes that the system draws for each. glibc has secrets of its own from the same bytes.
+ * So all of them are mixed, and half of the result is left out: then a mark tells none of the secrets. */
+static uint32_t draw_mark(void) {
+  enum { BYTES_DRAWN = 16 };
+  const unsigned char *drawn = (const unsigned char *)getauxval(AT_RANDOM);
+  uint64_t mixed = 0;
+  for (int i = 0; drawn && i < BYTES_DRAWN; i++) mixed = (mixed ^ drawn[i]) * UINT64_C(0x9E3779B97F4A7C15);
+  return (uint32_t)(mixed >> 32);
+}
+
+/* Forks: the latch is held over them, and a child has another mark. Mutexes that the forking thread holds are made new at
+ * once, by that thread: otherwise the first call of one might be another thread's, for which it would stay held for ever. The
+ * library's own handlers are made before, so its latches are taken last and released first. */
 
 static void hold_opened(void) { acquire_latch(&opened.latch); }
 static void release_opened(void) { release_latch(&opened.latch); }
 
+/* Makes the mutex of this opening new if the calling thread holds it. If there is no memory, its next call tries again. */
+static void take_over_held(struct opening *opening) {
+  if (!opening->at || !depth_of(own.by, (mutex_word)(uintptr_t)opening->core)) return;
+  struct own_mutex *mutex = opening->at;
+  if (take_over(mutex) != LFM_DONE) return;
+  opening->core = mutex->by.core;
+  __atomic_store_n(&mutex->mark, mark_of(mutex), __ATOMIC_RELEASE);
+}
+
 static void change_mark(void) {
   process_mark += 0x9E3779B2;
+  for (size_t i = 0; own.by->holds && i < opened.room; i++) take_over_held(&opened.all[i]);
   release_latch(&opened.latch);
 }
 
+/* The mark is drawn before the first mutex is opened, while the program has one thread. If the system had no memory for the
+ * handlers then, they are tried again, and it is drawn as it was. */
 __attribute__((constructor(102))) static void change_mark_at_forks(void) {
   static bool is_made;
   watch_forks();
   if (__atomic_exchange_n(&is_made, true, __ATOMIC_SEQ_CST)) return;
+  process_mark = draw_mark();
   if (pthread_atfork(hold_opened, release_opened, change_mark) != 0) __atomic_store_n(&is_made, false, __ATOMIC_SEQ_CST);
 }
 

@@ -1,0 +1,55 @@
+/* A thread forks while it holds a mutex for which another thread is queued, and after it has signalled a third one. In the child
+ * another thread makes the first call of the mutex: it sleeps until the thread that forked unlocks. The test passes with
+ * libligdrosa_pthread.so preloaded, and with the system's mutex. */
+#define _GNU_SOURCE
+#include "../children.h"
+
+enum { SOON = 100000 }; /* microseconds, in which a thread that was started falls asleep */
+static pthread_mutex_t mutex = PTHREAD_MUTEX_INITIALIZER;
+static pthread_cond_t changed = PTHREAD_COND_INITIALIZER;
+static bool is_changed;
+static int calls;
+
+static void *lock_once(void *at) {
+  EXPECT(pthread_mutex_lock(&mutex), 0);
+  calls++;
+  EXPECT(pthread_mutex_unlock(&mutex), 0);
+  return at;
+}
+
+static void *wait_for_change(void *at) {
+  EXPECT(pthread_mutex_lock(&mutex), 0);
+  while (!is_changed) EXPECT(pthread_cond_wait(&changed, &mutex), 0);
+  EXPECT(pthread_mutex_unlock(&mutex), 0);
+  return at;
+}
+
+static void unlock_after_another_call(void) {
+  pthread_t other;
+  EXPECT(pthread_create(&other, NULL, lock_once, NULL), 0);
+  usleep(SOON);
+  EXPECT(calls, 0);
+  EXPECT(pthread_mutex_unlock(&mutex), 0);
+  EXPECT(pthread_join(other, NULL), 0);
+  EXPECT(calls, 1);
+  EXPECT(pthread_mutex_lock(&mutex), 0);
+  EXPECT(pthread_mutex_unlock(&mutex), 0);
+}
+
+int main(void) {
+  pthread_t waits, queued;
+  EXPECT(pthread_create(&waits, NULL, wait_for_change, NULL), 0);
+  usleep(SOON);
+  EXPECT(pthread_mutex_lock(&mutex), 0);
+  is_changed = true;
+  EXPECT(pthread_cond_signal(&changed), 0);
+  EXPECT(pthread_create(&queued, NULL, lock_once, NULL), 0);
+  usleep(SOON);
+  EXPECT(in_child(unlock_after_another_call), 0);
+  EXPECT(calls, 0);
+  EXPECT(pthread_mutex_unlock(&mutex), 0);
+  EXPECT(pthread_join(waits, NULL), 0);
+  EXPECT(pthread_join(queued, NULL), 0);
+  EXPECT(calls, 1);
+  return 0;
+}

@@ -28,9 +28,9 @@ use std::{
 
 /// A [`ligdrosa::Mutex`] without a value, whose guards are forgotten.
 ///
-/// A lock that is refused ends the program with a text, for whatever cause. So does a lock by a thread that holds, and thus the
-/// end of [`unlocked`](lock_api::MutexGuard::unlocked) if its function has kept or forgotten another guard of the mutex. A lock
-/// doesn't panic, since a panic at that end could be caught: then the guard would live on without a hold.
+/// A lock that is refused ends the program with a text, for whatever cause. So does a lock by a thread that holds, and so does
+/// the end of [`unlocked`](lock_api::MutexGuard::unlocked) if its function has kept or forgotten another guard of the mutex. A
+/// lock doesn't panic, since a panic at that end could be caught: then the guard would live on without a hold.
 ///
 /// A `try_lock` that is refused is false, for whatever cause: then `is_locked` is true and `Debug` shows the mutex as locked. A
 /// try with a time limit is false if the time is over, or at once if the thread holds. If it is refused for another cause, it

@@ -27,7 +27,9 @@ const SVG_HEAD = `<defs>
 
 // ---- the lanes: one for each seat, and one row for each start of a call, each step and each answer
 
-const PITCH = 20, TOP = 12, GUTTER = 104;
+const PITCH = 20, TOP = 12;
+// how wide the lines of the schedule are, at the left of the lanes
+const LINES = 130;
 // the words at the right of the lanes: the part of a trace's line, and how far to the right it stands
 const COLUMNS = [['count', 0, 8], ['owner', 1, 54], ['handoff', 2, 100], ['queue', 4, 156]];
 
@@ -56,7 +58,7 @@ function laneWidths(graph, rows, least) {
   const texts = rows.map(({ event, name, detail }) => ({ seat: event.seat, length: name.length + detail.length }));
   const longest = seat => Math.max(18, ...texts.filter(text => text.seat === seat).map(({ length }) => length));
   const widths = graph.seatNumbers.map(seat => 54 + Math.ceil(longest(seat) * 6.6));
-  const spare = least - GUTTER - widths.reduce((sum, width) => sum + width, 0);
+  const spare = least - LINES - widths.reduce((sum, width) => sum + width, 0);
   return widths.map(width => width + Math.max(0, Math.floor(spare / graph.seats)));
 }
 
@@ -94,9 +96,9 @@ function valuesWidth(graph, rows) {
   return Math.max(218, COLUMNS[COLUMNS.length - 1][2] + 10 + 7 * longest);
 }
 
-// where seats and rows stand, in lanes and values of at least this width together
+// where seats and rows stand, in lines, lanes and values of at least this width together
 function layoutOf(graph, rows, least) {
-  const starts = [GUTTER], values = valuesWidth(graph, rows);
+  const starts = [0], values = valuesWidth(graph, rows);
   for (const width of laneWidths(graph, rows, least - values)) starts.push(starts[starts.length - 1] + width);
   return {
     values, width: starts[graph.seats], height: Math.max(TOP + (rows.length + 1) * PITCH, 120),
@@ -115,8 +117,8 @@ function laneNow(view, { x }) {
   return seat === 0 ? { left: 0, right: 0 } : { left: x(seat) - 26, right: x(seat + 1) - 26 };
 }
 
-// the heads of the lanes and of the values, the lanes and the values themselves, how wide the values are, and where the row
-// of the present moment stands, and the lane of its seat
+// the heads of the lanes and of the values, the lines, the lanes and the values themselves, how wide lines and values are, and
+// where the row of the present moment stands, and the lane of its seat
 function drawLanes(view, least) {
   const rows = rowsOf(view), layout = layoutOf(view.graph, rows, least);
   const { x, y, width, height, values } = layout;
@@ -127,12 +129,13 @@ function drawLanes(view, least) {
 <rect class="hit" x="0" y="${y(r) - PITCH / 2}" width="${width}" height="${PITCH}"/></g>`);
   const drawn = draw => rows.map((row, r) => draw(view, row, rows[r - 1], layout, y(r)));
   return {
-    heads: drawing('', width, 26, heads)
+    heads: drawing('lines', LINES, 26, []) + drawing('', width, 26, heads)
       + drawing('values', values, 26, COLUMNS.map(([word, , right]) => label(right, 17, 'soft', word))),
-    body: drawing('', width, height, [SVG_HEAD, ...hits(width), ...lanes, drawBars(view, rows, layout),
+    body: drawing('lines', LINES, height, [...hits(LINES), ...drawn(drawLine)])
+      + drawing('', width, height, [SVG_HEAD, ...hits(width), ...lanes, drawBars(view, rows, layout),
       drawArrows(view, rows, layout), ...drawn(drawRow)])
       + drawing('values', values, height, [...hits(values), ...drawn(drawValues)]),
-    values,
+    aside: LINES + values,
     now: y(rows.findIndex(row => row.moment === view.at)),
     ...laneNow(view, layout),
   };
@@ -201,12 +204,16 @@ function ruleAbove(row, before, y, width) {
   return before && before.event.line === row.event.line ? '' : `<path d="M0 ${y - PITCH / 2}H${width}" class="rule"/>`;
 }
 
+// the number and the text of a line of the schedule, at its first row
+function drawLine(view, row, before, layout, y) {
+  const rule = ruleAbove(row, before, y, LINES);
+  if (rule === '') return '';
+  const events = view.path.filter(event => event.line === row.event.line);
+  return drawnRow(view, row, [rule, label(12, y + 4, 'soft', row.event.line), label(38, y + 4, '', lineText(events))]);
+}
+
 function drawRow(view, row, before, layout, y) {
-  const left = layout.x(row.event.seat), rule = ruleAbove(row, before, y, layout.width), out = [rule];
-  if (rule !== '') {
-    const events = view.path.filter(event => event.line === row.event.line);
-    out.push(label(12, y + 4, 'soft', row.event.line), label(38, y + 4, '', lineText(events)));
-  }
+  const left = layout.x(row.event.seat), out = [ruleAbove(row, before, y, layout.width)];
   if (row.kind === 'step') out.push(`<circle cx="${left}" cy="${y}" r="3.5" class="mark"/>`);
   if (row.kind === 'begin') out.push(`<circle cx="${left}" cy="${y}" r="4" class="hollow"/>`);
   if (row.kind === 'refused') out.push(`<path d="M${left - 4} ${y - 4}l8 8m0 -8l-8 8" class="cross"/>`);

@@ -71,12 +71,12 @@ function showLanes() {
     lanes.scrollTop = 0;
     return;
   }
-  const { heads, body, values, now, left, right } = drawLanes(view, lanes.clientWidth);
+  const { heads, body, aside, now, left, right } = drawLanes(view, lanes.clientWidth);
   lanes.innerHTML = `<div class="heads">${heads}</div><div class="rows">${body}</div>`;
   const isAbove = now < lanes.scrollTop + 40, isBelow = now > lanes.scrollTop + lanes.clientHeight - 60;
   if (isAbove || isBelow) lanes.scrollTop = Math.max(0, now - 120);
   // the lane of the last event is in sight, or its beginning, where all of it has no room
-  const seen = lanes.clientWidth - values;
+  const seen = lanes.clientWidth - aside;
   if (left < lanes.scrollLeft || right > lanes.scrollLeft + seen) lanes.scrollLeft = Math.max(0, Math.min(left, right - seen));
 }
 

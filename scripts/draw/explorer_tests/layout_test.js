@@ -137,23 +137,24 @@ if (threeFile) for (const [width, height] of [[1450, 900], [1000, 800]]) {
   });
 }
 
-// the lanes, the values, and the texts of the present row in the lanes: where they are on the screen
+// the lines of the schedule, the values, and the texts of the present row in the lanes: where they are on the screen
 const placesOfNow = () => browser.run(`(() => {
   const place = element => { const { left, right, top } = element.getBoundingClientRect(); return { left, right, top }; };
   const { top, bottom } = document.querySelector('.now .hit').getBoundingClientRect();
-  const texts = [...document.querySelectorAll('.rows svg:first-child text.halo')].map(place);
-  return { lanes: place(document.getElementById('lanes')), values: place(document.querySelector('.rows .values')),
+  const texts = [...document.querySelectorAll('.rows text.halo')].map(place);
+  return { lanes: place(document.getElementById('lanes')), lines: place(document.querySelector('.rows .lines')),
+    values: place(document.querySelector('.rows .values')),
     texts: texts.filter(text => text.top >= top - 1 && text.top < bottom) }; })()`);
 
-test('the present row and the values stay in sight where the lanes are scrolled', async () => {
+test('the present row, the lines and the values stay in sight where the lanes are scrolled', async () => {
   await browser.open(address(pageFile), 1000, 800);
   await chooseTitle('Pop list beside push list');
   const last = await browser.run('view.path.length');
   for (let at = last; at > 0; at -= 5) {
     await browser.run(`goTo(${at})`);
-    const { lanes, values, texts } = await placesOfNow();
-    assert(values.right <= lanes.right + 1 && values.left >= lanes.left);
-    assert(texts.length > 0 && texts.every(({ left, right }) => left >= lanes.left && right <= values.left + 1), `moment ${at}`);
+    const { lanes, lines, values, texts } = await placesOfNow();
+    assert(values.right <= lanes.right + 1 && lines.left >= lanes.left - 1 && values.left >= lines.right - 1);
+    assert(texts.length > 0 && texts.every(({ left, right }) => left >= lines.right - 1 && right <= values.left + 1), `moment ${at}`);
   }
 });
 

@@ -40,6 +40,12 @@ def build(folder, objects, c_file=TOP / "c/ligdrosa.c", more=()):
     return folder / "explore"
 
 
+def build_with_rings_for_all(folder, objects):
+    """The explorer over the model, with the unlock of the library to preload."""
+    folder.mkdir()
+    return build(folder, objects, more=["-DLFM_UNLOCK_RINGS_FOR_ALL=1"])
+
+
 def build_over_proved_calls(folder, objects):
     """The explorer over the proved calls themselves, which take the place of the first object, or None if they are not
     built, or without pools."""

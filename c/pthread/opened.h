@@ -152,18 +152,28 @@ static uint32_t draw_mark(void) {
 static void hold_opened(void) { acquire_latch(&opened.latch); }
 static void release_opened(void) { release_latch(&opened.latch); }
 
+/* Whether the mutex of this opening still lies there. A program may have freed the memory of a mutex that it holds: the system may
+ * have it back, or it may have other contents. */
+static bool is_in_place(const struct opening *opening) {
+  const struct own_mutex *mutex = opening->at;
+  unsigned char pages[2];
+  int before = errno;
+  uintptr_t page = (uintptr_t)sysconf(_SC_PAGESIZE), begin = (uintptr_t)mutex & ~(page - 1);
+  bool is_mapped = mincore((void *)begin, (uintptr_t)(mutex + 1) - begin, pages) == 0;
+  errno = before;
+  return is_mapped && mutex->mark == mark_of(mutex) && mutex->by.core == opening->core;
+}
+
 /* Makes the mutex of this opening new if the calling thread holds it. If there is no memory, its next call tries again. */
 static void take_over_held(struct opening *opening) {
-  if (!opening->at || !depth_of(own.by, (mutex_word)(uintptr_t)opening->core)) return;
-  struct own_mutex *mutex = opening->at;
-  if (take_over(mutex) != LFM_DONE) return;
-  opening->core = mutex->by.core;
-  __atomic_store_n(&mutex->mark, mark_of(mutex), __ATOMIC_RELEASE);
+  if (!opening->at || !depth_of(own.by, (mutex_word)(uintptr_t)opening->core) || !is_in_place(opening)) return;
+  take_over(opening->at);
+  opening->core = opening->at->by.core;
 }
 
 static void change_mark(void) {
-  process_mark += 0x9E3779B2;
   for (size_t i = 0; own.by->holds && i < opened.room; i++) take_over_held(&opened.all[i]);
+  process_mark += 0x9E3779B2;
   release_latch(&opened.latch);
 }
 

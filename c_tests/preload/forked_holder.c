@@ -1,10 +1,14 @@
 /* A thread forks while it holds a mutex for which another thread is queued, and after it has signalled a third one. In the child
- * another thread makes the first call of the mutex: it sleeps until the thread that forked unlocks. The test passes with
+ * another thread makes the first call of the mutex: it sleeps until the thread that forked unlocks. The thread also holds mutexes
+ * whose memory the system has back, or has other contents: the child lets that memory alone. The test passes with
  * libligdrosa_pthread.so preloaded, and with the system's mutex. */
 #define _GNU_SOURCE
+#include <sys/mman.h>
 #include "../children.h"
 
 enum { SOON = 100000 }; /* microseconds, in which a thread that was started falls asleep */
+enum { PAGE = 4096, OVER = 0x5A };
+static unsigned char contents[sizeof(pthread_mutex_t)];
 static pthread_mutex_t mutex = PTHREAD_MUTEX_INITIALIZER;
 static pthread_cond_t changed = PTHREAD_COND_INITIALIZER;
 static bool is_changed;
@@ -24,8 +28,20 @@ static void *wait_for_change(void *at) {
   return at;
 }
 
+/* Locks a mutex in memory that is mapped for it. */
+static pthread_mutex_t *lock_in_own_memory(void) {
+  void *at = mmap(NULL, PAGE, PROT_READ | PROT_WRITE, MAP_PRIVATE | MAP_ANONYMOUS, -1, 0);
+  EXPECT(at == MAP_FAILED, false);
+  EXPECT(pthread_mutex_init((pthread_mutex_t *)at, NULL), 0);
+  EXPECT(pthread_mutex_lock((pthread_mutex_t *)at), 0);
+  return (pthread_mutex_t *)at;
+}
+
+static pthread_mutex_t *overwritten;
+
 static void unlock_after_another_call(void) {
   pthread_t other;
+  EXPECT(memcmp(overwritten, contents, sizeof contents), 0);
   EXPECT(pthread_create(&other, NULL, lock_once, NULL), 0);
   usleep(SOON);
   EXPECT(calls, 0);
@@ -40,6 +56,10 @@ int main(void) {
   pthread_t waits, queued;
   EXPECT(pthread_create(&waits, NULL, wait_for_change, NULL), 0);
   usleep(SOON);
+  EXPECT(munmap(lock_in_own_memory(), PAGE), 0);
+  overwritten = lock_in_own_memory();
+  memset(contents, OVER, sizeof contents);
+  memcpy(overwritten, contents, sizeof contents);
   EXPECT(pthread_mutex_lock(&mutex), 0);
   is_changed = true;
   EXPECT(pthread_cond_signal(&changed), 0);

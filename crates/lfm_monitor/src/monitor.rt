@@ -80,10 +80,11 @@ impl<O: Object> Monitor<O> {
     ghost use Rattle.std.specs.Prelude.{MatchBool};
     ghost use Rattle.lfm_monitor.specs.Belongs.{OfMonitor, conditions_in, conditions_of, plain_conditions_in, plain_conditions_of};
 
-    /// Sets the pace of the monitor's mutex and of the list of each condition: how often a pass tries before it queues, and how
-    /// often a queued pass polls for its grant before it sleeps. For the monitor, a pass tries only in `hold`, in `run`, and when
-    /// a wait on a plain condition acquires it again. For a list, it tries in each wait and wake. A pass that waits to be sent
-    /// or notified polls before it sleeps only if it waits alone, as `wait` says.
+    /// Sets the pace of the monitor's mutex and of the list of each condition: how often a pass tries before it queues, and
+    /// how often a queued pass polls for its grant before it sleeps. For the monitor, a pass tries only in `hold`, in `run`,
+    /// and when a wait on a plain condition that was woken alone, or timed out, acquires it again. For a list, it tries in
+    /// each wait and wake. A pass that waits to be sent or notified polls before it sleeps only if it waits alone, as `wait`
+    /// says.
     ///
     /// The passes of the monitor still belong to it. The pace is set before threads share the monitor.
     pub fn set_pace(&mut self, pace: Pace)

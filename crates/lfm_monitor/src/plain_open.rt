@@ -44,8 +44,8 @@ pub(crate) fn new_plain_conditions(
 
 impl<O: Object> Monitor<O> {
     /// `new`, but its conditions are plain: each is a `PlainCondvar` of `lfm_plain_condvar`. A wait on them may have a time
-    /// limit, a pass that is woken acquires the monitor by itself, as in `hold`, and a wake sends nobody. A wait with a time
-    /// limit may cost two of the 2^36 waits and wakes.
+    /// limit, a pass that is woken acquires the monitor by itself, as `wait` says, and a wake sends nobody. A wait with a
+    /// time limit may cost two of the 2^36 waits and wakes.
     ///
     /// The limits and the faults are those of `new`.
     pub fn with_plain_conditions(

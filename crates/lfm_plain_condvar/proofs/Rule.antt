@@ -8,6 +8,8 @@ use Rattle.atomic_table.specs.Table.{Me, Act, keeps, takes, gives, Valid, carrie
 use Rattle.atomic_table.proofs.Lists.{set_here, set_else, some_there}
 use Rattle.lfm_model.proofs.Sums.{one_most, one_other, one_same}
 use Rattle.lfm_plain_condvar.specs.declared.parkers.Notices.{Notices}
+use Rattle.lfm_plain_condvar.specs.declared.parkers.woken.Woken.{Woken}
+use Rattle.lfm_plain_condvar.specs.WokenWords.{notified_word}
 use Rattle.lfm_plain_condvar.specs.Parkers.{HasEachOnce, Notifies, ParkersHold, Retires, StartsWithNone, TakesIfNotified, if_parked, no_notices, owners, times, with_those}
 
 abbrev U : Type 0
@@ -86,13 +88,13 @@ one_more words views i n h notified all k = let m = owners_more k views (record 
     ((omega arith), λ two. let t : 2 ≤ get_or (set words i n) i 0 = subst (λ (j : ℕ). 2 ≤ get_or (set words i n) j 0) e two in absurd (omega arith)))
     (λ ne. let one = one_other i k (λ e. ne (sym e)) in let o = get_or-set_other words i k n 0 ne in ((omega arith), λ two. let d = a.1 (omega arith) in omega arith))
 
--- the seat that had the waker of parker i has notified it
-one_less : (words : List ℕ) (views : List Notices) (i id : ℕ) (v : Notices) (found : List ℕ) → v.wakers ≡ i ∷ [] → get_elem? views id ≡ some v → Owned words views → Owned (set words i 2) (set views id (record { parkers = i ∷ []; wakers = []; parked = found }))
-one_less words views i id v found its at all k =
+-- the seat that had the waker of parker i has notified it, by the word n
+one_less : (words : List ℕ) (views : List Notices) (i n id : ℕ) (v : Notices) (found : List ℕ) → v.wakers ≡ i ∷ [] → get_elem? views id ≡ some v → Owned words views → Owned (set words i n) (set views id (record { parkers = i ∷ []; wakers = []; parked = found }))
+one_less words views i n id v found its at all k =
     let m = owners_set k views id v (record { parkers = i ∷ []; wakers = []; parked = found }) at in let a = all k in let b = a.0 in
     let had : times k v.wakers ≡ times k (i ∷ []) = ap (times k) its in dite (ℕ_discrete k i)
     (λ e. let one = one_same i k (sym e) in (omega arith, λ two. omega arith))
-    (λ ne. let one = one_other i k (λ e. ne (sym e)) in let o = get_or-set_other words i k 2 0 ne in (omega arith, λ two. let d = a.1 (omega arith) in omega arith))
+    (λ ne. let one = one_other i k (λ e. ne (sym e)) in let o = get_or-set_other words i k n 0 ne in (omega arith, λ two. let d = a.1 (omega arith) in omega arith))
 
 -- Steps
 
@@ -105,13 +107,13 @@ arrives slots i n h s all len small = arrive (dec_le 2 (get_or s.words i 0)) whe
   arrive (no not) = (no_notices, keeps, tt, (emptied s.words s.homes i n h all.0, lowered s.words s.views (s.views ++ no_notices ∷ []) i n h (λ k. let m = owners_more k s.views no_notices in omega arith) all.1), λ notified. absurd (not notified))
 
 -- a swap by the seat that has the waker notifies the parker, and gives the waker back
-pub notifies : (slots id i : ℕ) (me : Me U Notices) → me.0.wakers ≡ i ∷ [] → me.1 ≡ (i, tt) ∷ [] → i < slots → Allows ParkersHold slots id me i (λ _. 2) (Notifies (step slots i 2 0 none) me)
-notifies slots id i me has its inside s all len view small = (
+pub notifies : (slots id i n : ℕ) (me : Me U Notices) (w : Woken) → n ≡ notified_word w → me.0.wakers ≡ i ∷ [] → me.1 ≡ (i, tt) ∷ [] → i < slots → Allows ParkersHold slots id me i (λ _. n) (Notifies (step slots i n 0 none) me)
+notifies slots id i n me w says has its inside s all len view small = (
   record { parkers = i ∷ []; wakers = []; parked = if_parked i (get_or s.words i 0) },
   gives,
   tt,
-  (subst (λ (c : List (ℕ × U)). Home (set s.words i 2) (put_back s.homes c)) (sym its) (given s.words s.homes i 2 (omega arith) all.0), one_less s.words s.views i id me.0 (if_parked i (get_or s.words i 0)) has view all.1),
-  (refl, refl, refl),
+  (subst (λ (c : List (ℕ × U)). Home (set s.words i n) (put_back s.homes c)) (sym its) (given s.words s.homes i n (omega arith) all.0), one_less s.words s.views i n id me.0 (if_parked i (get_or s.words i 0)) has view all.1),
+  ((w, says), refl, refl),
 )
 
 -- the views are as they were

@@ -11,3 +11,4 @@ pub mod Polls
 pub mod Repeated
 pub mod Waits
 pub mod Wakes
+pub mod WokenWords

@@ -4,6 +4,8 @@ use mathlib.Core.Option.{some}
 use lib.ListN.{get_elem?}
 use Rattle.atomic_table.specs.Table.{State, Me, Step, rest}
 use Rattle.lfm_plain_condvar.specs.declared.parkers.Notices.{Notices}
+use Rattle.lfm_plain_condvar.specs.declared.parkers.woken.Woken.{Woken}
+use Rattle.lfm_plain_condvar.specs.WokenWords.{notified_word}
 
 abbrev pub no_notices : Notices
 no_notices = record { parkers = []; wakers = []; parked = [] }
@@ -45,10 +47,10 @@ TakesIfNotified x before found after = 2 ≤ found → IsWakerOf x.word after
 abbrev pub if_parked : ℕ → ℕ → List ℕ
 if_parked k found = (if found == 1 then k ∷ [] else [])
 
--- the parker's word is now NOTIFIED, its waker went back to the table, and the seat has notified this parker, and knows
--- whether it found its thread parked
+-- the parker's word now says that it was notified, its waker went back to the table, and the seat has notified this parker,
+-- and knows whether it found its thread parked
 abbrev pub Notifies : Step (Unit {0}) → Me (Unit {0}) Notices → ℕ → Me (Unit {0}) Notices → Type 0
-Notifies x before found after = (x.first ≡ 2) × (after.0 ≡ record { parkers = x.word ∷ []; wakers = []; parked = if_parked x.word found }) × (after.1 ≡ rest before.1)
+Notifies x before found after = ((w : Woken) × (x.first ≡ notified_word w)) × (after.0 ≡ record { parkers = x.word ∷ []; wakers = []; parked = if_parked x.word found }) × (after.1 ≡ rest before.1)
 
 -- the seat keeps its view, and gives its slot back
 abbrev pub Retires : Step (Unit {0}) → Me (Unit {0}) Notices → ℕ → Me (Unit {0}) Notices → Type 0

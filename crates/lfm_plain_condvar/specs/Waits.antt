@@ -61,15 +61,15 @@ module _ {T : Type 0} where
   GivesUp user s t = LeavesOff s t × (t.takes ≡ s.takes) × Unlocks user s t
 
 module _ {T : Type 0} (follows : ℕ → T → T → Type 0) (fits : T → ℕ → Type 0) where
-  -- the seat acquired its mutex in this way, by one lock_barging
+  -- the seat acquired its mutex in this way, by the steps of one lock_barging. Those of a lock are among them, without a try
   abbrev pub ComesBackAs : Limits → ℕ → How → Sight T → Sight T → Type 0
   ComesBackAs user tries how s t = Gains follows fits user.budget how s t × BargesBy user tries s t (Ok (Locked.Held how))
 
-  -- the seat gave up its mutex by one unlock, and acquired it again in this way, by one lock_barging
+  -- the seat gave up its mutex by one unlock, and acquired it again in this way
   abbrev pub GivesUpAndComesBackAs : Limits → ℕ → How → Sight T → Sight T → Type 0
   GivesUpAndComesBackAs user tries how s t = (m : Sight T) × GivesUp user s m × ComesBackAs user tries how m t
 
-  -- the seat gave up its mutex by one unlock, and acquired it again by one lock_barging
+  -- the seat gave up its mutex by one unlock, and acquired it again
   abbrev pub GivesUpAndComesBack : Limits → ℕ → Sight T → Sight T → Type 0
   GivesUpAndComesBack user tries s t = (m : Sight T) × GivesUp user s m × ((how : How) × ComesBackAs user tries how m t)
 

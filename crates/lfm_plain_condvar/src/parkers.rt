@@ -11,6 +11,7 @@ ghost use Rattle.lfm_plain_condvar.specs.Parked.{Gathers, IsOwedTo, owed_after};
 ghost use Rattle.lfm_plain_condvar.specs.Parkers.{HasEachOnce, IsWakerOf, Notifies, ParkersHold, Retires, StartsWithNone, TakesIfNotified, no_notices, times, with_those};
 
 mod parked;
+pub mod woken;
 
 use crate::polls::PollCredit;
 use crate::time_is_over::TimeIsOver;
@@ -24,6 +25,7 @@ use std::collections::LinkedList;
 use std::hint::spin_loop;
 use std::sync::Wait;
 use std::time::Clock;
+pub(crate) use woken::Woken;
 
 /// The parker was not notified, and its thread is not about to park.
 const EMPTY: u64 = 0;
@@ -31,8 +33,11 @@ const EMPTY: u64 = 0;
 /// The thread of the parker is parked, or is about to park.
 const PARKED: u64 = 1;
 
-/// The parker was notified, and its waker is in the table.
+/// The parker was notified, and its waker is in the table. Every word of at least this value says so.
 const NOTIFIED: u64 = 2;
+
+/// The same, and the wake took other waiters out of the list too.
+const NOTIFIED_WITH_OTHERS: u64 = 3;
 
 /// How many pauses a thread makes between two polls of its parker.
 const PAUSES: u32 = 4;
@@ -99,11 +104,13 @@ impl Join<Notices> for NoticesJoined {
     ghost spent = { no_notices };
 }
 
-/// The right to notify one parker. There is only one waker for each parker.
+/// The right to notify one parker. There is only one waker for each parker. The waker also says how the seat was woken when
+/// it was last woken.
 #[derive(Drop)]
 pub struct Waker {
     seat: Seat<(), Notices>,
     pub(crate) number: u64,
+    pub(crate) woken: Woken,
     pub ghost its: { IsWakerOf number seat.me },
 }
 
@@ -182,7 +189,11 @@ impl Parkers {
             .shared
             .swap_new_seat::<WakerTaken>(number as usize, word);
         if found >= NOTIFIED {
-            Some(Waker { seat, number })
+            Some(Waker {
+                seat,
+                number,
+                woken: Woken::of_word(found),
+            })
         } else {
             None
         }
@@ -210,7 +221,7 @@ impl Parkers {
 
     /// Notifies the parker of this waker. If its thread is parked, it returns the duty to wake that thread. It makes one swap
     /// and one load.
-    fn set_notified(&self, waker: Waker, log: &mut NoticeLog) -> Notified
+    fn set_notified(&self, waker: Waker, woken: Woken, log: &mut NoticeLog) -> Notified
         requires waker { (waker.number ≤ self.now.seats) × (waker.seat.table_id ≡ self.now.table.shared.table_id) }
         requires log { log.old.seat.table_id ≡ self.now.table.shared.table_id }
         ensures log { log.new.seat.table_id ≡ log.old.seat.table_id }
@@ -218,26 +229,30 @@ impl Parkers {
         ensures parked { log.new.seat.me.0.parked ≡ log.old.seat.me.0.parked ++ owed_after result }
         ensures owed { IsOwedTo waker.number result }
     {
-        let Waker { mut seat, number } = waker;
+        let Waker {
+            mut seat,
+            number,
+            woken: _,
+        } = waker;
         let found = self
             .table
             .shared
-            .swap::<ParkerNotified>(&mut seat, number as usize, NOTIFIED);
+            .swap::<ParkerNotified>(&mut seat, number as usize, woken.word());
         self.table
             .shared
             .join_seat::<NoticesJoined>(&mut log.seat, seat);
         Notified::after(number, found)
     }
 
-    /// Notifies the parker of this waker, and wakes its thread if that is parked. It makes one swap, one load, and a system
-    /// call if the thread is parked.
+    /// Notifies the parker of this waker, alone, and wakes its thread if that is parked. It makes one swap, one load, and a
+    /// system call if the thread is parked.
     pub(crate) fn notify(&self, waker: Waker, log: &mut NoticeLog)
         requires waker { (waker.number ≤ self.now.seats) × (waker.seat.table_id ≡ self.now.table.shared.table_id) }
         requires log { log.old.seat.table_id ≡ self.now.table.shared.table_id }
         ensures log { log.new.seat.table_id ≡ log.old.seat.table_id }
         ensures notified { log.new.seat.me.0.parkers ≡ log.old.seat.me.0.parkers ++ waker.number ∷ [] }
     {
-        match self.set_notified(waker, log) {
+        match self.set_notified(waker, Woken::Alone, log) {
             Notified::GoesOn => {}
             Notified::Parked(thread) => self.wake_thread(thread),
         }
@@ -247,6 +262,7 @@ impl Parkers {
     pub(crate) fn notify_before_wake(
         &self,
         waker: Waker,
+        woken: Woken,
         log: &mut NoticeLog,
         parked: &mut ParkedRange,
     )
@@ -256,7 +272,7 @@ impl Parkers {
         ensures notified { log.new.seat.me.0.parkers ≡ log.old.seat.me.0.parkers ++ waker.number ∷ [] }
         ensures parked { Gathers parked.old parked.new log.old.seat.me.0.parked log.new.seat.me.0.parked }
     {
-        match self.set_notified(waker, log) {
+        match self.set_notified(waker, woken, log) {
             Notified::GoesOn => {}
             Notified::Parked(thread) => parked.add(thread),
         }
@@ -388,7 +404,11 @@ impl Parkers {
         ensures all { all.new.seat.table_id ≡ all.old.seat.table_id }
         ensures has { all.new.seat.me.0.wakers ≡ all.old.seat.me.0.wakers ++ waker.number ∷ [] }
     {
-        let Waker { mut seat, number } = waker;
+        let Waker {
+            mut seat,
+            number,
+            woken: _,
+        } = waker;
         let _found = self
             .table
             .shared

@@ -1,12 +1,15 @@
 //! What a wait does with the user mutex: it unlocks it once, and locks it once again.
-ghost use Rattle.std.specs.Prelude.{◌≡◌, ◌<◌, false, MatchOption};
+ghost use Rattle.std.specs.Prelude.{◌≡◌, ◌+◌, ◌-◌, ◌<◌, Ok, false, MatchOption};
 ghost use Rattle.lfm_mutex.specs.Belongs.{Beside, OfMutex, budget_of, limits_of, tries_of};
+ghost use Rattle.lfm_mutex.specs.calls.Barging.{BargesBy, MayTry, TriesFirst};
 ghost use Rattle.lfm_mutex.specs.calls.RunGoesOn.{RunGoesOnFrom};
-ghost use Rattle.lfm_mutex.specs.calls.Sight.{sight, LeavesOff, MayLeave, WaitRefused};
+ghost use Rattle.lfm_mutex.specs.calls.Sight.{sight, LeavesOff, LocksWaiting, MayLeave, WaitRefused};
+ghost use Rattle.lfm_mutex.specs.calls.Trails.{LocksBy};
 ghost use Rattle.lfm_mutex.specs.calls.Woken.{PollsAndWakesAsGranted, WokenAsGranted};
 ghost use Rattle.lfm_plain_condvar.specs.Holds.{Unlocks};
 ghost use Rattle.lfm_plain_condvar.specs.Waits.{ComesBackAs, MayWait};
 
+use crate::parkers::Woken;
 use lfm_model::{How, Locked, Refusal};
 use lfm_mutex::{Kept, Mutex, Seat};
 use std::sync::Wait;
@@ -48,16 +51,47 @@ pub(crate) fn give_up<T: Kept>(mutex: &Mutex<T>, seat: &mut Seat<T>)
     }
 }
 
-/// Locks the user mutex again, by `lock_barging`. Returns how the seat came to hold.
-pub(crate) fn come_back<T: Kept, R: Wait>(rt: &R, mutex: &Mutex<T>, seat: &mut Seat<T>) -> How
+/// Locks the user mutex again: by `lock_barging` if the seat was woken alone, else by `lock`. Most of several threads that
+/// one wake woke would find the mutex held by another of them, and nap.
+fn lock_again<T: Kept, R: Wait>(
+    rt: &R,
+    mutex: &Mutex<T>,
+    seat: &mut Seat<T>,
+    woken: Woken,
+) -> Result<Locked, Refusal>
+    requires belongs { OfMutex seat.old mutex.now }
+    requires free { MayTry (limits_of mutex.now).budget (sight seat.old) }
+    ensures belongs { Beside seat.old seat.new }
+    ensures run { RunGoesOnFrom seat.old seat.new }
+    ensures woken { PollsAndWakesAsGranted seat.old seat.new }
+    ensures locks { LocksWaiting T.follows T.fits (limits_of mutex.now).budget (sight seat.old) (sight seat.new) result }
+    ensures steps { BargesBy (limits_of mutex.now) (tries_of mutex.now) (sight seat.old) (sight seat.new) result }
+    ensures alone { woken ≡ Woken.Alone → 0 < mutex.now.pace.spins → TriesFirst (limits_of mutex.now) (mutex.now.pace.spins - 1 + mutex.now.pace.naps) (sight seat.old) (sight seat.new) result }
+    ensures in_order { woken ≡ Woken.WithOthers → LocksBy (limits_of mutex.now) (sight seat.old) (sight seat.new) result }
+{
+    match woken {
+        Woken::Alone => mutex.lock_barging(rt, seat),
+        Woken::WithOthers => mutex.lock(rt, seat),
+    }
+}
+
+/// Locks the user mutex again, as `lock_again` does. Returns how the seat came to hold.
+pub(crate) fn come_back<T: Kept, R: Wait>(
+    rt: &R,
+    mutex: &Mutex<T>,
+    seat: &mut Seat<T>,
+    woken: Woken,
+) -> How
     requires belongs { OfMutex seat.old mutex.now }
     requires free { ((sight seat.old).depth ≡ 0) × ((sight seat.old).asleep ≡ false) × ((sight seat.old).takes < (limits_of mutex.now).budget) }
     ensures belongs { Beside seat.old seat.new }
     ensures run { RunGoesOnFrom seat.old seat.new }
     ensures woken { PollsAndWakesAsGranted seat.old seat.new }
     ensures back { ComesBackAs T.follows T.fits (limits_of mutex.now) (tries_of mutex.now) result (sight seat.old) (sight seat.new) }
+    ensures alone { woken ≡ Woken.Alone → 0 < mutex.now.pace.spins → TriesFirst (limits_of mutex.now) (mutex.now.pace.spins - 1 + mutex.now.pace.naps) (sight seat.old) (sight seat.new) (Ok (Locked.Held result)) }
+    ensures in_order { woken ≡ Woken.WithOthers → LocksBy (limits_of mutex.now) (sight seat.old) (sight seat.new) (Ok (Locked.Held result)) }
 {
-    match mutex.lock_barging(rt, seat) {
+    match lock_again(rt, mutex, seat, woken) {
         Ok(locked) => match locked {
             Locked::Held(how) => how,
             Locked::Again(_) => unreachable!(),

@@ -74,9 +74,10 @@ impl PlainCondvar {
     }
 
     /// Gives up the user mutex, which the seat holds at depth 1, waits until a wake takes this seat out of the list and
-    /// notifies it, and locks the user mutex again by `lock_barging`. It returns the ticket: 1 for the first that waited on
-    /// this condvar, and so on. It never returns without a wake. The seat is in the list before the user mutex is unlocked,
-    /// so no wake that is made after another thread has locked that mutex misses it.
+    /// notifies it, and locks the user mutex again: by `lock_barging`, or by `lock` if that wake took out others too. It
+    /// returns the ticket: 1 for the first that waited on this condvar, and so on. It never returns without a wake. The seat
+    /// is in the list before the user mutex is unlocked, so no wake that is made after another thread has locked that mutex
+    /// misses it.
     ///
     /// Refuses, in this order, before anything is changed: Asleep (the user seat sleeps, or a call of it is open), NotOwner,
     /// Nested (it holds above depth 1), Spent (either seat has no take left). The contract has Busy too, which is not
@@ -136,7 +137,7 @@ impl PlainCondvar {
         let polls = polls_behind(mutex.pace(), enlisted.ahead());
         let ticket = enlisted.ticket();
         self.sleep(rt, cond, UnlockedWait::new(enlisted, seat), polls);
-        let how = come_back(rt, mutex, seat);
+        let how = come_back(rt, mutex, seat, cond.woken());
         Ok((how, ticket))
     }
 }

@@ -163,13 +163,14 @@ impl PlainCondvar {
         let polls = polls_behind(mutex.pace(), enlisted.ahead());
         let wait = UnlockedWait::until(enlisted, seat, deadline);
         let waited = self.sleep_or_leave(rt, cond, wait, polls);
-        let how = come_back(rt, mutex, seat);
+        let how = come_back(rt, mutex, seat, cond.woken_after(&waited));
         Ok((how, waited))
     }
 
     /// `wait` for at most this time from now. Returns Woken as `wait` does. Returns TimedOut if the time was over and no
     /// wake had taken the seat out of the list: the seat has then taken itself out. In both cases the seat holds the user
-    /// mutex again, at depth 1. That lock has no time limit. If the clock can't be read, the time is over at once.
+    /// mutex again, at depth 1. That lock has no time limit, and is by `lock_barging` after TimedOut. If the clock can't be
+    /// read, the time is over at once.
     ///
     /// Refuses as `wait`, in the same order, but as Spent also if the plain seat has only one take left. A wait costs the
     /// user seat one take, and the plain seat one, or two if it looked for itself in the list.

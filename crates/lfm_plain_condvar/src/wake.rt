@@ -111,8 +111,8 @@ impl PlainCondvar {
     }
 
     /// Wakes all that wait, and returns how many there were. They are notified in one hold of the list, oldest first. After
-    /// it the threads that are parked are woken, in the order of their seats, by one system call each. The caller need not
-    /// hold the user mutex.
+    /// it the threads that are parked are woken, in the order of their seats, by one system call each. If the wake took
+    /// out several, each locks its user mutex by `lock`. The caller need not hold the user mutex.
     ///
     /// Refuses with Spent if the plain seat has no take left. It costs one take, however many are woken. It allocates no
     /// memory and may sleep until it has the list.

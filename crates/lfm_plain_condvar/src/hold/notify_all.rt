@@ -12,7 +12,7 @@ ghost use Rattle.lfm_plain_condvar.specs.Parked.{Gathers};
 
 use super::leave_list;
 use crate::condvar::PlainCondvar;
-use crate::parkers::{NoticeLog, ParkedRange, Parkers};
+use crate::parkers::{NoticeLog, ParkedRange, Parkers, Woken};
 use crate::waiters::{Waiter, Waiters};
 use lfm_mutex::Seat;
 use std::sync::Wait;
@@ -33,12 +33,13 @@ fn notify_all(
     ensures notified { log.new.seat.me.0.parkers ≡ log.old.seat.me.0.parkers ++ numbers_of waiters.old.list.items }
     ensures parked { Gathers parked.old parked.new log.old.seat.me.0.parked log.new.seat.me.0.parked }
 {
+    let woken = Woken::of_each(waiters.waiting());
     let mut count = 0u64;
     'taken: loop {
         match waiters.take_oldest() {
             Some(waiter) => {
                 let Waiter { waker, ticket: _ } = waiter;
-                parkers.notify_before_wake(waker, log, parked);
+                parkers.notify_before_wake(waker, woken, log, parked);
                 count += 1;
             }
             None => return count,

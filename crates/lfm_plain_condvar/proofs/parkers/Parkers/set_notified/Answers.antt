@@ -6,7 +6,7 @@ use Rattle.lfm_plain_condvar.proofs.parkers.Parkers.set_notified.Goals as goal
 
 pub swap-found-requires : goal.swap-found-requires
 swap-found-requires c = let w = c.args.waker in let z = c.args.self.now.table.shared.table_id in let words = c.args.self.now.words in let slots = c.args.self.now.slots in let few = c.requires.waker.0 in
-    (c.requires.waker.1, omega arith, notifies z.slots w.seat.id w.number w.seat.me (ap (λ (v : Notices). v.wakers) w.its.0) w.its.1 (omega arith))
+    (c.requires.waker.1, omega arith, notifies z.slots w.seat.id w.number c.word.result w.seat.me c.args.woken c.word.ensures (ap (λ (v : Notices). v.wakers) w.its.0) w.its.1 (omega arith))
 
 pub join_seat-requires : goal.join_seat-requires
 join_seat-requires c = let w = c.args.waker in let z = c.args.self.now.table.shared.table_id in let words = c.args.self.now.words in

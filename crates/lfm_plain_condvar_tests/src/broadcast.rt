@@ -12,7 +12,7 @@ use std::test::Fail;
 use std::thread::{Threads, join};
 
 /// Adds 1 to the number, and waits. Returns the ticket.
-fn come_and_wait<R: Wait>(
+pub(crate) fn come_and_wait<R: Wait>(
     rt: &R,
     mutex: &Mutex<u64>,
     condvar: &PlainCondvar,
@@ -49,7 +49,7 @@ fn wake_both<R: Wait>(
 }
 
 /// The tickets of two threads that wait at the same time.
-fn wait_both<R: Threads + Wait + Sync>(
+pub(crate) fn wait_both<R: Threads + Wait + Sync>(
     rt: &R,
     mutex: &Mutex<u64>,
     condvar: &PlainCondvar,

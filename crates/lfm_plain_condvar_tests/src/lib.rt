@@ -16,3 +16,5 @@ mod queue;
 mod seeing;
 #[cfg(test)]
 mod two_threads;
+#[cfg(test)]
+mod woken_together;

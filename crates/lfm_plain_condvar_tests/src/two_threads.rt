@@ -1,10 +1,12 @@
-//! One thread waits, with and without a time limit, and another wakes it.
+//! One thread waits, with and without a time limit, and another wakes it, by `wake_one` and by `wake_one_later`.
 ghost use Rattle.lfm_plain_test_tools.specs.Hands.{IsHandOf};
 
 use crate::seeing::sees;
 use lfm_mutex::Mutex;
 use lfm_plain_condvar::{PlainCondvar, Waited};
-use lfm_plain_test_tools::calls::{lock, number, unlock, wait, wait_for, wake_one, write};
+use lfm_plain_test_tools::calls::{
+    lock, number, unlock, wait, wait_for, wake_one, wake_one_later_and_notify, write,
+};
 use lfm_plain_test_tools::hands::{Hand, three_hands};
 use std::process::Abort;
 use std::sync::Wait;
@@ -49,7 +51,8 @@ fn reach<R: Wait>(rt: &R, mutex: &Mutex<u64>, condvar: &PlainCondvar, hand: &mut
     }
 }
 
-/// Wakes the other thread twice, each time once it waits.
+/// Wakes the other thread twice, each time once it waits. Returns the ticket that the first wake took out of the list, and
+/// the number of the seat that the second took out.
 fn wakes_twice<R: Wait>(
     rt: &R,
     mutex: &Mutex<u64>,
@@ -62,7 +65,8 @@ fn wakes_twice<R: Wait>(
     reach(rt, mutex, condvar, &mut hand, 1);
     let first = wake_one(rt, mutex, condvar, &mut hand);
     reach(rt, mutex, condvar, &mut hand, 2);
-    let second = wake_one(rt, mutex, condvar, &mut hand);
+    lock(rt, mutex, condvar, &mut hand);
+    let second = wake_one_later_and_notify(rt, mutex, condvar, &mut hand);
     (hand, first, second)
 }
 
@@ -93,7 +97,7 @@ fn run_both<R: Threads + Wait + Clock + Abort + Sync>(
     sees(rt, "the wait without a limit", &ticket, &Some(1));
     sees(rt, "the wait with a limit", &timed, &Some(Waited::Woken(2)));
     sees(rt, "the first wake", &one, &Some(1));
-    sees(rt, "the second wake", &two, &Some(2));
+    sees(rt, "the seat of the second wake", &two, &Some(1));
     (first, second)
 }
 

@@ -126,6 +126,27 @@ pub fn wake_one<R: Wait>(
     condvar.wake_one(rt, &mut hand.cond).ok().flatten()
 }
 
+/// `wake_one_later`, `unlock` and then `notify`. Returns the number of the seat that was woken, or None if nobody waited or the
+/// wake was refused.
+pub fn wake_one_later_and_notify<R: Wait>(
+    rt: &R,
+    mutex: &Mutex<u64>,
+    condvar: &PlainCondvar,
+    hand: &mut Hand,
+) -> Option<u64>
+    requires { IsHandOf hand.old mutex.now condvar.now }
+    ensures { IsHandOf hand.new mutex.now condvar.now }
+{
+    let owed = condvar.wake_one_later(rt, &mut hand.cond);
+    let _ = mutex.unlock(&mut hand.seat);
+    let Ok(Some(owed)) = owed else {
+        return None;
+    };
+    let number = owed.number().get();
+    condvar.notify(&mut hand.cond, owed);
+    Some(number)
+}
+
 /// `wake_all`, and how many were woken.
 pub fn wake_all<R: Wait>(
     rt: &R,

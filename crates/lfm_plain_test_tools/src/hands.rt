@@ -6,7 +6,7 @@ ghost use Rattle.lfm_mutex.specs.Belongs.{OfMutex};
 ghost use Rattle.lfm_plain_condvar.specs.Belongs.{OfPlain};
 ghost use Rattle.lfm_plain_test_tools.specs.Hands.{IsHandOf};
 
-use lfm_mutex::{Mutex, Seat};
+use lfm_mutex::{Mutex, Pace, Seat};
 use lfm_plain_condvar::{PlainCondvar, PlainSeat};
 use lfm_protocol::MAX_BUDGET;
 use std::alloc::Global;
@@ -55,6 +55,32 @@ pub fn three_hands(alloc: Global) -> Option<(Mutex<u64>, PlainCondvar, Hand, Han
     let Ok((mutex, seats)) = Mutex::new(alloc, 3, MAX_BUDGET, 0u64) else {
         return None;
     };
+    with_condvar(alloc, mutex, seats)
+}
+
+/// The same, with a mutex of this pace.
+pub fn three_paced_hands(
+    alloc: Global,
+    pace: Pace,
+) -> Option<(Mutex<u64>, PlainCondvar, Hand, Hand, Hand)>
+    ensures { IfSome result (λ r. IsHandOf r.2 r.0 r.1 × IsHandOf r.3 r.0 r.1 × IsHandOf r.4 r.0 r.1) }
+{
+    let Ok((mut mutex, seats)) = Mutex::new(alloc, 3, MAX_BUDGET, 0u64) else {
+        return None;
+    };
+    mutex.set_pace(pace);
+    with_condvar(alloc, mutex, seats)
+}
+
+/// This mutex, a plain condvar, and three hands of the last seats.
+fn with_condvar(
+    alloc: Global,
+    mutex: Mutex<u64>,
+    seats: Vec<Seat<u64>>,
+) -> Option<(Mutex<u64>, PlainCondvar, Hand, Hand, Hand)>
+    requires { (j : ℕ) (s : _) → get_elem? seats.items j ≡ some s → OfMutex s mutex }
+    ensures { IfSome result (λ r. IsHandOf r.2 r.0 r.1 × IsHandOf r.3 r.0 r.1 × IsHandOf r.4 r.0 r.1) }
+{
     let Ok((condvar, plain_seats)) = PlainCondvar::new(alloc, 3, MAX_BUDGET) else {
         return None;
     };

@@ -18,7 +18,8 @@ pub enum Peer {
     Barging,
     /// Our pool of mutexes.
     Pool,
-    /// Several threads that lock our mutex by `lock_barging`, and wait on plain condvars.
+    /// Several threads that lock our mutex by `lock_barging`, and wait on plain condvars. Those that are woken together lock
+    /// it by `lock`.
     Plain,
     /// The bare steps of our mutex's calls.
     Bare,

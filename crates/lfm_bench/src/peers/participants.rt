@@ -30,6 +30,9 @@ pub trait Participant: Send + Drop {
     /// `wake_one` of the other condvar. Returns whether it was not refused.
     fn wake_one<R: Wait>(&mut self, rt: &R) -> bool;
 
+    /// `unlock`, and `wake_one` before or after it, as suits the condvar. Returns whether neither was refused.
+    fn unlock_and_wake_one<R: Wait>(&mut self, rt: &R) -> bool;
+
     /// `wake_all` of the other condvar. Returns how many were woken, or 0 if it was refused.
     fn wake_all<R: Wait>(&mut self, rt: &R) -> u64;
 }
@@ -61,8 +64,8 @@ pub fn wait_and_apply<R: Wait, P: Participant>(
     None
 }
 
-/// In one hold of the mutex, waits until the operation is possible, makes it, and wakes one thread that waits on the other
-/// condvar. Returns the operation's number, or None if a call was refused.
+/// In one hold of the mutex, waits until the operation is possible, and makes it. Then it unlocks the mutex and wakes one
+/// thread that waits on the other condvar. Returns the operation's number, or None if a call was refused.
 pub fn lock_and_apply<R: Wait, P: Participant>(
     rt: &R,
     participant: &mut P,
@@ -72,7 +75,8 @@ pub fn lock_and_apply<R: Wait, P: Participant>(
         return None;
     }
     let number = wait_and_apply(rt, participant, operation)?;
-    participant.wake_one(rt);
-    participant.unlock();
+    if !participant.unlock_and_wake_one(rt) {
+        return None;
+    }
     Some(number)
 }

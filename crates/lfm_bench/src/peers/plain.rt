@@ -1,5 +1,5 @@
-//! Our mutex with two plain condvars, used by several threads: a woken thread locks the mutex by `lock_barging`, as the threads
-//! that never waited do.
+//! Our mutex with two plain condvars, used by several threads. Those that never waited, and those that were woken alone,
+//! lock the mutex by `lock_barging`; those that were woken together, by `lock`.
 ghost use Rattle.std.specs.Prelude.{◌≡◌, ℕ, IfOk, IfSome};
 ghost use Rattle.lfm_mutex.specs.Belongs.{OfMutex};
 ghost use Rattle.lfm_plain_condvar.specs.Belongs.{OfPlain};
@@ -193,6 +193,12 @@ impl Participant for PlainParticipant<'_> {
             Side::Second => self.shared.first.wake_one(rt, &mut self.first_seat),
         };
         woken.is_ok()
+    }
+
+    /// `unlock`, and then `wake_one`: the woken thread has to lock the mutex.
+    fn unlock_and_wake_one<R: Wait>(&mut self, rt: &R) -> bool {
+        let unlocked = self.unlock();
+        self.wake_one(rt) && unlocked
     }
 
     /// `wake_all` of the other condvar. Returns how many were woken, or 0 if it was refused.

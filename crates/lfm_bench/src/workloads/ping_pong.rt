@@ -1,5 +1,5 @@
 //! Two threads take turns at one mutex, each with its own condvar. In a turn a thread acquires the mutex, waits until the other
-//! has had its turn, adds 1 to the number under the mutex, wakes the other, and unlocks.
+//! has had its turn, and adds 1 to the number under the mutex. Then it unlocks the mutex and wakes the other.
 ghost use Rattle.std.specs.Prelude.{◌≡◌, ◌*◌, ◌%◌, ◌^◌, Some, true};
 
 use crate::measure::clocks::{now, since};
@@ -163,8 +163,8 @@ fn standard_turns<R: Wait + Clock>(
         let mut number = wait_until(rt, own, mutex.lock(rt), due);
         *number = number.wrapping_add(1);
         made = made.wrapping_add(1);
-        other.notify_one();
         drop(number);
+        other.notify_one();
     }
     TurnsTaken {
         made,

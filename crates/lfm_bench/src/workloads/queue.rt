@@ -75,7 +75,7 @@ struct StandardQueue {
 }
 
 impl Mover for &StandardQueue {
-    /// Waits on std's condvar while there is no room.
+    /// Waits on std's condvar while there is no room, and notifies after the mutex is unlocked.
     fn put<R: Wait>(&mut self, rt: &R, number: u64) -> bool {
         let mut queue = self.queue.lock(rt);
         for _ in rt.forever() {
@@ -84,15 +84,17 @@ impl Mover for &StandardQueue {
             }
             queue = self.not_full.wait(rt, queue);
         }
+        drop(queue);
         self.not_empty.notify_one();
         true
     }
 
-    /// Waits on std's condvar while the queue is empty.
+    /// Waits on std's condvar while the queue is empty, and notifies after the mutex is unlocked.
     fn take<R: Wait>(&mut self, rt: &R) -> Option<u64> {
         let mut queue = self.queue.lock(rt);
         for _ in rt.forever() {
             if let Some(number) = queue.take() {
+                drop(queue);
                 self.not_full.notify_one();
                 return Some(number);
             }

@@ -24,8 +24,8 @@ function taskTexts(view, tasks) {
 
 // says so if more events lead from this moment to the end of the task than from its start
 function lostTexts({ graph, task, path, given, at }) {
-  const eventsFrom = moment => wayTo(graph, endOf(path.slice(0, moment)), event => isGoal(graph, task.goal, event)).length || Infinity;
-  const isLost = at > given && eventsFrom(at) > eventsFrom(given);
+  const eventsLeft = moment => wayTo(graph, endOf(path.slice(0, moment)), event => isGoal(graph, task.goal, event)).length || Infinity;
+  const isLost = at > given && eventsLeft(at) > eventsLeft(given);
   const lost = 'Here you are farther from the end of this task than at its start: press <b>again</b>, or go back.';
   return isLost ? [`<span class="fault">${lost}</span>`] : [];
 }

@@ -1,13 +1,10 @@
 -- How waits and wakes end, by cases on the answer.
-use Rattle.std.proofs.Common.{◌≡◌, ◌⊎◌, inr, ℕ, [], ◌∷◌, ◌++◌, List, Option, Some, None, Result, Ok, Err, refl, sym, ◌∙◌, ap, subst, arith}
+use Rattle.std.proofs.Common.{◌≡◌, ◌⊎◌, ℕ, [], ◌∷◌, ◌++◌, List, Option, Some, None, Result, Ok, Err, sym, ◌∙◌, ap, subst}
 use Rattle.lfm_model.specs.declared.answers.How.{How}
-use Rattle.lfm_model.specs.declared.answers.Locked.{Locked}
 use Rattle.lfm_model.specs.declared.refusals.Refusal.{Refusal}
 use Rattle.lfm_protocol.specs.declared.limits.Limits.{Limits}
 use Rattle.lfm_mutex.specs.declared.seat.Seat.{Seat}
-use Rattle.lfm_mutex.specs.calls.Barging.{BargesBy}
 use Rattle.lfm_mutex.specs.calls.Sight.{Sight, sight}
-use Rattle.lfm_mutex.specs.calls.Trails.{LocksBy}
 use Rattle.lfm_plain_condvar.specs.declared.plain_seat.PlainSeat.{PlainSeat}
 use Rattle.lfm_plain_condvar.specs.declared.wait_for.Waited.{Waited}
 use Rattle.lfm_plain_condvar.specs.declared.wait_for.Waited.TheVariants.{Woken, TimedOut}
@@ -32,12 +29,6 @@ module _ {T : Type 0} (follows : ℕ → T → T → Type 0) (fits : T → ℕ �
   pub for_ends : (r : Result (How × Waited) Refusal) → WaitWithinEnds follows fits user own tries user_tries c d s t r → WaitForEnds follows fits user own tries user_tries c d s t (waited_of r)
   for_ends (Ok r) h = within_ends r.0 r.1 h
   for_ends (Err r) h = h
-
--- the steps of lock are those of lock_barging without a try
-pub locks_barge : {T : Type 0} (user : Limits) (tries : ℕ) (s t : Sight T) (r : Result Locked Refusal) → LocksBy user s t r → BargesBy user tries s t r
-locks_barge user tries s t (Ok (Locked.Held how)) h = inr (s, ([], omega arith, refl), h)
-locks_barge user tries s t (Ok (Locked.Again d)) h = h
-locks_barge user tries s t (Err refusal) h = h
 
 -- the oldest was taken out of the list, and then notified
 pub one_ends : (own : Limits) (tries : ℕ) (c m d : PlainSeat) (q : Result (Option OwedWakeUp) Refusal) (r : OwedWakeUp) (p : ℕ × ℕ) → q ≡ Ok (Some r) → WakeLaterEnds own tries c m q → d.seat ≡ m.seat → notified_by d ≡ notified_by m ++ r.waiter.waker.number ∷ [] → p.0 ≡ r.waiter.waker.number → p.1 ≡ r.waiter.ticket

@@ -224,7 +224,8 @@ function set_places(    p, r, most) {
   }
   left = int(left + 1)
   wide = most == 1
-  gap = 26
+  # between the last number of an axis and a first one at the left end of the next
+  gap = first_tick < from * 1.01 ? 46 : 26
   pitch = 27
   across = wide ? 640 - left - 32 : (640 - left - 20 - (most - 1) * gap) / most
 }
@@ -251,8 +252,8 @@ END {
     print "scripts/draw/draw_chart: " name ": " fault > "/dev/stderr"
     exit 1
   }
-  set_places()
   set_axis()
+  set_places()
   height = 118 + 14
   for (p = 1; p <= panels; p++) height += rows[p] * pitch + (heading[p] == "" ? 0 : 34)
   open_large_picture(title, height)

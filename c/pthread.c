@@ -17,15 +17,15 @@
  * What is passed on to the system:
  *
  *   - Mutexes that are robust, shared between processes, or have a protocol of priorities; and condition variables that are
- *     waited at with such a mutex. Until it is initialized anew, a condition variable is waited at with the system's mutexes
- *     only, or with others only. Another wait is refused as EINVAL.
+ *     shared, or waited at with such a mutex. Until it is initialized anew, a condition variable is waited at with the
+ *     system's mutexes only, or with others only. Another wait is refused as EINVAL.
  *   - All else of pthread: locks for reading and writing, barriers, semaphores, spin locks, pthread_once.
  *   - What glibc locks inside itself, and C11's mtx_lock, cnd_wait and so on. glibc calls its own functions for these.
  *   - What was linked statically.
  *
  * A mutex that lies in memory which processes share, but was not initialized as shared, is not known as one. It works in
- * glibc, and not here. Neither does a shared object that is opened with RTLD_DEEPBIND: it calls glibc's functions, and the
- * libraries that it calls have these, for the same mutexes.
+ * glibc, and not here. A shared object that is opened with RTLD_DEEPBIND doesn't work either: it calls glibc's functions, and
+ * the libraries that it calls have these, for the same mutexes.
  *
  * What differs from glibc:
  *
@@ -36,20 +36,21 @@
  *     again. That of glibc gives up one, so others are shut out.
  *   - pthread_cond_destroy is refused as EBUSY while a thread waits, and doesn't wait for it.
  *   - A lock tries before it queues. Those that are queued acquire the mutex in the order in which they queued. An unlock
- *     hands the mutex to the first, whatever its priority, and also while a handler of a signal stops it.
+ *     hands the mutex to the first, whatever its priority, and even if a handler of a signal has stopped its thread.
  *   - Threads that wait at a condition variable are woken in the order in which they began to wait. A wait ends only by a wake
  *     or at the end of its time.
  *   - A thread that waits without a time limit, and is signalled by a holder of its mutex, is woken when that unlocks.
  *   - A thread that sleeps at a condition variable is not woken by pthread_cancel. It acts on that at its next cancellation
- *     point after it was woken. A wait is one before it sleeps, and when its time is over.
- *   - The memory of a mutex in the library is not given back if the program never destroys it, as those of std::mutex are not,
- *     until another mutex lies in the same place. A mutex that was copied, or stored by an earlier run of the program, is
- *     another one, which nobody holds.
+ *     point after it was woken. A wait is a cancellation point before it sleeps, and when its time is over.
+ *   - The memory of a mutex in the library is not given back if the program never destroys it, as those of std::mutex are
+ *     not, until another mutex lies in the same place. A mutex that was copied, or stored by an earlier run of the
+ *     program, is another one, which nobody holds. It must not be copied back after it was destroyed in its place.
  *
- * In a forked child, a mutex that another thread of the parent held stays held, or that nobody held and another thread
- * asked for. One that the forking thread held is made new at the fork, and one that nobody held or asked for by its first
- * call. So the child goes on with them, also between handlers of pthread_atfork. A condition variable forgets the parent's
- * threads that wait there.
+ * In a forked child a mutex stays held for ever if another thread of the parent held it, was releasing it, or asked for
+ * it while nobody held it. One that the forking thread held is made new at the fork, and one that nobody held or asked
+ * for by its first call. So the child goes on with them, also between handlers of pthread_atfork. A condition variable
+ * forgets the parent's threads that wait there. Numbers of threads that the child lacks stay taken. Children of _Fork,
+ * vfork and clone are not seen.
  *
  * Nothing here asks malloc for memory, since malloc may lock mutexes of its own by these calls. The system may ask it in a
  * thread's first call. No latch is held then.

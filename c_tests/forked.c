@@ -12,7 +12,7 @@ enum { CHILDREN = 60, THREADS = 3 };
 static lfm_mutex mutex = LFM_MUTEX_INIT, in_hand, free_one = LFM_MUTEX_INIT, never_called = LFM_MUTEX_INIT;
 static lfm_mutex of_others = LFM_MUTEX_INIT;
 static lfm_condvar condvar;
-static lfm_seat seat, spare;
+static lfm_seat seat, second_seat, spare;
 static int over, step;
 
 static void acquire(lfm_mutex *of) { EXPECT(lfm_lock_here(of), LFM_DONE); }
@@ -61,6 +61,7 @@ static void use_again(void) {
   EXPECT(lfm_after_fork(&mutex, NULL), LFM_DONE);
   EXPECT(lfm_after_fork(&in_hand, &seat), LFM_DONE);
   EXPECT(lfm_after_fork(&in_hand, &seat), LFM_DONE); /* a second time changes nothing */
+  EXPECT(lfm_after_fork(&in_hand, &second_seat), LFM_FOREIGN);
   EXPECT(lfm_after_fork(&free_one, NULL), LFM_DONE);
   EXPECT(lfm_after_fork(&never_called, NULL), LFM_DONE);
   EXPECT(lfm_after_fork(&of_others, NULL), LFM_DONE);
@@ -206,6 +207,7 @@ int main(void) {
   int numbers[THREADS];
   EXPECT(lfm_mutex_new(&in_hand, 8, LFM_MOST_TAKES), LFM_DONE);
   EXPECT(lfm_seat_take(&in_hand, &seat), LFM_DONE);
+  EXPECT(lfm_seat_take(&in_hand, &second_seat), LFM_DONE);
   acquire(&free_one);
   release(&free_one);
   EXPECT(in_child(give_and_use), 0);
@@ -235,6 +237,7 @@ int main(void) {
   __atomic_store_n(&step, 2, __ATOMIC_SEQ_CST);
   EXPECT(pthread_join(holder, NULL), 0);
   EXPECT(lfm_seat_give(&seat), LFM_DONE);
+  EXPECT(lfm_seat_give(&second_seat), LFM_DONE);
   EXPECT(lfm_mutex_close(&in_hand), LFM_DONE);
   seats_of_others();
   return 0;

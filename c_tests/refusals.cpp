@@ -68,7 +68,11 @@ static void seats_that_move() {
   seats.pop_back();
   lfm::seat again(mutex), moved(std::move(again));
   EXPECT(moved.left() > 0, true);
-  EXPECT(refusal_of([&] { lfm::seat_lock(again).lock(); }), LFM_BLANK);
+  lfm::condition_variable changed;
+  lfm::seat_lock blank(again);
+  EXPECT(refusal_of([&] { blank.lock(); }), LFM_BLANK);
+  EXPECT(refusal_of([&] { changed.notify_one_by(blank); }), LFM_BLANK);
+  EXPECT(refusal_of([&] { changed.notify_all_by(blank); }), LFM_BLANK);
 }
 
 static void refusals_of_seats() {

@@ -50,14 +50,17 @@
  *   - A seat is in one call at a time. It goes from one thread to another by a lock, a thread's start or join, or the like.
  *     If all files of a program are compiled with -DLFM_CHECKED, two threads in one seat of lfm_seat_take end it with a
  *     text. This does not check lfm_depth and lfm_assert_held.
- *   - No call comes from a signal handler, and none forks. Handlers of pthread_atfork that were made before the library's
- *     own, which it makes as it is initialized, call no mutex before a fork.
+ *   - No signal handler makes a call or forks. Handlers of pthread_atfork that were made before the library's own, which it
+ *     makes as it is initialized, call no mutex. A fork waits for calls that open a mutex or take a number or a seat, and
+ *     these wait for it: so the thread of such a call holds nothing that a fork or its handlers wait for, such as a stream
+ *     (flockfile) that another thread is about to flush.
  *   - A forked child calls a mutex that the forking thread held only after lfm_after_fork. It doesn't call one that another
  *     thread held, or that nobody held and another thread asked for or was releasing. All others it calls as its parent
- *     does. It may close each mutex and give back each seat. If other threads of the parent may have waited at a condition
- *     variable or been in a call of it, the child sets it to zero before it calls it: it has none of these threads. A
- *     close of a mutex of the parent sees only a hold of the calling thread. Numbers of threads that the child lacks stay
- *     taken. The child is one of fork: the library doesn't see those of _Fork, vfork and clone.
+ *     does. It may close each mutex and give back each seat: a seat of its parent is only forgotten, even if it holds, and
+ *     keeps its number. A close of a mutex of the parent sees only a hold of the calling thread by calls that end in `here`.
+ *     If other threads of the parent may have waited at a condition variable or been in a call of it, the child sets it to
+ *     zero before it calls it: it has none of these threads. Numbers of threads that the child lacks stay taken. The child is
+ *     one of fork: the library doesn't see those of _Fork, vfork and clone.
  *   - A proved call that opens a pool takes memory, so its proof excludes a child whose parent had other threads. The
  *     library takes it from the system, which such a child may ask. For lfm_seat_here malloc has to be usable there.
  *   - While a mutex is opened by lfm_mutex_new or closed, no other call of it begins. See lfm_mutex_close.
@@ -224,12 +227,12 @@ LFM_API lfm_status lfm_mutex_close(lfm_mutex *mutex);
 LFM_API uint64_t lfm_takes_left(lfm_mutex *mutex);
 
 /* In a forked child, makes a mutex new that the thread which forked held, or that no seat held or asked for: that thread
- * holds it as often as before. If it held, it makes this call itself, before another thread calls the mutex. `seat` is the
- * seat by which it held, or null if it calls those that end in `here`. Other seats in hand of the mutex are forgotten: an
- * lfm_seat is set to zero before it is taken anew. What the library had of the parent's mutex stays taken. In the process
+ * holds it as often as before. If it held, it makes this call itself. It is the child's first call of the mutex. `seat` is
+ * the seat by which it held, or null if it calls those that end in `here`. Other seats in hand of the mutex are forgotten:
+ * an lfm_seat is set to zero before it is taken anew. What the library had of the parent's mutex stays taken. In the process
  * that opened the mutex it changes nothing. It may sleep while another thread opens a pool, takes a seat in one or forks.
- * Refused: LFM_BLANK, LFM_FOREIGN, LFM_NO_MEMORY, LFM_NO_SEAT, and LFM_BUSY if the thread that forked did not hold the
- * mutex, and another seat held it, asked for it or was releasing it. */
+ * Refused: LFM_BLANK; LFM_FOREIGN, also of a seat of the parent if the mutex is new already; LFM_NO_MEMORY, LFM_NO_SEAT, and
+ * LFM_BUSY if the thread that forked did not hold the mutex, and another seat held it, asked for it or was releasing it. */
 LFM_NODISCARD lfm_status lfm_after_fork(lfm_mutex *mutex, lfm_seat *seat);
 
 /* Seats in hand */
@@ -282,9 +285,10 @@ LFM_NODISCARD lfm_status lfm_try_lock(lfm_seat *seat);
  * until its time is over.
  *
  * If the time is over while it is queued, that number alone stays queued. The seat's next lock, with a time limit or
- * without, waits from the same place, unless it acquires the mutex by a try. If the turn of the place comes first, an unlock
- * passes it by. Until then lfm_mutex_close answers LFM_HOLDING. If its turn comes as the time ends, the call acquires the
- * mutex.
+ * without, waits from the same place, unless it acquires the mutex by a try. If the turn of the place comes first, an
+ * unlock passes it by. Until then lfm_mutex_close answers LFM_HOLDING. If its turn comes as the time ends, the call
+ * acquires the mutex. The first such locks of a thread or seat in a pool may take longer: they may sleep as the first
+ * call of a thread.
  * Refused: as lfm_lock, and LFM_BUSY, which tells that the time is over. Before all these
  * lfm_try_lock_until is refused as LFM_BLANK if `time` is null, and as LFM_LIMIT if there is no such clock, or not 0 to
  * 999,999,999 nanoseconds in `time`. */
@@ -313,8 +317,8 @@ LFM_API lfm_status lfm_unlock(lfm_seat *seat);
  * another thread opens a pool, takes a seat in one or forks.
  *
  * A thread takes its number by its first call of a mutex, and gives it back when it ends, unless it holds then, or the
- * system had no thread-specific key left. Destructors of thread-specific data may call too. Each round of
- * them first ends the seats that the thread has from lfm_seat_here, unless it holds, so a destructor calls lfm_seat_here
+ * system had no thread-specific key left. Destructors of thread-specific data may call too. In each round of them the
+ * library ends the seats that the thread has from lfm_seat_here, unless it holds, so a destructor calls lfm_seat_here
  * anew. A number that is taken in the last round, the fourth in glibc, may not be given back.
  * Refused: LFM_BLANK; if it opens the mutex, LFM_OTHER_HEADER, LFM_LIMIT, LFM_NO_MEMORY; if it takes the thread's number,
  * LFM_NO_MEMORY, LFM_NO_SEAT; and LFM_NO_MEMORY. */
@@ -376,10 +380,11 @@ LFM_NODISCARD lfm_status lfm_wait_all_holds_until_here(lfm_condvar *condvar, lfm
  * Refused: LFM_BLANK (null). */
 LFM_API lfm_status lfm_wake_one(lfm_condvar *condvar);
 LFM_API lfm_status lfm_wake_all(lfm_condvar *condvar);
-/* The same by a thread with a seat in hand. If that seat holds, threads that wait without a time limit and for its mutex are
- * woken when it releases the mutex, as by lfm_wake_one of a holder without one. So they don't find it held. The unlock wakes
- * the first four of them, or two if it also grants the mutex. Each that was woken so wakes at most two others, before it
- * locks. A thread that holds two mutexes puts off wakes for one of them, and makes those for the other at once. */
+/* The same by a thread with a seat in hand. If that seat holds, threads that wait without a time limit and for its mutex
+ * are woken when it releases the mutex, as by lfm_wake_one of a holder without one. So they don't find it held. The
+ * unlock wakes the first four of them, or two if it also grants the mutex; half of that if the system refuses
+ * FUTEX_WAKE_OP. Each that was woken so wakes at most two others, before it locks. A thread that holds two mutexes puts
+ * off wakes for one of them, and makes those for the other at once. */
 LFM_API lfm_status lfm_wake_one_by(lfm_condvar *condvar, lfm_seat *seat);
 LFM_API lfm_status lfm_wake_all_by(lfm_condvar *condvar, lfm_seat *seat);
 

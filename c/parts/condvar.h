@@ -56,36 +56,36 @@ lfm_status lfm_wait_all_holds_until(lfm_condvar *condvar, lfm_seat *seat, int cl
 
 /* The body of a function that makes a wait of `word` by the calling thread's participant `by`. A thread without a seat doesn't
  * hold. */
-#define RETURN_WAIT_HERE(mutex, wait)      \
-  mutex_word word = load_mutex(mutex);     \
-  struct participant *by = own.by;         \
+#define RETURN_WAIT_HERE(condvar, mutex, wait) \
+  mutex_word word = load_mutex(mutex);         \
+  struct participant *by = own.by;             \
   return WAIT_AT(condvar, has_seat(word) ? end_here(by, wait) : status_without_seat(mutex))
 
 lfm_status lfm_wait_here(lfm_condvar *condvar, lfm_mutex *mutex) {
-  RETURN_WAIT_HERE(mutex, wait_until(condvar, by, word, NULL));
+  RETURN_WAIT_HERE(condvar, mutex, wait_until(condvar, by, word, NULL));
 }
 
 lfm_status lfm_wait_for_here(lfm_condvar *condvar, lfm_mutex *mutex, uint64_t nanoseconds) {
   struct deadline deadline = deadline_after(nanoseconds);
-  RETURN_WAIT_HERE(mutex, wait_until(condvar, by, word, &deadline));
+  RETURN_WAIT_HERE(condvar, mutex, wait_until(condvar, by, word, &deadline));
 }
 
 lfm_status lfm_wait_until_here(lfm_condvar *condvar, lfm_mutex *mutex, int clock, const struct timespec *time) {
   struct deadline deadline;
   lfm_status status = deadline_at(clock, time, &deadline);
   if (status != LFM_DONE) return status;
-  RETURN_WAIT_HERE(mutex, wait_until(condvar, by, word, &deadline));
+  RETURN_WAIT_HERE(condvar, mutex, wait_until(condvar, by, word, &deadline));
 }
 
 lfm_status lfm_wait_all_holds_here(lfm_condvar *condvar, lfm_mutex *mutex) {
-  RETURN_WAIT_HERE(mutex, wait_with_all_holds(condvar, by, word, NULL));
+  RETURN_WAIT_HERE(condvar, mutex, wait_with_all_holds(condvar, by, word, NULL));
 }
 
 lfm_status lfm_wait_all_holds_until_here(lfm_condvar *condvar, lfm_mutex *mutex, int clock, const struct timespec *time) {
   struct deadline deadline;
   lfm_status status = deadline_at(clock, time, &deadline);
   if (status != LFM_DONE) return status;
-  RETURN_WAIT_HERE(mutex, wait_with_all_holds(condvar, by, word, &deadline));
+  RETURN_WAIT_HERE(condvar, mutex, wait_with_all_holds(condvar, by, word, &deadline));
 }
 
 lfm_status lfm_wake_one(lfm_condvar *condvar) { return wake(condvar, own.by, false); }

@@ -16,9 +16,9 @@
  *      ╚═══════════════════════════════════ PASSING ───────────────────────────► ORPHAN_PASSING ═══► given back
  *               has passed it by                     end of the participant
  *
- * A participant that is no deputy rests, and is rung for. Each step from a state that another thread may change is a
- * compare-and-exchange. All are sequentially consistent: the seats of the deputy go with them to the thread that passes it by,
- * and back.
+ * An ask that doesn't queue also goes back from TIMED to RESTS. A participant that is no deputy rests, and is rung for. Each step
+ * from a state that another thread may change is a compare-and-exchange. All are sequentially consistent: the seats of the deputy
+ * go with them to the thread that passes it by, and back.
  *
  * Each grant is received by one thread. One answer of the library names the seat that it granted the mutex, so one thread has to
  * wake it. If that thread makes TIMED ══► RESTS, the step of the lock to ABANDONED fails: then the lock waits for the ring, and

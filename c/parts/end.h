@@ -24,12 +24,13 @@ static uint64_t count_here(mutex_word mutex) {
 }
 
 /* The number goes to another mutex only if nobody is seen to hold this one: a child forgets one that threads of its parent
- * hold. */
+ * hold. The mutex is cleared before that: if another thread forks in between, a close by the child must not give the number
+ * back once more. */
 lfm_status lfm_mutex_close(lfm_mutex *mutex) {
   if (!mutex || mutex->version == 0) return LFM_BLANK;
   mutex_word word = load_mutex(mutex);
+  uint64_t count = word ? count_here(word) : IS_UNKNOWN;
   if (word) {
-    uint64_t count = count_here(word);
     if (seats_in_hand(info_of(word))) return LFM_NOT_BACK;
     if (is_of_process(word)) {
       if (count && count != IS_UNKNOWN) return LFM_HOLDING;
@@ -38,9 +39,9 @@ lfm_status lfm_mutex_close(lfm_mutex *mutex) {
     }
     lfm_seat *seat = find_seat_here(word);
     if (seat) forget_seat_here(seat);
-    if (count == 0) give_mutex(word);
   }
   memset(mutex, 0, sizeof *mutex);
+  if (count == 0) give_mutex(word);
   return LFM_DONE;
 }
 
@@ -79,12 +80,18 @@ static lfm_status renew_mutex(lfm_mutex *mutex, struct participant *by, lfm_seat
   return LFM_DONE;
 }
 
+/* Whether it is a seat in hand that was taken in a process which forked this one. */
+static bool is_of_parent(const lfm_seat *seat) {
+  return seat && !seat->is_of_library && seat->forks != LFM_PROCESS.forks;
+}
+
 lfm_status lfm_after_fork(lfm_mutex *mutex, lfm_seat *seat) {
   lfm_status cause;
   if (!mutex || mutex->version == 0 || (seat && !seat->by)) return LFM_BLANK;
   mutex_word word = load_mutex(mutex);
   if (seat && seat->mutex != word) return LFM_FOREIGN;
-  if (!word || is_of_process(word)) return LFM_DONE;
+  if (!word) return LFM_DONE;
+  if (is_of_process(word)) return is_of_parent(seat) ? LFM_FOREIGN : LFM_DONE;
   struct participant *by = seat ? seat->by : take_own(&cause);
   if (!by) return cause;
   take_seats(by, word);

@@ -17,8 +17,8 @@ static void count_fork(void) {
 }
 
 /* Has the system call these handlers: whether it will. It is asked before a program's constructors run, or as the first mutex is
- * opened, which may be earlier. So handlers of a program that lock, as those of a malloc do, are called while the latches are
- * free. */
+ * opened, which may be earlier. So handlers that are made later and lock, as those of a malloc do, are called while the latches
+ * are free. */
 static bool watch_forks(void) {
   static bool is_watching;
   hide(&LFM_PROCESS, sizeof LFM_PROCESS);

@@ -125,6 +125,6 @@ static lfm_status deadline_at(int clock, const struct timespec *time, struct dea
   if (!is_clock || time->tv_nsec < 0 || time->tv_nsec >= NANOSECONDS) return LFM_LIMIT;
   deadline->clock = clock;
   deadline->time = *time;
-  if (time->tv_sec < 0) deadline->time.tv_sec = 0;
+  if (time->tv_sec < 0) deadline->time = (struct timespec){0, 0};
   return LFM_DONE;
 }

@@ -1,7 +1,7 @@
 /* A latch is a futex lock of three states: 0 free, 1 held, 2 held with sleepers. A thread that finds it held spins, then
  * sleeps, so a holder of a lower priority gets to release it. The process has one, each pool has one for its seats, and a
- * condition variable one for its list. It is held for a few steps, and no thread waits for another meanwhile. The exchange
- * that releases it is the last access to it, as with a bell.
+ * condition variable one for its list. It is held for a few steps, but over a fork for as long as that takes (forks.h). The
+ * exchange that releases it is the last access to it, as with a bell.
  *
  * Its operations are sequentially consistent, except the load before one: the handle of a pool goes with its latch, and so
  * do those of its seats that are not taken. */
@@ -23,4 +23,19 @@ static void acquire_latch(uint32_t *latch) {
 
 static void release_latch(uint32_t *latch) {
   if (__atomic_exchange_n(latch, 0, __ATOMIC_SEQ_CST) == 2) wake_sleeper(latch);
+}
+
+/* The same for a latch of the process or of a pool, which any thread may need. Signals are blocked while it is held: a handler
+ * may fork, which waits for the latch, or stop its thread until another one acts, which may need the latch. The signals that
+ * were blocked before are kept meanwhile. */
+static void block_signals_and_acquire(uint32_t *latch, sigset_t *before) {
+  sigset_t all;
+  sigfillset(&all);
+  pthread_sigmask(SIG_BLOCK, &all, before);
+  acquire_latch(latch);
+}
+
+static void release_and_restore_signals(uint32_t *latch, const sigset_t *before) {
+  release_latch(latch);
+  pthread_sigmask(SIG_SETMASK, before, NULL);
 }

@@ -4,7 +4,7 @@
  * One call of the library grants the mutex to at most one seat, and its answer names that seat, which is proved. The thread that
  * made the call wakes that seat before it sleeps itself. So each grant is rung for, once, or the place is passed by.
  *
- * A bell is silent while its participant is in no call. Another thread rings only after it found the participant's ask in the
+ * Nobody rings a bell whose participant is in no call. Another thread rings only after it found the participant's ask in the
  * library's words, and these order the two. The lock waits for the ring before it receives, so no ring is left over. */
 
 static void *address_for_tools(mutex_word mutex) { return info_of(mutex); }

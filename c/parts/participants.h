@@ -20,10 +20,11 @@ SLOW_PATH bool reserve_participants(void) {
 /* The memory of all participants, or null if it is refused. */
 static struct participant *all_participants(void) {
   struct participant *found = __atomic_load_n(&LFM_PROCESS.participants, __ATOMIC_ACQUIRE);
+  sigset_t before;
   if (LIKELY(found)) return found;
-  acquire_latch(&LFM_PROCESS.latch);
+  block_signals_and_acquire(&LFM_PROCESS.latch, &before);
   bool is_there = LFM_PROCESS.participants || reserve_participants();
-  release_latch(&LFM_PROCESS.latch);
+  release_and_restore_signals(&LFM_PROCESS.latch, &before);
   return is_there ? LFM_PROCESS.participants : NULL;
 }
 

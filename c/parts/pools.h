@@ -75,10 +75,11 @@ SLOW_PATH lfm_status open_pool(uint32_t number) {
  * whose mutexes it has. */
 SLOW_PATH lfm_status grow(uint32_t known) {
   lfm_status status = LFM_DONE;
+  sigset_t before;
   if (!watch_forks()) return LFM_NO_MEMORY;
-  acquire_latch(&LFM_PROCESS.latch);
+  block_signals_and_acquire(&LFM_PROCESS.latch, &before);
   if (LFM_PROCESS.count_of_pools == known) status = open_pool(known + 1);
-  release_latch(&LFM_PROCESS.latch);
+  release_and_restore_signals(&LFM_PROCESS.latch, &before);
   return status;
 }
 
@@ -106,10 +107,11 @@ static void give_mutex(mutex_word mutex) { give_number(&pool_of(mutex)->numbers,
 static void take_seat(struct participant *by, uint32_t number) {
   void *seat = by->seats[number - 1];
   struct pool *pool = pool_at(number);
+  sigset_t before;
   lfm_c_blank_pool_seat(seat);
-  acquire_latch(&pool->latch);
+  block_signals_and_acquire(&pool->latch, &before);
   lfm_c_pool_take_seat(pool->handle, seat);
-  release_latch(&pool->latch);
+  release_and_restore_signals(&pool->latch, &before);
   __atomic_store_n(&pool->of_seat[lfm_c_pool_number(seat)], by, __ATOMIC_RELEASE);
 }
 

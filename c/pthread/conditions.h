@@ -1,22 +1,20 @@
 /* The calls of condition variables. An lfm_condvar lies where glibc has the state of its own. Behind it glibc's flags keep
  * their place: whether it is shared between processes, and its clock.
  *
- * One that is flagged as shared is the system's. A wait with a mutex that is passed on sets that flag, and a wait with
- * another mutex clears it. Both are possible only if nobody has waited there by the other way since it was initialized: then
- * all but the flags is zero. The flag is changed before the wait releases the mutex, so a thread that acquires the mutex
- * after it finds the flag as it is.
+ * One that is flagged as shared is the system's, and stays so until it is initialized anew. A wait with a mutex that is
+ * passed on sets that flag if nobody has waited there by the library: then all but the flags is zero. It does so before the
+ * wait releases the mutex, so a thread that acquires the mutex after it finds the flag set.
  *
  * A wake that doesn't hold the mutex may come beside that change. So it loads the head of the list before the flag. If it finds
  * the head null and the flag clear, no waiter was there that it has to wake, and it does nothing. If it finds a waiter and the
- * flag clear, that waiter is one of the library, since one of the system would have set the flag before. Then the flag stays
- * clear.
+ * flag clear, that waiter is one of the library, and the flag stays clear.
  *
  * A forked child lacks the threads of its parent that wait. What is listed of them lies in stacks that the child's own threads
  * get. So before a call of the child uses the list, it is made empty. That it was is seen by `used_in`. */
 
-struct own_cond {
+struct __attribute__((may_alias)) own_cond {
   lfm_condvar by;
-  uint32_t used_in; /* of which process the listed waiters are: one more than its forks; or 0 if there was none yet */
+  uint32_t used_in; /* of which process the listed waiters are, or 0 if there was none yet */
   uint32_t flags;
   uint64_t also_unused;
 };
@@ -28,8 +26,8 @@ enum { IS_SHARED = 1, IS_MONOTONIC = 2, FLAGS = IS_SHARED | IS_MONOTONIC };
 
 static struct own_cond *own_cond_of(pthread_cond_t *cond) { return (struct own_cond *)cond; }
 
-FAST_PATH bool is_cond_passed_on(const struct own_cond *own) {
-  return UNLIKELY(__atomic_load_n(&own->flags, __ATOMIC_ACQUIRE) & IS_SHARED);
+FAST_PATH bool is_cond_passed_on(const struct own_cond *ours) {
+  return UNLIKELY(__atomic_load_n(&ours->flags, __ATOMIC_ACQUIRE) & IS_SHARED);
 }
 
 /* Ends the program if the flags of the system's condition variables lie elsewhere, as they do since glibc 2.41: this library
@@ -48,31 +46,34 @@ __attribute__((constructor(103))) static void test_flags(void) {
   _exit(CANT_RUN);
 }
 
-/* Has the condition variable passed on, or not, as the mutex is that a wait has: whether that is possible. */
-static bool settle(struct own_cond *own, bool is_to_pass) {
-  struct own_cond unused = {.flags = own->flags & FLAGS};
-  if (is_cond_passed_on(own) == is_to_pass) return true;
-  if (memcmp(own, &unused, sizeof unused) != 0) return false;
-  __atomic_xor_fetch(&own->flags, IS_SHARED, __ATOMIC_ACQ_REL);
+/* Has the condition variable passed on if a wait has a mutex that is, and says whether the two go together. It isn't taken back
+ * from the system, since another process may wait there. */
+static bool settle(struct own_cond *ours, bool is_to_pass) {
+  struct own_cond unused = {.flags = ours->flags & FLAGS};
+  if (is_cond_passed_on(ours) == is_to_pass) return true;
+  if (!is_to_pass || memcmp(ours, &unused, sizeof unused) != 0) return false;
+  __atomic_or_fetch(&ours->flags, IS_SHARED, __ATOMIC_ACQ_REL);
   return true;
 }
 
-static uint32_t this_process(void) { return LFM_PROCESS.forks + 1; }
+/* The number of this process, which no earlier run of the program has, except by accident. */
+static uint32_t this_process(void) { return process_mark | 1; }
 
 /* The latch is that by which forks are counted. So it is free in a child, and one thread there makes the list empty. No waiter
  * is listed before. */
-SLOW_PATH void begin_use(struct own_cond *own) {
-  acquire_latch(&LFM_PROCESS.latch);
-  if (own->used_in != this_process()) {
-    memset(&own->by, 0, sizeof own->by);
-    __atomic_store_n(&own->used_in, this_process(), __ATOMIC_RELEASE);
+SLOW_PATH void begin_use(struct own_cond *ours) {
+  sigset_t before;
+  block_signals_and_acquire(&LFM_PROCESS.latch, &before);
+  if (ours->used_in != this_process()) {
+    memset(&ours->by, 0, sizeof ours->by);
+    __atomic_store_n(&ours->used_in, this_process(), __ATOMIC_RELEASE);
   }
-  release_latch(&LFM_PROCESS.latch);
+  release_and_restore_signals(&LFM_PROCESS.latch, &before);
 }
 
 /* Has the list be one of waiters of this process. It is not passed on. */
-FAST_PATH void use_here(struct own_cond *own) {
-  if (UNLIKELY(__atomic_load_n(&own->used_in, __ATOMIC_ACQUIRE) != this_process())) begin_use(own);
+FAST_PATH void use_here(struct own_cond *ours) {
+  if (UNLIKELY(__atomic_load_n(&ours->used_in, __ATOMIC_ACQUIRE) != this_process())) begin_use(ours);
 }
 
 /* Waits, at most until this time if there is one, with all holds of a recursive mutex. */
@@ -83,15 +84,15 @@ static lfm_status wait_by(struct own_cond *cond, struct own_mutex *mutex, clocki
 
 /* The body of the three waits. A cancellation that was requested before is acted on while the thread holds the mutex,
  * before the wait and if its time is over. It doesn't act after a wake, which would be lost. */
-#define RETURN_WAIT(cond, mutex, clock, end, passed_on)                                      \
-  struct own_cond *own = own_cond_of(cond);                                                  \
-  struct own_mutex *with = own_of(mutex);                                                    \
-  if (!settle(own, is_passed_on(with))) return EINVAL;                                       \
-  MAKE_READY_OR_RETURN(with, passed_on);                                                     \
-  use_here(own);                                                                             \
-  pthread_testcancel();                                                                      \
-  lfm_status status = wait_by(own, with, clock, end);                                        \
-  if (status == LFM_TIMED_OUT) pthread_testcancel();                                         \
+#define RETURN_WAIT(cond, mutex, clock, end, passed_on) \
+  struct own_cond *ours = own_cond_of(cond);            \
+  struct own_mutex *with = own_of(mutex);               \
+  if (!settle(ours, is_passed_on(with))) return EINVAL; \
+  MAKE_READY_OR_RETURN(with, passed_on);                \
+  use_here(ours);                                       \
+  pthread_testcancel();                                 \
+  lfm_status status = wait_by(ours, with, clock, end);  \
+  if (status == LFM_TIMED_OUT) pthread_testcancel();    \
   return LIKELY(status == LFM_DONE) ? 0 : error_of(status)
 
 static bool is_time(const struct timespec *time) { return time->tv_nsec >= 0 && time->tv_nsec < NANOSECONDS; }
@@ -103,10 +104,10 @@ EXPORTED int pthread_cond_init(pthread_cond_t *cond, const pthread_condattr_t *a
 }
 
 EXPORTED int pthread_cond_destroy(pthread_cond_t *cond) {
-  struct own_cond *own = own_cond_of(cond);
-  if (is_cond_passed_on(own)) return system_cond_destroy(cond);
-  use_here(own);
-  return error_of(lfm_condvar_close(&own->by));
+  struct own_cond *ours = own_cond_of(cond);
+  if (is_cond_passed_on(ours)) return system_cond_destroy(cond);
+  use_here(ours);
+  return error_of(lfm_condvar_close(&ours->by));
 }
 
 EXPORTED int pthread_cond_wait(pthread_cond_t *cond, pthread_mutex_t *mutex) {
@@ -125,19 +126,19 @@ EXPORTED int pthread_cond_clockwait(pthread_cond_t *cond, pthread_mutex_t *mutex
 }
 
 /* The body of the two wakes. */
-#define RETURN_WAKE(cond, passed_on, own_wake)                                               \
-  struct own_cond *own = own_cond_of(cond);                                                  \
-  bool has_waiter = __atomic_load_n(&own->by.oldest, __ATOMIC_ACQUIRE);                      \
-  if (is_cond_passed_on(own)) return passed_on;                                              \
-  if (!has_waiter) return 0;                                                                 \
-  use_here(own);                                                                             \
-  own_wake;                                                                                  \
+#define RETURN_WAKE(cond, passed_on, own_wake)                           \
+  struct own_cond *ours = own_cond_of(cond);                             \
+  bool has_waiter = __atomic_load_n(&ours->by.oldest, __ATOMIC_ACQUIRE); \
+  if (is_cond_passed_on(ours)) return passed_on;                         \
+  if (!has_waiter) return 0;                                             \
+  use_here(ours);                                                        \
+  own_wake;                                                              \
   return 0
 
 EXPORTED int pthread_cond_signal(pthread_cond_t *cond) {
-  RETURN_WAKE(cond, system_cond_signal(cond), lfm_wake_one(&own->by));
+  RETURN_WAKE(cond, system_cond_signal(cond), lfm_wake_one(&ours->by));
 }
 
 EXPORTED int pthread_cond_broadcast(pthread_cond_t *cond) {
-  RETURN_WAKE(cond, system_cond_broadcast(cond), lfm_wake_all(&own->by));
+  RETURN_WAKE(cond, system_cond_broadcast(cond), lfm_wake_all(&ours->by));
 }

@@ -19,17 +19,17 @@ SLOW_PATH int error_of(lfm_status status) {
 }
 
 /* Returns from a function unless the mutex is ready: with what the system answers if it is passed on, or with an error. */
-#define MAKE_READY_OR_RETURN(own, passed_on)                       \
-  if (UNLIKELY(!is_ready(own))) {                                  \
-    if (is_passed_on(own)) return passed_on;                       \
-    lfm_status is_open = make_ready(own);                          \
-    if (is_open != LFM_DONE) return error_of(is_open);             \
-  }                                                                \
+#define MAKE_READY_OR_RETURN(ours, passed_on)          \
+  if (UNLIKELY(!is_ready(ours))) {                     \
+    if (is_passed_on(ours)) return passed_on;          \
+    lfm_status is_open = make_ready(ours);             \
+    if (is_open != LFM_DONE) return error_of(is_open); \
+  }                                                    \
   COUNT_CALL(made)
 
 /* Whether a thread that holds the mutex and locks it again waits for itself, as POSIX has it. */
-static bool is_for_one_hold(const struct own_mutex *own) {
-  uint32_t kind = kind_of(own) & KIND_BITS;
+static bool is_for_one_hold(const struct own_mutex *ours) {
+  uint32_t kind = kind_of(ours) & KIND_BITS;
   return kind == PTHREAD_MUTEX_NORMAL || kind == PTHREAD_MUTEX_ADAPTIVE_NP;
 }
 
@@ -41,25 +41,25 @@ static int sleep_for_itself(const struct deadline *deadline) {
 }
 
 /* The answer of a lock with this status, which is not LFM_DONE, and this deadline, or null if it has none. */
-SLOW_PATH int end_lock(struct own_mutex *own, lfm_status status, const struct deadline *deadline) {
+SLOW_PATH int end_lock(struct own_mutex *ours, lfm_status status, const struct deadline *deadline) {
   if (status != LFM_AGAIN) return error_of(status);
-  if ((kind_of(own) & KIND_BITS) == PTHREAD_MUTEX_RECURSIVE) return 0;
-  lfm_unlock_here(&own->by);
-  return is_for_one_hold(own) ? sleep_for_itself(deadline) : EDEADLK;
+  if ((kind_of(ours) & KIND_BITS) == PTHREAD_MUTEX_RECURSIVE) return 0;
+  lfm_unlock_here(&ours->by);
+  return is_for_one_hold(ours) ? sleep_for_itself(deadline) : EDEADLK;
 }
 
 /* The system looks at a time only if it has to wait. */
-static int lock_at_most_until(struct own_mutex *own, clockid_t clock, const struct timespec *end) {
+static int lock_at_most_until(struct own_mutex *ours, clockid_t clock, const struct timespec *end) {
   struct deadline deadline = {0, {0, 0}};
-  lfm_status status = lfm_try_lock_here(&own->by);
+  lfm_status status = lfm_try_lock_here(&ours->by);
   if (status == LFM_DONE) return 0;
-  bool waits = status == LFM_BUSY || (status == LFM_AGAIN && is_for_one_hold(own));
+  bool waits = status == LFM_BUSY || (status == LFM_AGAIN && is_for_one_hold(ours));
   if (waits && deadline_at(clock, end, &deadline) != LFM_DONE) {
-    if (status == LFM_AGAIN) lfm_unlock_here(&own->by);
+    if (status == LFM_AGAIN) lfm_unlock_here(&ours->by);
     return EINVAL;
   }
-  if (status == LFM_BUSY) status = lfm_try_lock_until_here(&own->by, clock, end);
-  return status == LFM_DONE ? 0 : status == LFM_BUSY ? ETIMEDOUT : end_lock(own, status, &deadline);
+  if (status == LFM_BUSY) status = lfm_try_lock_until_here(&ours->by, clock, end);
+  return status == LFM_DONE ? 0 : status == LFM_BUSY ? ETIMEDOUT : end_lock(ours, status, &deadline);
 }
 
 EXPORTED int pthread_mutex_init(pthread_mutex_t *mutex, const pthread_mutexattr_t *attributes) {
@@ -69,51 +69,51 @@ EXPORTED int pthread_mutex_init(pthread_mutex_t *mutex, const pthread_mutexattr_
 }
 
 EXPORTED int pthread_mutex_destroy(pthread_mutex_t *mutex) {
-  struct own_mutex *own = own_of(mutex);
-  if (is_passed_on(own)) return system_mutex_destroy(mutex);
-  lfm_status status = own->mark == 0 ? LFM_DONE : make_ready(own);
-  if (status == LFM_DONE && own->mark) status = close_and_forget(own);
+  struct own_mutex *ours = own_of(mutex);
+  if (is_passed_on(ours)) return system_mutex_destroy(mutex);
+  lfm_status status = ours->mark == 0 ? LFM_DONE : make_ready(ours);
+  if (status == LFM_DONE && ours->mark) status = close_and_forget(ours);
   if (status != LFM_DONE) return error_of(status);
-  own->mark = 0;
-  __atomic_store_n(&own->kind, UINT32_MAX, __ATOMIC_RELAXED);
+  ours->mark = 0;
+  __atomic_store_n(&ours->kind, UINT32_MAX, __ATOMIC_RELAXED);
   return 0;
 }
 
 EXPORTED int pthread_mutex_lock(pthread_mutex_t *mutex) {
-  struct own_mutex *own = own_of(mutex);
-  MAKE_READY_OR_RETURN(own, system_mutex_lock(mutex));
-  lfm_status status = lfm_lock_here(&own->by);
-  return LIKELY(status == LFM_DONE) ? 0 : end_lock(own, status, NULL);
+  struct own_mutex *ours = own_of(mutex);
+  MAKE_READY_OR_RETURN(ours, system_mutex_lock(mutex));
+  lfm_status status = lfm_lock_here(&ours->by);
+  return LIKELY(status == LFM_DONE) ? 0 : end_lock(ours, status, NULL);
 }
 
 EXPORTED int pthread_mutex_trylock(pthread_mutex_t *mutex) {
-  struct own_mutex *own = own_of(mutex);
-  MAKE_READY_OR_RETURN(own, system_mutex_trylock(mutex));
-  lfm_status status = lfm_try_lock_here(&own->by);
+  struct own_mutex *ours = own_of(mutex);
+  MAKE_READY_OR_RETURN(ours, system_mutex_trylock(mutex));
+  lfm_status status = lfm_try_lock_here(&ours->by);
   if (LIKELY(status == LFM_DONE)) return 0;
   if (status != LFM_AGAIN) return error_of(status);
-  if ((kind_of(own) & KIND_BITS) == PTHREAD_MUTEX_RECURSIVE) return 0;
-  lfm_unlock_here(&own->by);
+  if ((kind_of(ours) & KIND_BITS) == PTHREAD_MUTEX_RECURSIVE) return 0;
+  lfm_unlock_here(&ours->by);
   return EBUSY;
 }
 
 EXPORTED int pthread_mutex_timedlock(pthread_mutex_t *mutex, const struct timespec *end) {
-  struct own_mutex *own = own_of(mutex);
-  MAKE_READY_OR_RETURN(own, system_mutex_timedlock(mutex, end));
-  return lock_at_most_until(own, CLOCK_REALTIME, end);
+  struct own_mutex *ours = own_of(mutex);
+  MAKE_READY_OR_RETURN(ours, system_mutex_timedlock(mutex, end));
+  return lock_at_most_until(ours, CLOCK_REALTIME, end);
 }
 
 EXPORTED int pthread_mutex_clocklock(pthread_mutex_t *mutex, clockid_t clock, const struct timespec *end) {
-  struct own_mutex *own = own_of(mutex);
+  struct own_mutex *ours = own_of(mutex);
   if (clock != CLOCK_REALTIME && clock != CLOCK_MONOTONIC) return EINVAL;
-  MAKE_READY_OR_RETURN(own, system_mutex_clocklock(mutex, clock, end));
-  return lock_at_most_until(own, clock, end);
+  MAKE_READY_OR_RETURN(ours, system_mutex_clocklock(mutex, clock, end));
+  return lock_at_most_until(ours, clock, end);
 }
 
 EXPORTED int pthread_mutex_unlock(pthread_mutex_t *mutex) {
-  struct own_mutex *own = own_of(mutex);
-  MAKE_READY_OR_RETURN(own, system_mutex_unlock(mutex));
-  lfm_status status = lfm_unlock_here(&own->by);
+  struct own_mutex *ours = own_of(mutex);
+  MAKE_READY_OR_RETURN(ours, system_mutex_unlock(mutex));
+  lfm_status status = lfm_unlock_here(&ours->by);
   return LIKELY(!lfm_is_refused(status)) ? 0 : error_of(status);
 }
 

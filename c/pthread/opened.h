@@ -11,14 +11,15 @@
  *
  *   - zero, as it was initialized;
  *   - or one of the parent, which a forked child makes new (lfm_after_fork);
- *   - or a copy of another one, which POSIX doesn't allow, but works in glibc. It gets a mutex of its own;
+ *   - or a copy of another one, which POSIX doesn't allow, but works in glibc. It gets a mutex of its own, unless it is copied
+ *     back to a place where the mutex was destroyed meanwhile;
  *   - or one of an earlier run, in memory that was stored and is mapped at the same address. It gets one too.
  *
  * Many mutexes are never destroyed: the destructor of std::mutex doesn't. So a table says which mutex was opened at which
  * address. If another mutex is opened there, the one before is closed. So there are at most as many open ones as addresses
  * at which mutexes have ever been. */
 
-struct own_mutex {
+struct __attribute__((may_alias)) own_mutex {
   uint64_t of_system[2];
   uint32_t kind;
   uint32_t mark;
@@ -36,7 +37,10 @@ static uint32_t process_mark;
 
 static struct own_mutex *own_of(pthread_mutex_t *mutex) { return (struct own_mutex *)mutex; }
 
-FAST_PATH uint32_t mark_of(const struct own_mutex *mutex) { return ((uint32_t)((uintptr_t)mutex >> 3) ^ process_mark) | 1; }
+FAST_PATH uint32_t mark_of(const struct own_mutex *mutex) {
+  uint64_t mixed = (uintptr_t)mutex * UINT64_C(0x9E3779B97F4A7C15);
+  return ((uint32_t)(mixed >> 32) ^ process_mark) | 1;
+}
 
 FAST_PATH uint32_t kind_of(const struct own_mutex *mutex) { return __atomic_load_n(&mutex->kind, __ATOMIC_RELAXED); }
 
@@ -123,7 +127,8 @@ static lfm_status take_over(struct own_mutex *mutex) {
 
 static lfm_status open_here(struct own_mutex *mutex) {
   if (is_ready(mutex)) return LFM_DONE;
-  if (!make_room()) return LFM_NO_MEMORY;
+  bool is_listed = opened.room && find_opening(mutex)->at;
+  if (!is_listed && !make_room()) return LFM_NO_MEMORY;
   struct opening *opening = find_opening(mutex);
   bool is_known = opening->at && opening->core == mutex->by.core;
   lfm_status status = is_known ? take_over(mutex) : open_anew(mutex, opening);
@@ -152,16 +157,22 @@ static uint32_t draw_mark(void) {
 static void hold_opened(void) { acquire_latch(&opened.latch); }
 static void release_opened(void) { release_latch(&opened.latch); }
 
+/* Whether the system can read 8 bytes there. It reads the set of a call that it then refuses, since there is no such change of a
+ * set. */
+static bool is_readable(const void *at) {
+  enum { NO_CHANGE = -1, SET_BYTES = 8 };
+  int before = errno;
+  bool is_read = syscall(SYS_rt_sigprocmask, NO_CHANGE, at, NULL, SET_BYTES) != -1 || errno != EFAULT;
+  errno = before;
+  return is_read;
+}
+
 /* Whether the mutex of this opening still lies there. A program may have freed the memory of a mutex that it holds: the system may
  * have it back, or it may have other contents. */
 static bool is_in_place(const struct opening *opening) {
   const struct own_mutex *mutex = opening->at;
-  unsigned char pages[2];
-  int before = errno;
-  uintptr_t page = (uintptr_t)sysconf(_SC_PAGESIZE), begin = (uintptr_t)mutex & ~(page - 1);
-  bool is_mapped = mincore((void *)begin, (uintptr_t)(mutex + 1) - begin, pages) == 0;
-  errno = before;
-  return is_mapped && mutex->mark == mark_of(mutex) && mutex->by.core == opening->core;
+  if (!is_readable(mutex) || !is_readable((const char *)(mutex + 1) - 8)) return false;
+  return mutex->mark == mark_of(mutex) && mutex->by.core == opening->core;
 }
 
 /* Makes the mutex of this opening new if the calling thread holds it. If there is no memory, its next call tries again. */
@@ -171,7 +182,7 @@ static void take_over_held(struct opening *opening) {
   opening->core = opening->at->by.core;
 }
 
-static void change_mark(void) {
+static void begin_child(void) {
   for (size_t i = 0; own.by->holds && i < opened.room; i++) take_over_held(&opened.all[i]);
   process_mark += 0x9E3779B2;
   release_latch(&opened.latch);
@@ -179,39 +190,41 @@ static void change_mark(void) {
 
 /* The mark is drawn before the first mutex is opened, while the program has one thread. If the system had no memory for the
  * handlers then, they are tried again, and it is drawn as it was. */
-__attribute__((constructor(102))) static void change_mark_at_forks(void) {
+__attribute__((constructor(102))) static void prepare_for_forks(void) {
   static bool is_made;
   watch_forks();
   if (__atomic_exchange_n(&is_made, true, __ATOMIC_SEQ_CST)) return;
   process_mark = draw_mark();
-  if (pthread_atfork(hold_opened, release_opened, change_mark) != 0) __atomic_store_n(&is_made, false, __ATOMIC_SEQ_CST);
+  if (pthread_atfork(hold_opened, release_opened, begin_child) != 0) __atomic_store_n(&is_made, false, __ATOMIC_SEQ_CST);
 }
 
-/* Acquires the latch, under which nothing may call malloc: that may lock a mutex which is not open yet. So the handlers of
- * forks are made before, and the calling thread has its participant. */
-static lfm_status acquire_opened(void) {
+/* Acquires the latch, with signals blocked, as for a latch of the process. Nothing under it may call malloc: that may lock a
+ * mutex which is not open yet. So the handlers of forks are made before, and the calling thread has its participant. */
+static lfm_status acquire_opened(sigset_t *before) {
   lfm_status cause = LFM_DONE;
-  change_mark_at_forks();
+  prepare_for_forks();
   if (!take_own(&cause)) return cause;
-  acquire_latch(&opened.latch);
+  block_signals_and_acquire(&opened.latch, before);
   return LFM_DONE;
 }
 
 /* Opens the mutex, which is not passed on, if it isn't open in this process and place. */
 SLOW_PATH lfm_status make_ready(struct own_mutex *mutex) {
-  lfm_status status = acquire_opened();
+  sigset_t before;
+  lfm_status status = acquire_opened(&before);
   if (status != LFM_DONE) return status;
   status = open_here(mutex);
-  release_latch(&opened.latch);
+  release_and_restore_signals(&opened.latch, &before);
   return status;
 }
 
 static lfm_status close_and_forget(struct own_mutex *mutex) {
-  lfm_status status = acquire_opened();
+  sigset_t before;
+  lfm_status status = acquire_opened(&before);
   if (status != LFM_DONE) return status;
   status = lfm_mutex_close(&mutex->by);
   struct opening *opening = find_opening(mutex);
   if (status == LFM_DONE && opening->at) free_opening(opening);
-  release_latch(&opened.latch);
+  release_and_restore_signals(&opened.latch, &before);
   return status;
 }

@@ -4,6 +4,7 @@
 #include <errno.h>
 #include <link.h>
 #include <pthread.h>
+#include <signal.h>
 #include <stdarg.h>
 #include <stdio.h>
 #include <stdlib.h>
@@ -89,6 +90,9 @@ static void *explorer_reserve(size_t bytes) {
 #define pthread_key_delete explorer_key_delete
 #define pthread_setspecific explorer_setspecific
 #define pthread_atfork explorer_atfork
+/* There are no signals. What these would leave on a stack would only tell apart states that are the same. */
+#define sigfillset(set) ((void)(set))
+#define pthread_sigmask(how, set, before) ((void)(how), (void)(set), (void)(before))
 #define malloc(bytes) explorer_allocate(__func__, bytes)
 #define free explorer_free
 #define mmap(at, bytes, ...) explorer_reserve(bytes)

@@ -474,6 +474,20 @@ static void test_shared(void) {
   EXPECT(pthread_mutex_destroy(&shared->mutex), 0);
 }
 
+/* A condition variable that is shared, with a mutex that isn't. */
+static void test_shared_condition(void) {
+  pthread_cond_t shared;
+  pthread_condattr_t of_cond;
+  struct timespec end = after(CLOCK_REALTIME, 10 * MILLISECOND);
+  EXPECT(pthread_condattr_init(&of_cond), 0);
+  EXPECT(pthread_condattr_setpshared(&of_cond, PTHREAD_PROCESS_SHARED), 0);
+  EXPECT(pthread_cond_init(&shared, &of_cond), 0);
+  EXPECT(pthread_mutex_lock(&guard), 0);
+  EXPECT(pthread_cond_timedwait(&shared, &guard, &end), EITHER(EINVAL, ETIMEDOUT));
+  EXPECT(pthread_mutex_unlock(&guard), 0);
+  EXPECT(pthread_cond_destroy(&shared), 0);
+}
+
 static pthread_mutex_t by_priority;
 static pthread_cond_t at_priority = PTHREAD_COND_INITIALIZER;
 
@@ -558,6 +572,7 @@ int main(int words, char **word) {
   test_last_users();
   test_cancellation();
   test_shared();
+  test_shared_condition();
   test_priorities();
   test_held_in_child();
   test_forks();

@@ -1,6 +1,6 @@
 /* A thread forks while it holds a mutex for which another thread is queued, and after it has signalled a third one. In the child
  * another thread makes the first call of the mutex: it sleeps until the thread that forked unlocks. The thread also holds mutexes
- * whose memory the system has back, or has other contents: the child lets that memory alone. The test passes with
+ * whose memory the system has back, or can't be read, or has other contents: the child lets that memory alone. The test passes with
  * libligdrosa_pthread.so preloaded, and with the system's mutex. */
 #define _GNU_SOURCE
 #include <sys/mman.h>
@@ -57,6 +57,7 @@ int main(void) {
   EXPECT(pthread_create(&waits, NULL, wait_for_change, NULL), 0);
   usleep(SOON);
   EXPECT(munmap(lock_in_own_memory(), PAGE), 0);
+  EXPECT(mprotect(lock_in_own_memory(), PAGE, PROT_NONE), 0);
   overwritten = lock_in_own_memory();
   memset(contents, OVER, sizeof contents);
   memcpy(overwritten, contents, sizeof contents);

@@ -63,6 +63,7 @@
 #include "ligdrosa.c"
 
 #include <dlfcn.h>
+#include <sys/random.h>
 
 /* A test counts the calls that are made over Ligdrosa, and those that are passed on. */
 #ifndef COUNT_CALL

@@ -140,14 +140,13 @@ static lfm_status open_here(struct own_mutex *mutex) {
   return LFM_DONE;
 }
 
-/* The number of this program, from 16 bytes that the system draws for each. glibc has secrets of its own from the same bytes.
- * So all of them are mixed, and half of the result is left out: then a mark tells none of the secrets. */
+/* The number of this program, drawn by the system, or made of the time if it draws none yet. */
 static uint32_t draw_mark(void) {
-  enum { BYTES_DRAWN = 16 };
-  const unsigned char *drawn = (const unsigned char *)getauxval(AT_RANDOM);
-  uint64_t mixed = 0;
-  for (int i = 0; drawn && i < BYTES_DRAWN; i++) mixed = (mixed ^ drawn[i]) * UINT64_C(0x9E3779B97F4A7C15);
-  return (uint32_t)(mixed >> 32);
+  uint32_t drawn;
+  int before = errno;
+  bool is_drawn = syscall(SYS_getrandom, &drawn, sizeof drawn, GRND_NONBLOCK) == sizeof drawn;
+  errno = before;
+  return is_drawn ? drawn : (uint32_t)nanoseconds();
 }
 
 /* Forks: the latch is held over them, and a child has another mark. Mutexes that the forking thread holds are made new at
@@ -189,12 +188,12 @@ static void begin_child(void) {
 }
 
 /* The mark is drawn before the first mutex is opened, while the program has one thread. If the system had no memory for the
- * handlers then, they are tried again, and it is drawn as it was. */
+ * handlers then, they are tried again, and the mark stays. */
 __attribute__((constructor(102))) static void prepare_for_forks(void) {
   static bool is_made;
   watch_forks();
   if (__atomic_exchange_n(&is_made, true, __ATOMIC_SEQ_CST)) return;
-  process_mark = draw_mark();
+  if (!process_mark) process_mark = draw_mark();
   if (pthread_atfork(hold_opened, release_opened, begin_child) != 0) __atomic_store_n(&is_made, false, __ATOMIC_SEQ_CST);
 }
 

@@ -42,6 +42,8 @@
  *   - A thread that waits without a time limit, and is signalled by a holder of its mutex, is woken when that unlocks.
  *   - A thread that sleeps at a condition variable is not woken by pthread_cancel. It acts on that at its next cancellation
  *     point after it was woken. A wait is a cancellation point before it sleeps, and when its time is over.
+ *   - If one thread forks, and another flushes all streams, a third one that holds a stream (flockfile) must not call a mutex
+ *     for the first time, destroy one, or make its own first call: each would wait for the next.
  *   - The memory of a mutex in the library is not given back if the program never destroys it, as those of std::mutex are
  *     not, until another mutex lies in the same place. A mutex that was copied, or stored by an earlier run of the
  *     program, is another one, which nobody holds. It must not be copied back after it was destroyed in its place.

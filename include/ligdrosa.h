@@ -52,8 +52,8 @@
  *     text. This does not check lfm_depth and lfm_assert_held.
  *   - No signal handler makes a call or forks. Handlers of pthread_atfork that were made before the library's own, which it
  *     makes as it is initialized, call no mutex. A fork waits for calls that open a mutex or take a number or a seat, and
- *     these wait for it: so the thread of such a call holds nothing that a fork or its handlers wait for, such as a stream
- *     (flockfile) that another thread is about to flush.
+ *     these wait for it: so the thread of such a call holds nothing that a fork or such a handler waits for, as a stream
+ *     (flockfile) while another thread flushes all streams.
  *   - A forked child calls a mutex that the forking thread held only after lfm_after_fork. It doesn't call one that another
  *     thread held, or that nobody held and another thread asked for or was releasing. All others it calls as its parent
  *     does. It may close each mutex and give back each seat: a seat of its parent is only forgotten, even if it holds, and
@@ -227,7 +227,7 @@ LFM_API lfm_status lfm_mutex_close(lfm_mutex *mutex);
 LFM_API uint64_t lfm_takes_left(lfm_mutex *mutex);
 
 /* In a forked child, makes a mutex new that the thread which forked held, or that no seat held or asked for: that thread
- * holds it as often as before. If it held, it makes this call itself. It is the child's first call of the mutex. `seat` is
+ * holds it as often as before. If it held, it makes this call itself. This call is the child's first of the mutex. `seat` is
  * the seat by which it held, or null if it calls those that end in `here`. Other seats in hand of the mutex are forgotten:
  * an lfm_seat is set to zero before it is taken anew. What the library had of the parent's mutex stays taken. In the process
  * that opened the mutex it changes nothing. It may sleep while another thread opens a pool, takes a seat in one or forks.
@@ -287,8 +287,8 @@ LFM_NODISCARD lfm_status lfm_try_lock(lfm_seat *seat);
  * If the time is over while it is queued, that number alone stays queued. The seat's next lock, with a time limit or
  * without, waits from the same place, unless it acquires the mutex by a try. If the turn of the place comes first, an
  * unlock passes it by. Until then lfm_mutex_close answers LFM_HOLDING. If its turn comes as the time ends, the call
- * acquires the mutex. The first such locks of a thread or seat in a pool may take longer: they may sleep as the first
- * call of a thread.
+ * acquires the mutex. A lock that takes such a number for the first time may take longer: it may sleep as the first call of
+ * a thread.
  * Refused: as lfm_lock, and LFM_BUSY, which tells that the time is over. Before all these
  * lfm_try_lock_until is refused as LFM_BLANK if `time` is null, and as LFM_LIMIT if there is no such clock, or not 0 to
  * 999,999,999 nanoseconds in `time`. */

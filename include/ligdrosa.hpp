@@ -375,7 +375,7 @@ public:
   bool notify_all() noexcept { return lfm_wake_all(&raw) == LFM_DONE; }
   // The same by a thread that holds by this seat. Threads that wait for its mutex without a time limit are woken when the
   // seat releases it, so they don't find it held. notify_one and notify_all do so if the caller holds a recursive_mutex, unless
-  // they have put off such wakes for another one.
+  // they have put off such wakes for another one. Throws LFM_BLANK if the seat was moved from.
   bool notify_one_by(seat_lock &holder) { return lfm::made(lfm_wake_one_by(&raw, holder.native_handle())) == LFM_DONE; }
   bool notify_all_by(seat_lock &holder) { return lfm::made(lfm_wake_all_by(&raw, holder.native_handle())) == LFM_DONE; }
 };

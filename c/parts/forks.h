@@ -1,14 +1,21 @@
 /* Forks: how often a process was forked from the first one, and that no latch is held by a thread that a child lacks. The latches
- * of the process and of its pools are held over a fork. What a child does with mutexes of its parent is in end.h. */
+ * of the process and of its pools are held over a fork, with signals blocked, as always. What a child does with mutexes of its
+ * parent is in end.h. */
+
+/* The signals that the thread that forks had blocked before. The latch is held for it. */
+static sigset_t blocked_before_fork;
 
 static void hold_latches(void) {
-  acquire_latch(&LFM_PROCESS.latch);
+  sigset_t before;
+  block_signals_and_acquire(&LFM_PROCESS.latch, &before);
+  blocked_before_fork = before;
   for (uint32_t i = 1; i <= LFM_PROCESS.count_of_pools; i++) acquire_latch(&LFM_PROCESS.pools[i]->latch);
 }
 
 static void release_latches(void) {
   for (uint32_t i = 1; i <= LFM_PROCESS.count_of_pools; i++) release_latch(&LFM_PROCESS.pools[i]->latch);
-  release_latch(&LFM_PROCESS.latch);
+  sigset_t before = blocked_before_fork;
+  release_and_restore_signals(&LFM_PROCESS.latch, &before);
 }
 
 static void count_fork(void) {

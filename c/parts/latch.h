@@ -1,7 +1,7 @@
 /* A latch is a futex lock of three states: 0 free, 1 held, 2 held with sleepers. A thread that finds it held spins, then
  * sleeps, so a holder of a lower priority gets to release it. The process has one, each pool has one for its seats, and a
- * condition variable one for its list. It is held for a few steps, but over a fork for as long as that takes (forks.h). The
- * exchange that releases it is the last access to it, as with a bell.
+ * condition variable one for its list. It is held for a few steps. The latches of the process and of pools are also held
+ * over a fork (forks.h). The exchange that releases it is the last access to it, as with a bell.
  *
  * Its operations are sequentially consistent, except the load before one: the handle of a pool goes with its latch, and so
  * do those of its seats that are not taken. */
@@ -26,12 +26,16 @@ static void release_latch(uint32_t *latch) {
 }
 
 /* The same for a latch of the process or of a pool, which any thread may need. Signals are blocked while it is held: a handler
- * may fork, which waits for the latch, or stop its thread until another one acts, which may need the latch. The signals that
- * were blocked before are kept meanwhile. */
+ * may stop its thread until another one acts, which may need the latch, and in a preloaded program it may fork, which waits for
+ * the latch. Signals that an instruction causes stay open: the memory of a mutex may be write-protected until a handler acts.
+ * `before` has the signals that were blocked before. */
 static void block_signals_and_acquire(uint32_t *latch, sigset_t *before) {
-  sigset_t all;
-  sigfillset(&all);
-  pthread_sigmask(SIG_BLOCK, &all, before);
+  static const int of_instructions[] = {SIGSEGV, SIGBUS, SIGFPE, SIGILL, SIGTRAP, SIGSYS};
+  sigset_t blocked;
+  sigfillset(&blocked);
+  for (size_t i = 0; i < sizeof of_instructions / sizeof *of_instructions; i++) sigdelset(&blocked, of_instructions[i]);
+  sigemptyset(before);
+  pthread_sigmask(SIG_BLOCK, &blocked, before);
   acquire_latch(latch);
 }
 

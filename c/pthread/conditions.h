@@ -52,15 +52,16 @@ static bool settle(struct own_cond *ours, bool is_to_pass) {
   struct own_cond unused = {.flags = ours->flags & FLAGS};
   if (is_cond_passed_on(ours) == is_to_pass) return true;
   if (!is_to_pass || memcmp(ours, &unused, sizeof unused) != 0) return false;
-  __atomic_or_fetch(&ours->flags, IS_SHARED, __ATOMIC_ACQ_REL);
+  __atomic_or_fetch(&ours->flags, IS_SHARED, __ATOMIC_SEQ_CST);
+  __atomic_thread_fence(__ATOMIC_SEQ_CST); /* before the system's own changes, in whatever order these are */
   return true;
 }
 
-/* The number of this process, which no earlier run of the program has, except by accident. */
+/* The number of this process, which no other one has that ran the program, except by accident. */
 static uint32_t this_process(void) { return process_mark | 1; }
 
-/* The latch is that by which forks are counted. So it is free in a child, and one thread there makes the list empty. No waiter
- * is listed before. */
+/* The latch is held over forks, so it is free in a child, and one thread there makes the list empty. No waiter is listed
+ * before. */
 SLOW_PATH void begin_use(struct own_cond *ours) {
   sigset_t before;
   block_signals_and_acquire(&LFM_PROCESS.latch, &before);
@@ -106,6 +107,7 @@ EXPORTED int pthread_cond_init(pthread_cond_t *cond, const pthread_condattr_t *a
 EXPORTED int pthread_cond_destroy(pthread_cond_t *cond) {
   struct own_cond *ours = own_cond_of(cond);
   if (is_cond_passed_on(ours)) return system_cond_destroy(cond);
+  if (__atomic_load_n(&ours->used_in, __ATOMIC_ACQUIRE) == 0) return 0;
   use_here(ours);
   return error_of(lfm_condvar_close(&ours->by));
 }

@@ -71,7 +71,7 @@ EXPORTED int pthread_mutex_init(pthread_mutex_t *mutex, const pthread_mutexattr_
 EXPORTED int pthread_mutex_destroy(pthread_mutex_t *mutex) {
   struct own_mutex *ours = own_of(mutex);
   if (is_passed_on(ours)) return system_mutex_destroy(mutex);
-  lfm_status status = ours->mark == 0 ? LFM_DONE : make_ready(ours);
+  lfm_status status = ours->mark == 0 || is_ready(ours) ? LFM_DONE : make_ready(ours);
   if (status == LFM_DONE && ours->mark) status = close_and_forget(ours);
   if (status != LFM_DONE) return error_of(status);
   ours->mark = 0;

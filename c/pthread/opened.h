@@ -6,7 +6,7 @@
  * calls find a mutex that is free. After it lies a mark.
  *
  * The mark says that the mutex is open: it was made of the address, and of a number that each program draws as it begins, and
- * each forked child changes. So a call sees by one comparison whether the mutex is open in this process and in this place.
+ * each forked child draws anew. So a call sees by one comparison whether the mutex is open in this process and in this place.
  * Otherwise it is
  *
  *   - zero, as it was initialized;
@@ -153,24 +153,37 @@ static uint32_t draw_mark(void) {
  * once, by that thread: otherwise the first call of one might be another thread's, for which it would stay held for ever. The
  * library's own handlers are made before, so its latches are taken last and released first. */
 
-static void hold_opened(void) { acquire_latch(&opened.latch); }
-static void release_opened(void) { release_latch(&opened.latch); }
+/* The signals that the thread that forks had blocked before. The latch is held for it. */
+static sigset_t blocked_before_opened;
 
-/* Whether the system can read 8 bytes there. It reads the set of a call that it then refuses, since there is no such change of a
- * set. */
-static bool is_readable(const void *at) {
-  enum { NO_CHANGE = -1, SET_BYTES = 8 };
-  int before = errno;
-  bool is_read = syscall(SYS_rt_sigprocmask, NO_CHANGE, at, NULL, SET_BYTES) != -1 || errno != EFAULT;
-  errno = before;
-  return is_read;
+static void hold_opened(void) {
+  sigset_t before;
+  block_signals_and_acquire(&opened.latch, &before);
+  blocked_before_opened = before;
 }
 
-/* Whether the mutex of this opening still lies there. A program may have freed the memory of a mutex that it holds: the system may
- * have it back, or it may have other contents. */
+static void release_opened(void) {
+  sigset_t before = blocked_before_opened;
+  release_and_restore_signals(&opened.latch, &before);
+}
+
+/* Whether the word may be read and written. The system is asked to add 0 to it, and to wake nobody. */
+static bool is_writable(uint32_t *word) {
+  enum { ADD_0_AND_WAKE_NONE = 1 << 28 | 2 << 24 }; /* FUTEX_OP_ADD, and FUTEX_OP_CMP_LT for a wake */
+  uint32_t nothing = 0;
+  int before = errno;
+  long woken = syscall(SYS_futex, &nothing, FUTEX_PRIVATE_WAKE_OP, 1, 0ul, word, ADD_0_AND_WAKE_NONE);
+  bool is_refused = woken == -1 && errno == EFAULT;
+  errno = before;
+  return !is_refused;
+}
+
+/* Whether the mutex of this opening still lies there, and may be changed. A program may have freed the memory of a mutex that it
+ * holds: the system may have it back, or it may have other contents. */
 static bool is_in_place(const struct opening *opening) {
-  const struct own_mutex *mutex = opening->at;
-  if (!is_readable(mutex) || !is_readable((const char *)(mutex + 1) - 8)) return false;
+  struct own_mutex *mutex = opening->at;
+  for (uint32_t *word = &mutex->mark; word < (uint32_t *)(mutex + 1); word++)
+    if (!is_writable(word)) return false;
   return mutex->mark == mark_of(mutex) && mutex->by.core == opening->core;
 }
 
@@ -181,10 +194,11 @@ static void take_over_held(struct opening *opening) {
   opening->core = opening->at->by.core;
 }
 
+/* The new mark differs from that of the parent in a bit that counts, and from those of its other children except by accident. */
 static void begin_child(void) {
   for (size_t i = 0; own.by->holds && i < opened.room; i++) take_over_held(&opened.all[i]);
-  process_mark += 0x9E3779B2;
-  release_latch(&opened.latch);
+  process_mark += 2 | draw_mark() << 2;
+  release_opened();
 }
 
 /* The mark is drawn before the first mutex is opened, while the program has one thread. If the system had no memory for the

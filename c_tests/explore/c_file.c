@@ -92,6 +92,8 @@ static void *explorer_reserve(size_t bytes) {
 #define pthread_atfork explorer_atfork
 /* There are no signals. What these would leave on a stack would only tell apart states that are the same. */
 #define sigfillset(set) ((void)(set))
+#define sigemptyset(set) ((void)(set))
+#define sigdelset(set, signal) ((void)(set), (void)(signal))
 #define pthread_sigmask(how, set, before) ((void)(how), (void)(set), (void)(before))
 #define malloc(bytes) explorer_allocate(__func__, bytes)
 #define free explorer_free

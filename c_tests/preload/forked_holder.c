@@ -1,6 +1,6 @@
 /* A thread forks while it holds a mutex for which another thread is queued, and after it has signalled a third one. In the child
  * another thread makes the first call of the mutex: it sleeps until the thread that forked unlocks. The thread also holds mutexes
- * whose memory the system has back, or can't be read, or has other contents: the child lets that memory alone. The test passes with
+ * whose memory the system has back, or can't be read or written, or has other contents: the child lets that memory alone. The test passes with
  * libligdrosa_pthread.so preloaded, and with the system's mutex. */
 #define _GNU_SOURCE
 #include <sys/mman.h>
@@ -37,7 +37,13 @@ static pthread_mutex_t *lock_in_own_memory(void) {
   return (pthread_mutex_t *)at;
 }
 
-static pthread_mutex_t *overwritten;
+static pthread_mutex_t *overwritten, *read_only;
+
+static void *lock_read_only(void *at) {
+  EXPECT(pthread_mutex_lock(read_only), 0);
+  EXPECT(pthread_mutex_unlock(read_only), 0);
+  return at;
+}
 
 static void unlock_after_another_call(void) {
   pthread_t other;
@@ -53,7 +59,7 @@ static void unlock_after_another_call(void) {
 }
 
 int main(void) {
-  pthread_t waits, queued;
+  pthread_t waits, queued, queued_too;
   EXPECT(pthread_create(&waits, NULL, wait_for_change, NULL), 0);
   usleep(SOON);
   EXPECT(munmap(lock_in_own_memory(), PAGE), 0);
@@ -65,8 +71,14 @@ int main(void) {
   is_changed = true;
   EXPECT(pthread_cond_signal(&changed), 0);
   EXPECT(pthread_create(&queued, NULL, lock_once, NULL), 0);
+  read_only = lock_in_own_memory();
+  EXPECT(pthread_create(&queued_too, NULL, lock_read_only, NULL), 0);
   usleep(SOON);
+  EXPECT(mprotect(read_only, PAGE, PROT_READ), 0);
   EXPECT(in_child(unlock_after_another_call), 0);
+  EXPECT(mprotect(read_only, PAGE, PROT_READ | PROT_WRITE), 0);
+  EXPECT(pthread_mutex_unlock(read_only), 0);
+  EXPECT(pthread_join(queued_too, NULL), 0);
   EXPECT(calls, 0);
   EXPECT(pthread_mutex_unlock(&mutex), 0);
   EXPECT(pthread_join(waits, NULL), 0);

@@ -42,17 +42,20 @@
  *   - A thread that waits without a time limit, and is signalled by a holder of its mutex, is woken when that unlocks.
  *   - A thread that sleeps at a condition variable is not woken by pthread_cancel. It acts on that at its next cancellation
  *     point after it was woken. A wait is a cancellation point before it sleeps, and when its time is over.
- *   - If one thread forks, and another flushes all streams, a third one that holds a stream (flockfile) must not call a mutex
- *     for the first time, destroy one, or make its own first call: each would wait for the next.
+ *   - A thread that forks runs no handler of a signal until the fork is over. It waits for threads that hold a lock of malloc or
+ *     a stream, even if a handler has stopped them, and others wait for it in their first calls. So a thread that holds a
+ *     stream (flockfile), while one forks and another flushes all streams, makes no call of a mutex or condition variable but
+ *     locks without a time limit and unlocks of mutexes that it has locked before in this process.
  *   - The memory of a mutex in the library is not given back if the program never destroys it, as those of std::mutex are
  *     not, until another mutex lies in the same place. A mutex that was copied, or stored by an earlier run of the
- *     program, is another one, which nobody holds. It must not be copied back after it was destroyed in its place.
+ *     program or by another child, is another one, which nobody holds. It must not be copied back after it was destroyed
+ *     in its place.
  *
  * In a forked child a mutex stays held for ever if another thread of the parent held it, was releasing it, or asked for
- * it while nobody held it. One that the forking thread held is made new at the fork, and one that nobody held or asked
- * for by its first call. So the child goes on with them, also between handlers of pthread_atfork. A condition variable
- * forgets the parent's threads that wait there. Numbers of threads that the child lacks stay taken. Children of _Fork,
- * vfork and clone are not seen.
+ * it while nobody held it. One that the forking thread held is made new at the fork, unless its memory can't be written
+ * then, and one that nobody held or asked for by its first call. So the child goes on with them, also between handlers of
+ * pthread_atfork. A condition variable forgets the parent's threads that wait there. Numbers of threads that the child
+ * lacks stay taken. Children of _Fork, vfork and clone are not seen.
  *
  * Nothing here asks malloc for memory, since malloc may lock mutexes of its own by these calls. The system may ask it in a
  * thread's first call. No latch is held then.

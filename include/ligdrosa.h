@@ -50,10 +50,11 @@
  *   - A seat is in one call at a time. It goes from one thread to another by a lock, a thread's start or join, or the like.
  *     If all files of a program are compiled with -DLFM_CHECKED, two threads in one seat of lfm_seat_take end it with a
  *     text. This does not check lfm_depth and lfm_assert_held.
- *   - No signal handler makes a call or forks. Handlers of pthread_atfork that were made before the library's own, which it
- *     makes as it is initialized, call no mutex. A fork waits for calls that open a mutex or take a number or a seat, and
- *     these wait for it: so the thread of such a call holds nothing that a fork or such a handler waits for, as a stream
- *     (flockfile) while another thread flushes all streams.
+ *   - No signal handler makes a call or forks. Handlers of pthread_atfork that were made before the library's own, which
+ *     it makes as it is initialized, call no mutex, and leave the mask of signals as it was: they run with signals
+ *     blocked. A fork waits for calls that open a mutex or take a number or a seat, and these wait for it: so the thread
+ *     of such a call holds nothing that a fork or such a handler waits for, as a stream (flockfile) while another thread
+ *     flushes all streams.
  *   - A forked child calls a mutex that the forking thread held only after lfm_after_fork. It doesn't call one that another
  *     thread held, or that nobody held and another thread asked for or was releasing. All others it calls as its parent
  *     does. It may close each mutex and give back each seat: a seat of its parent is only forgotten, even if it holds, and

@@ -28,13 +28,13 @@ static void release_latch(uint32_t *latch) {
 /* The same for a latch of the process or of a pool, which any thread may need. Signals are blocked while it is held: a handler
  * may stop its thread until another one acts, which may need the latch, and in a preloaded program it may fork, which waits for
  * the latch. Signals that an instruction causes stay open: the memory of a mutex may be write-protected until a handler acts.
- * `before` has the signals that were blocked before. */
+ * Such a handler must not fork or call a mutex for the first time. `before` has the signals that were blocked before. */
 static void block_signals_and_acquire(uint32_t *latch, sigset_t *before) {
   static const int of_instructions[] = {SIGSEGV, SIGBUS, SIGFPE, SIGILL, SIGTRAP, SIGSYS};
   sigset_t blocked;
   sigfillset(&blocked);
   for (size_t i = 0; i < sizeof of_instructions / sizeof *of_instructions; i++) sigdelset(&blocked, of_instructions[i]);
-  sigemptyset(before);
+  sigemptyset(before); /* the system writes a part of it alone */
   pthread_sigmask(SIG_BLOCK, &blocked, before);
   acquire_latch(latch);
 }

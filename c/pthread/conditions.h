@@ -64,6 +64,8 @@ static uint32_t this_process(void) { return process_mark | 1; }
  * before. */
 SLOW_PATH void begin_use(struct own_cond *ours) {
   sigset_t before;
+  touch((uint32_t *)&ours->by);
+  touch(&ours->used_in);
   block_signals_and_acquire(&LFM_PROCESS.latch, &before);
   if (ours->used_in != this_process()) {
     memset(&ours->by, 0, sizeof ours->by);

@@ -13,7 +13,8 @@
  *   - or one of the parent, which a forked child makes new (lfm_after_fork);
  *   - or a copy of another one, which POSIX doesn't allow, but works in glibc. It gets a mutex of its own, unless it is copied
  *     back to a place where the mutex was destroyed meanwhile;
- *   - or one of an earlier run, in memory that was stored and is mapped at the same address. It gets one too.
+ *   - or one of an earlier run, or of another child, in memory that was stored and is mapped at the same address. It gets one
+ *     too.
  *
  * Many mutexes are never destroyed: the destructor of std::mutex doesn't. So a table says which mutex was opened at which
  * address. If another mutex is opened there, the one before is closed. So there are at most as many open ones as addresses
@@ -167,15 +168,24 @@ static void release_opened(void) {
   release_and_restore_signals(&opened.latch, &before);
 }
 
-/* Whether the word may be read and written. The system is asked to add 0 to it, and to wake nobody. */
+/* Whether the word may be read and written. The system is asked to add 0 to it: a child has no sleeper that this could wake. If
+ * it refuses all such calls, the word is only read, by a wait that ends at once. */
 static bool is_writable(uint32_t *word) {
-  enum { ADD_0_AND_WAKE_NONE = 1 << 28 | 2 << 24 }; /* FUTEX_OP_ADD, and FUTEX_OP_CMP_LT for a wake */
+  enum { ADD_0 = 1 << 28 | 2 << 24 }; /* FUTEX_OP_ADD, and FUTEX_OP_CMP_LT with 0 for the second wake */
+  struct timespec at_once = {0, 0};
   uint32_t nothing = 0;
   int before = errno;
-  long woken = syscall(SYS_futex, &nothing, FUTEX_PRIVATE_WAKE_OP, 1, 0ul, word, ADD_0_AND_WAKE_NONE);
-  bool is_refused = woken == -1 && errno == EFAULT;
+  long status = syscall(SYS_futex, &nothing, FUTEX_PRIVATE_WAKE_OP, 1, 0ul, word, ADD_0);
+  if (status == -1 && errno != EFAULT) status = syscall(SYS_futex, word, FUTEX_PRIVATE_WAIT, 0, &at_once);
+  bool is_refused = status == -1 && errno == EFAULT;
   errno = before;
   return !is_refused;
+}
+
+/* Writes to the word what is there. If its memory is write-protected, a handler of SIGSEGV acts now, and not under a latch. */
+static void touch(uint32_t *word) {
+  uint32_t found = __atomic_load_n(word, __ATOMIC_RELAXED);
+  __atomic_compare_exchange_n(word, &found, found, false, __ATOMIC_RELAXED, __ATOMIC_RELAXED);
 }
 
 /* Whether the mutex of this opening still lies there, and may be changed. A program may have freed the memory of a mutex that it
@@ -224,6 +234,8 @@ static lfm_status acquire_opened(sigset_t *before) {
 /* Opens the mutex, which is not passed on, if it isn't open in this process and place. */
 SLOW_PATH lfm_status make_ready(struct own_mutex *mutex) {
   sigset_t before;
+  touch(&mutex->mark);
+  touch((uint32_t *)(mutex + 1) - 1);
   lfm_status status = acquire_opened(&before);
   if (status != LFM_DONE) return status;
   status = open_here(mutex);

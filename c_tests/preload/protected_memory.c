@@ -6,7 +6,7 @@
 #include <sys/mman.h>
 #include "../children.h"
 
-enum { PAGE = 4096 };
+enum { PAGE = 4096, SECONDS = 60 };
 static void *page;
 static volatile sig_atomic_t faults;
 
@@ -43,6 +43,7 @@ static void wait_and_destroy(void *at) {
 
 int main(void) {
   struct sigaction action = {.sa_handler = allow_writes};
+  alarm(SECONDS);
   EXPECT(sigaction(SIGSEGV, &action, NULL), 0);
   with_protected_page(lock_and_unlock);
   EXPECT(faults, 1);

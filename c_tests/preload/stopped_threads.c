@@ -67,12 +67,23 @@ static void begin_and_end_mutex(void) {
   EXPECT(pthread_mutex_destroy(&mutex), 0);
 }
 
+/* Begins both by a wait, whose time is over. */
+static void use(pthread_mutex_t *mutex, pthread_cond_t *condition) {
+  struct timespec past = {1, 0};
+  EXPECT(pthread_mutex_lock(mutex), 0);
+  EXPECT(pthread_cond_timedwait(condition, mutex, &past), ETIMEDOUT);
+  EXPECT(pthread_mutex_unlock(mutex), 0);
+}
+
 static void *begin_and_end(void *at) {
   while (!__atomic_load_n(&over, __ATOMIC_SEQ_CST)) {
+    pthread_mutex_t mutex;
     pthread_cond_t condition;
-    begin_and_end_mutex();
+    EXPECT(pthread_mutex_init(&mutex, NULL), 0);
     EXPECT(pthread_cond_init(&condition, NULL), 0);
+    use(&mutex, &condition);
     EXPECT(pthread_cond_destroy(&condition), 0);
+    EXPECT(pthread_mutex_destroy(&mutex), 0);
   }
   return at;
 }
@@ -93,9 +104,7 @@ static void while_stopped(const pthread_t *threads, int count, void (*call)(int)
 }
 
 static void begin_others(int round) {
-  EXPECT(pthread_mutex_lock(&mutexes[round]), 0);
-  EXPECT(pthread_mutex_unlock(&mutexes[round]), 0);
-  EXPECT(pthread_cond_destroy(&conditions[round]), 0);
+  use(&mutexes[round], &conditions[round]);
 }
 
 static void begin_none(int round) { (void)round; }

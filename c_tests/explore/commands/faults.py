@@ -50,10 +50,25 @@ def plant(path, folder, objects):
     return said + ("" if any("-w" in each.split() for each in runs) else " (by a point inside a proved call)"), None
 
 
+def paths_of_all():
+    return sorted(programs.EXPLORE.glob("faults/*.edit"))
+
+
+def check_texts():
+    """The counts of faults whose old text is in its part once, and of the others: these could not be planted."""
+    failed = 0
+    for path in paths_of_all():
+        part, _, old, _ = read(path)
+        if (programs.TOP / "c/parts" / part).read_text(encoding="utf-8").count(old) != 1:
+            failed += 1
+            print(f"FAILED {path.stem}: its old text is not in {part}, or more than once", flush=True)
+    return len(paths_of_all()) - failed, failed
+
+
 def plant_all(names, folder):
     """The counts of what was found and what was not."""
     objects = programs.compile_all_but_the_c_file(folder)
-    paths = [path for path in sorted(programs.EXPLORE.glob("faults/*.edit")) if not names or path.stem in names]
+    paths = [path for path in paths_of_all() if not names or path.stem in names]
     places = [folder / path.stem for path in paths]
     for place in places:
         place.mkdir()

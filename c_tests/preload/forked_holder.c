@@ -58,7 +58,7 @@ static void unlock_after_another_call(void) {
   EXPECT(pthread_mutex_unlock(&mutex), 0);
 }
 
-/* The system's mutex is written by a lock, so `ours` is told by a word. */
+/* With the word `ours` a thread also queues at a mutex in memory that can't be written: a lock of the system's would write there. */
 int main(int words, char **word) {
   bool is_ours = words > 1 && strcmp(word[1], "ours") == 0;
   pthread_t waits, queued, queued_too;

@@ -7,12 +7,12 @@
  * variables. The calls answer what POSIX says. With a glibc that has other condition variables, the program ends at its start,
  * with a text.
  *
- * A process has 4,095 numbers. A thread takes one by its first call, which is refused as EAGAIN if none is left, and keeps it
- * until it ends. A lock with a time limit that queues takes another one. If its time is over first, this one stays in the
- * queue until its turn. At most 2,048 are used so: a lock that finds no more tries until its time is over. A thread that ends
- * while it holds a mutex, or frees the memory of one that it holds, keeps its number for ever. There are at most 16,776,704
- * mutexes at a time, and those that are never destroyed count by their places. A call that would begin another one is refused
- * as ENOMEM.
+ * A process has 4,095 numbers. A thread takes one by its first call, which is refused as EAGAIN if none is left, and
+ * keeps it until it ends. A lock with a time limit that queues takes another one. If its time is over first, this one
+ * stays in the queue until its turn. At most 2,048 are used so: a lock that finds none left tries until its time is over.
+ * A thread that ends while it holds a mutex, or frees the memory of one that it holds, keeps its number for ever. There
+ * are at most 16,776,704 mutexes at a time, and those that are never destroyed count by their places. A call that would
+ * begin another one is refused as ENOMEM.
  *
  * What is passed on to the system:
  *
@@ -46,10 +46,9 @@
  *     a stream, even if a handler has stopped them, and others wait for it in their first calls. So a thread that holds a
  *     stream (flockfile), while one forks and another flushes all streams, makes no call of a mutex or condition variable but
  *     locks without a time limit and unlocks of mutexes that it has locked before in this process.
- *   - The memory of a mutex in the library is not given back if the program never destroys it, as those of std::mutex are
- *     not, until another mutex lies in the same place. A mutex that was copied, or stored by an earlier run of the
- *     program or by another child, is another one, which nobody holds. It must not be copied back after it was destroyed
- *     in its place.
+ *   - A mutex that the program never destroys, such as a std::mutex, keeps its memory in the library until another mutex
+ *     lies in the same place. A mutex that was copied, or stored by an earlier run of the program or by another child, is
+ *     another one, which nobody holds. It must not be copied back after it was destroyed in its place.
  *
  * In a forked child a mutex stays held for ever if another thread of the parent held it, was releasing it, or asked for
  * it while nobody held it. One that the forking thread held is made new at the fork, unless its memory can't be written

@@ -15,9 +15,10 @@
  * lfm_is_refused, and not against 0: each one below LFM_BLANK is a success, as LFM_AGAIN of a thread that held before.
  * lfm_status_text has its meaning in words. A program that goes on after a refused lock may call lfm_acquire_here, which
  * answers a bool. Null, a mutex that is neither open nor LFM_MUTEX_INIT, and a seat that is not taken are answered by
- * LFM_BLANK. An unlock or wait of an LFM_MUTEX_INIT that is not open yet is refused as LFM_NOT_OWNER. A call that is refused
- * has changed nothing, unless it says so; but it may have opened an LFM_MUTEX_INIT and taken the thread's number. Below, the
- * statuses after *Refused* stand in the order in which a call tests them, LFM_NO_MEMORY where memory is requested first.
+ * LFM_BLANK. An unlock or wait of an LFM_MUTEX_INIT that is not open yet is refused as LFM_NOT_OWNER. A refused call has
+ * changed nothing, unless its comment says otherwise; but it may have opened an LFM_MUTEX_INIT and taken the thread's
+ * number. Below, the statuses after *Refused* stand in the order in which a call tests them, LFM_NO_MEMORY where memory
+ * is requested first.
  *
  * A thread has one number for all mutexes, from its first call until it ends. The calls whose names end in `here` find it.
  * The others are given a seat (lfm_seat_take), for programs that keep nothing in thread-local memory. Each such seat has a
@@ -136,11 +137,11 @@ static inline bool lfm_is_refused(lfm_status status) { return status >= LFM_BLAN
 #define LFM_MUST_TEST __attribute__((warn_unused_result))
 #define LFM_NODISCARD LFM_MUST_TEST LFM_API
 
-/* For clang's -Wthread-safety. Calls with a seat are not annotated: clang can't see of which mutex a seat is. It takes the
- * mutex to be held after lfm_lock_here, even if that was refused. A program that goes on after a refused lock tests
+/* For clang's -Wthread-safety. Calls with a seat are not annotated: clang can't see of which mutex a seat is. It takes
+ * the mutex to be held after lfm_lock_here, even if that was refused. A program that goes on after a refused lock tests
  * lfm_acquire_here or lfm_try_acquire_here, whose answers clang understands. Of the other calls that try, it sees in
- * `if (!lfm_try_lock_here(&mutex))` that the mutex is held, but clang 14 not in a test by lfm_is_refused or by `==`. That
- * form takes LFM_AGAIN for a failure, so it is for a thread that doesn't hold yet. */
+ * `if (!lfm_try_lock_here(&mutex))` that the mutex is held, but clang 14 not in a test by lfm_is_refused or by `==`. The
+ * form with `!` takes LFM_AGAIN for a failure, so it is for a thread that doesn't hold yet. */
 #if defined(__clang__) && !defined(LFM_NO_THREAD_SAFETY)
 #define LFM_TELLS_CLANG(what) __attribute__((what))
 #else
@@ -216,7 +217,7 @@ static inline lfm_status lfm_mutex_new(lfm_mutex *mutex, uint64_t seats, uint64_
 }
 
 /* Ends the mutex, which is zero then, also if it was LFM_MUTEX_INIT: a later call doesn't open it anew, and is refused as
- * LFM_BLANK. A thread may close it as soon as it has acquired it last and released it, though calls of others that released
+ * LFM_BLANK. The thread that acquired it last may close it once it has released it, though calls of others that released
  * it before have not returned yet, and then give back the memory of the lfm_mutex. It may also be closed during the last
  * lfm_seat_give, and then the memory of that lfm_seat may go too. A close may sleep while another thread opens a pool,
  * takes a seat in one or forks.
@@ -227,11 +228,12 @@ LFM_API lfm_status lfm_mutex_close(lfm_mutex *mutex);
 /* For programs that call it: LFM_MOST_TAKES times the number of seats that was named, whatever was locked. */
 LFM_API uint64_t lfm_takes_left(lfm_mutex *mutex);
 
-/* In a forked child, makes a mutex new that the thread which forked held, or that no seat held or asked for: that thread
- * holds it as often as before. If it held, it makes this call itself. This call is the child's first of the mutex. `seat` is
- * the seat by which it held, or null if it calls those that end in `here`. Other seats in hand of the mutex are forgotten:
- * an lfm_seat is set to zero before it is taken anew. What the library had of the parent's mutex stays taken. In the process
- * that opened the mutex it changes nothing. It may sleep while another thread opens a pool, takes a seat in one or forks.
+/* In a forked child, makes a mutex new that the thread which forked held, and then holds as often as before, or that no
+ * seat held or asked for. If that thread held it, it makes this call itself. This call is the child's first of the mutex.
+ * `seat` is the seat by which it held, or null if it calls those that end in `here`. Other seats in hand of the mutex are
+ * forgotten: an lfm_seat is set to zero before it is taken anew. What the library had of the parent's mutex stays taken.
+ * In the process that opened the mutex it changes nothing. It may sleep while another thread opens a pool, takes a seat
+ * in one or forks.
  * Refused: LFM_BLANK; LFM_FOREIGN, also of a seat of the parent if the mutex is new already; LFM_NO_MEMORY, LFM_NO_SEAT, and
  * LFM_BUSY if the thread that forked did not hold the mutex, and another seat held it, asked for it or was releasing it. */
 LFM_NODISCARD lfm_status lfm_after_fork(lfm_mutex *mutex, lfm_seat *seat);
@@ -280,10 +282,10 @@ LFM_NODISCARD lfm_status lfm_lock_in_order(lfm_seat *seat);
  * Refused: LFM_BLANK, LFM_SEAT_ASLEEP, LFM_DEPTH_FULL, LFM_SPENT and LFM_BUSY. */
 LFM_NODISCARD lfm_status lfm_try_lock(lfm_seat *seat);
 
-/* Locks as lfm_lock does, but at most until this many nanoseconds have passed, or until this time on this clock. It queues,
- * so other threads that queue don't keep it from its turn. It queues by another number, which the seat keeps for its next
- * such lock until it is given back or its thread ends. At most 2,048 numbers are used so: a lock that finds no more tries
- * until its time is over.
+/* Locks as lfm_lock does, but at most until this many nanoseconds have passed, or until this time on this clock. It
+ * queues, so other threads that queue don't keep it from its turn. It queues by another number, which the seat keeps for
+ * its next such lock until it is given back or its thread ends. At most 2,048 numbers are used so: a lock that finds none
+ * left tries until its time is over.
  *
  * If the time is over while it is queued, that number alone stays queued. The seat's next lock, with a time limit or
  * without, waits from the same place, unless it acquires the mutex by a try. If the turn of the place comes first, an
@@ -312,10 +314,10 @@ LFM_API lfm_status lfm_unlock(lfm_seat *seat);
 
 /* Threads */
 
-/* The calling thread's number as a seat of the mutex, or null if it is refused, with the cause. `cause` is not null, and it
- * is to be read only then. No other thread calls by this seat. It ends by lfm_seat_give_here, when the thread closes the
- * mutex, or with the thread. The more such seats the thread has, the longer it takes to find one. The call may sleep while
- * another thread opens a pool, takes a seat in one or forks.
+/* The calling thread's number as a seat of the mutex, or null if it is refused, with the cause. `cause` is not null, and
+ * is read only after a refusal. No other thread calls by this seat. It ends by lfm_seat_give_here, when the thread closes
+ * the mutex, or with the thread. The more such seats the thread has, the longer it takes to find one. The call may sleep
+ * while another thread opens a pool, takes a seat in one or forks.
  *
  * A thread takes its number by its first call of a mutex, and gives it back when it ends, unless it holds then, or the
  * system had no thread-specific key left. Destructors of thread-specific data may call too. In each round of them the
@@ -374,10 +376,10 @@ LFM_NODISCARD lfm_status lfm_wait_all_holds_here(lfm_condvar *condvar, lfm_mutex
 LFM_NODISCARD lfm_status lfm_wait_all_holds_until_here(lfm_condvar *condvar, lfm_mutex *mutex, int clock,
                                                        const struct timespec *time) LFM_NEEDS(*mutex);
 
-/* Wakes the thread that has waited longest, or all that wait: LFM_DONE or LFM_NOBODY. The caller may hold the mutex or not,
- * and needs no number. A thread that acquires the mutex after a wait has released it finds that wait. If no thread waits, a
- * wake is one load. Otherwise it may sleep until another call has left the list. Wakes go in the order of the waits, and
- * none wakes two.
+/* Wakes the thread that has waited longest, or all that wait: LFM_DONE or LFM_NOBODY. The caller may hold the mutex or
+ * not, and needs no number. A thread that acquires the mutex after a wait has released it finds that wait. If no thread
+ * waits, a wake is one load. Otherwise it may sleep until another call has left the list. Wakes go in the order of the
+ * waits, and no lfm_wake_one wakes two.
  * Refused: LFM_BLANK (null). */
 LFM_API lfm_status lfm_wake_one(lfm_condvar *condvar);
 LFM_API lfm_status lfm_wake_all(lfm_condvar *condvar);

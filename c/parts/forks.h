@@ -2,20 +2,28 @@
  * of the process and of its pools are held over a fork, with signals blocked, as always. What a child does with mutexes of its
  * parent is in end.h. */
 
-/* The signals that the thread that forks had blocked before. The latch is held for it. */
+/* Holds a latch over a fork. `blocked` has the signals that were blocked before; only its holder writes it. */
+static void hold_over_fork(uint32_t *latch, sigset_t *blocked) {
+  sigset_t before;
+  block_signals_and_acquire(latch, &before);
+  *blocked = before;
+}
+
+static void release_after_fork(uint32_t *latch, const sigset_t *blocked) {
+  sigset_t before = *blocked;
+  release_and_restore_signals(latch, &before);
+}
+
 static sigset_t blocked_before_fork;
 
 static void hold_latches(void) {
-  sigset_t before;
-  block_signals_and_acquire(&LFM_PROCESS.latch, &before);
-  blocked_before_fork = before;
+  hold_over_fork(&LFM_PROCESS.latch, &blocked_before_fork);
   for (uint32_t i = 1; i <= LFM_PROCESS.count_of_pools; i++) acquire_latch(&LFM_PROCESS.pools[i]->latch);
 }
 
 static void release_latches(void) {
   for (uint32_t i = 1; i <= LFM_PROCESS.count_of_pools; i++) release_latch(&LFM_PROCESS.pools[i]->latch);
-  sigset_t before = blocked_before_fork;
-  release_and_restore_signals(&LFM_PROCESS.latch, &before);
+  release_after_fork(&LFM_PROCESS.latch, &blocked_before_fork);
 }
 
 static void count_fork(void) {

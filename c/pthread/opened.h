@@ -154,19 +154,10 @@ static uint32_t draw_mark(void) {
  * once, by that thread: otherwise the first call of one might be another thread's, for which it would stay held for ever. The
  * library's own handlers are made before, so its latches are taken last and released first. */
 
-/* The signals that the thread that forks had blocked before. The latch is held for it. */
 static sigset_t blocked_before_opened;
 
-static void hold_opened(void) {
-  sigset_t before;
-  block_signals_and_acquire(&opened.latch, &before);
-  blocked_before_opened = before;
-}
-
-static void release_opened(void) {
-  sigset_t before = blocked_before_opened;
-  release_and_restore_signals(&opened.latch, &before);
-}
+static void hold_opened(void) { hold_over_fork(&opened.latch, &blocked_before_opened); }
+static void release_opened(void) { release_after_fork(&opened.latch, &blocked_before_opened); }
 
 /* Whether the word may be read and written. The system is asked to add 0 to it: a child has no sleeper that this could wake. If
  * it refuses all such calls, the word is only read, by a wait that ends at once. */

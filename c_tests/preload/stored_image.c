@@ -4,28 +4,14 @@
  * first of its own. The test passes with libligdrosa_pthread.so preloaded, and with the system. */
 #define _GNU_SOURCE
 #include <errno.h>
-#include <sys/mman.h>
-#include "../children.h"
+#include "stored.h"
 
-enum { BYTES = 4096, SECONDS = 60, SOON = 100000 };
-#define PLACE ((void *)0x2000000000)
-
-struct image {
-  pthread_mutex_t mutex, of_waiter;
-  pthread_cond_t condition;
-};
+enum { SECONDS = 60 };
 
 static pthread_mutex_t other = PTHREAD_MUTEX_INITIALIZER;
 
 static void *try_in_another(void *at) {
   EXPECT(pthread_mutex_trylock((pthread_mutex_t *)at), EBUSY);
-  return NULL;
-}
-
-static void *wait_for_ever(void *at) {
-  struct image *image = (struct image *)at;
-  EXPECT(pthread_mutex_lock(&image->of_waiter), 0);
-  for (;;) EXPECT(pthread_cond_wait(&image->condition, &image->of_waiter), 0);
   return NULL;
 }
 
@@ -48,19 +34,12 @@ int main(int words, char **word) {
   int file = words == 3 ? atoi(word[2]) : memfd_create("image", 0);
   alarm(SECONDS);
   if (words != 3) EXPECT(ftruncate(file, BYTES), 0);
-  void *at = mmap(PLACE, BYTES, PROT_READ | PROT_WRITE, MAP_SHARED | MAP_FIXED_NOREPLACE, file, 0);
-  EXPECT(at == PLACE, true);
-  struct image *image = (struct image *)at;
+  struct image *image = map_image(file);
   pthread_mutex_t *stored = &image->mutex;
   snprintf(text, sizeof text, "%d", file);
   if (words != 3) {
-    pthread_t waits;
-    EXPECT(pthread_mutex_init(stored, NULL), 0);
-    EXPECT(pthread_mutex_init(&image->of_waiter, NULL), 0);
-    EXPECT(pthread_cond_init(&image->condition, NULL), 0);
+    store(image);
     test_stored(stored);
-    EXPECT(pthread_create(&waits, NULL, wait_for_ever, image), 0);
-    usleep(SOON);
     run(word[0], "second", text);
   }
   if (strcmp(word[1], "second") == 0) {

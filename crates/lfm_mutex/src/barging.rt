@@ -4,10 +4,11 @@
 //! of parking_lot and absl.
 ghost use Rattle.std.specs.Prelude.{◌≡◌, ◌+◌, ◌-◌, ◌<◌, MatchBool, None, Some};
 ghost use Rattle.lfm_mutex.specs.Belongs.{Beside, OfMutex, limits_of, tries_of};
+ghost use Rattle.lfm_mutex.specs.calls.Acts.{ActsWakingNobody, PollsWakingNobody};
 ghost use Rattle.lfm_mutex.specs.calls.Barging.{BargesBy, FailedTry, GainsIf, MayTry, TriesBy, TriesFirst, TryHeld};
 ghost use Rattle.lfm_mutex.specs.calls.RunGoesOn.{RunGoesOnFrom};
 ghost use Rattle.lfm_mutex.specs.calls.Sight.{sight, LocksWaiting};
-ghost use Rattle.lfm_mutex.specs.calls.Woken.{PollsAndWakesAsGranted, PollsAndWakesNobody, WakesNobody};
+ghost use Rattle.lfm_mutex.specs.calls.Woken.{PollsAndWakesAsGranted};
 
 use crate::mutex::Mutex;
 use crate::pace::pause_for;
@@ -81,9 +82,7 @@ impl<T: Kept> Mutex<T> {
     fn try_first(&self, seat: &mut Seat<T>) -> Option<How>
         requires belongs { OfMutex seat.old self.now }
         requires free { MayTry (limits_of self.now).budget (sight seat.old) }
-        ensures belongs { Beside seat.old seat.new }
-        ensures woken { WakesNobody seat.old seat.new }
-        ensures run { RunGoesOnFrom seat.old seat.new }
+        ensures acts { ActsWakingNobody seat.old seat.new }
         ensures gains { GainsIf T.follows T.fits (limits_of self.now).budget (sight seat.old) (sight seat.new) result }
         ensures tries { TriesBy (limits_of self.now) (self.now.pace.spins - (self.now.pace.spins - 1)) (sight seat.old) (sight seat.new) result }
         ensures held { (how : _) → result ≡ Some how → TryHeld (limits_of self.now) (sight seat.old) (sight seat.new) how }
@@ -117,9 +116,7 @@ impl<T: Kept> Mutex<T> {
     fn spin_and_nap<R: Wait>(&self, rt: &R, seat: &mut Seat<T>) -> Option<How>
         requires belongs { OfMutex seat.old self.now }
         requires free { MayTry (limits_of self.now).budget (sight seat.old) }
-        ensures belongs { Beside seat.old seat.new }
-        ensures woken { PollsAndWakesNobody seat.old seat.new }
-        ensures run { RunGoesOnFrom seat.old seat.new }
+        ensures acts { PollsWakingNobody seat.old seat.new }
         ensures gains { GainsIf T.follows T.fits (limits_of self.now).budget (sight seat.old) (sight seat.new) result }
         ensures tries { TriesBy (limits_of self.now) (self.now.pace.spins - 1 + self.now.pace.naps) (sight seat.old) (sight seat.new) result }
     {
@@ -136,9 +133,7 @@ impl<T: Kept> Mutex<T> {
     fn spin(&self, seat: &mut Seat<T>) -> Option<How>
         requires belongs { OfMutex seat.old self.now }
         requires free { MayTry (limits_of self.now).budget (sight seat.old) }
-        ensures belongs { Beside seat.old seat.new }
-        ensures woken { PollsAndWakesNobody seat.old seat.new }
-        ensures run { RunGoesOnFrom seat.old seat.new }
+        ensures acts { PollsWakingNobody seat.old seat.new }
         ensures gains { GainsIf T.follows T.fits (limits_of self.now).budget (sight seat.old) (sight seat.new) result }
         ensures tries { TriesBy (limits_of self.now) (self.now.pace.spins - 1) (sight seat.old) (sight seat.new) result }
     {
@@ -163,9 +158,7 @@ impl<T: Kept> Mutex<T> {
     fn nap<R: Wait>(&self, rt: &R, seat: &mut Seat<T>) -> Option<How>
         requires belongs { OfMutex seat.old self.now }
         requires free { MayTry (limits_of self.now).budget (sight seat.old) }
-        ensures belongs { Beside seat.old seat.new }
-        ensures woken { PollsAndWakesNobody seat.old seat.new }
-        ensures run { RunGoesOnFrom seat.old seat.new }
+        ensures acts { PollsWakingNobody seat.old seat.new }
         ensures gains { GainsIf T.follows T.fits (limits_of self.now).budget (sight seat.old) (sight seat.new) result }
         ensures tries { TriesBy (limits_of self.now) self.now.pace.naps (sight seat.old) (sight seat.new) result }
     {
@@ -240,9 +233,7 @@ impl<T: Kept> Mutex<T> {
     pub(crate) fn try_if_free(&self, seat: &mut Seat<T>, count: u64) -> Option<How>
         requires belongs { OfMutex seat.old self.now }
         requires free { MayTry (limits_of self.now).budget (sight seat.old) }
-        ensures belongs { Beside seat.old seat.new }
-        ensures woken { WakesNobody seat.old seat.new }
-        ensures run { RunGoesOnFrom seat.old seat.new }
+        ensures acts { ActsWakingNobody seat.old seat.new }
         ensures gains { GainsIf T.follows T.fits (limits_of self.now).budget (sight seat.old) (sight seat.new) result }
         ensures tries { TriesBy (limits_of self.now) 1 (sight seat.old) (sight seat.new) result }
         ensures held { (how : _) → result ≡ Some how → TryHeld (limits_of self.now) (sight seat.old) (sight seat.new) how }

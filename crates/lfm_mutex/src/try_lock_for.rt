@@ -1,11 +1,12 @@
 //! `try_lock_for`: tries until a time is over. It never queues, so it can end at any moment and leaves nothing behind.
 ghost use Rattle.std.specs.Prelude.{◌≡◌, ℕ};
 ghost use Rattle.lfm_mutex.specs.Belongs.{Beside, OfMutex, limits_of};
+ghost use Rattle.lfm_mutex.specs.calls.Acts.{PollsWakingNobody};
 ghost use Rattle.lfm_mutex.specs.calls.Barging.{GainsIf, MayTry, TriesBy};
 ghost use Rattle.lfm_mutex.specs.calls.RunGoesOn.{RunGoesOnFrom};
 ghost use Rattle.lfm_mutex.specs.calls.Sight.{sight};
 ghost use Rattle.lfm_mutex.specs.calls.TimedTries.{LocksInTime};
-ghost use Rattle.lfm_mutex.specs.calls.Woken.{PollsAndWakesAsGranted, PollsAndWakesNobody};
+ghost use Rattle.lfm_mutex.specs.calls.Woken.{PollsAndWakesAsGranted};
 
 use crate::deadlines::{Deadline, deadline_after, time_left};
 use crate::mutex::Mutex;
@@ -65,9 +66,7 @@ impl<T: Kept> Mutex<T> {
     ) -> Option<How>
         requires belongs { OfMutex seat.old self.now }
         requires free { MayTry (limits_of self.now).budget (sight seat.old) }
-        ensures belongs { Beside seat.old seat.new }
-        ensures woken { PollsAndWakesNobody seat.old seat.new }
-        ensures run { RunGoesOnFrom seat.old seat.new }
+        ensures acts { PollsWakingNobody seat.old seat.new }
         ensures gains { GainsIf T.follows T.fits (limits_of self.now).budget (sight seat.old) (sight seat.new) result }
         ensures tries { (n : ℕ) × TriesBy (limits_of self.now) n (sight seat.old) (sight seat.new) result }
     {

@@ -6,13 +6,19 @@ use Rattle.lfm_mutex.specs.Belongs.{Beside}
 use Rattle.lfm_mutex.specs.calls.RunGoesOn.{RunGoesOnFrom}
 use Rattle.lfm_mutex.specs.calls.Sight.{sight}
 use Rattle.lfm_mutex.specs.calls.WakeUps.{Wakes}
-use Rattle.lfm_mutex.specs.calls.Woken.{WakesNobody, WokenAsGranted}
+use Rattle.lfm_mutex.specs.calls.Woken.{PollsAndWakesNobody, WakesNobody, WokenAsGranted}
 
 -- the seat s has acted as one of its mutex, is now t, and has woken no seat
 pub record ActsWakingNobody {T : Type 0} (s t : Seat T) : Type 0 where
   pub belongs : Beside s t
   pub run : RunGoesOnFrom s t
   pub woken : WakesNobody s t
+
+-- the seat s has acted as one of its mutex, is now t, and has woken no seat; polls may have been made
+pub record PollsWakingNobody {T : Type 0} (s t : Seat T) : Type 0 where
+  pub belongs : Beside s t
+  pub run : RunGoesOnFrom s t
+  pub woken : PollsAndWakesNobody s t
 
 -- the seat s has acted as one of its mutex, is now t, and has woken the seats that it granted the mutex
 pub record ActsWakingGranted {T : Type 0} (s t : Seat T) : Type 0 where

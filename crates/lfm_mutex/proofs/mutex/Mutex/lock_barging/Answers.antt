@@ -29,10 +29,10 @@ pub returns-in-None-clause-first : goal.returns-in-None-clause-first
 returns-in-None-clause-first g c = λ spins free. inr (sight c.try_first.new.seat, c.in-None.ensures.failed spins refl, c.barge.ensures.steps)
 
 pub returns-in-Some-clause-woken : goal.returns-in-Some-clause-woken
-returns-in-Some-clause-woken g c = let f = c.try_first in let p = c.args.self.now.pace in may_poll c.args.seat.now f.new.seat (woken_none c.args.seat.now f.new.seat f.ensures.woken (tries_grant c.args.self.now.limits (p.spins - (p.spins - 1)) (sight c.args.seat.now) (sight f.new.seat) (Some c.in-Some.how) c.in-Some.ensures.tries))
+returns-in-Some-clause-woken g c = let f = c.try_first in let p = c.args.self.now.pace in may_poll c.args.seat.now f.new.seat (woken_none c.args.seat.now f.new.seat f.ensures.acts.woken (tries_grant c.args.self.now.limits (p.spins - (p.spins - 1)) (sight c.args.seat.now) (sight f.new.seat) (Some c.in-Some.how) c.in-Some.ensures.tries))
 
 pub returns-in-None-clause-woken : goal.returns-in-None-clause-woken
-returns-in-None-clause-woken g c = let f = c.try_first in let p = c.args.self.now.pace in polls_join c.args.seat.now f.new.seat c.barge.new.seat (may_poll c.args.seat.now f.new.seat (woken_none c.args.seat.now f.new.seat f.ensures.woken (tries_grant c.args.self.now.limits (p.spins - (p.spins - 1)) (sight c.args.seat.now) (sight f.new.seat) None c.in-None.ensures.tries))) c.barge.ensures.woken
+returns-in-None-clause-woken g c = let f = c.try_first in let p = c.args.self.now.pace in polls_join c.args.seat.now f.new.seat c.barge.new.seat (may_poll c.args.seat.now f.new.seat (woken_none c.args.seat.now f.new.seat f.ensures.acts.woken (tries_grant c.args.self.now.limits (p.spins - (p.spins - 1)) (sight c.args.seat.now) (sight f.new.seat) None c.in-None.ensures.tries))) c.barge.ensures.woken
 
 pub returns-in-None-clause-run : goal.returns-in-None-clause-run
-returns-in-None-clause-run g c = run_next c.try_first.ensures.run c.barge.ensures.run
+returns-in-None-clause-run g c = run_next c.try_first.ensures.acts.run c.barge.ensures.run

@@ -15,8 +15,8 @@ pub naps-preserved : goal.naps-preserved
 naps-preserved g c = record {
   belongs = search rules;
   beside = search rules;
-  woken = ap (λ (o : OffTrail). o.woken) c.try_if_free.ensures.woken ∙ (c.later_count-count.ensures ∙ (ap (λ (o : OffTrail). o.woken) c.poll_count-found.ensures ∙ c.naps.invariant.woken));
-  run = run_next c.naps.invariant.run c.try_if_free.ensures.run;
+  woken = ap (λ (o : OffTrail). o.woken) c.try_if_free.ensures.acts.woken ∙ (c.later_count-count.ensures ∙ (ap (λ (o : OffTrail). o.woken) c.poll_count-found.ensures ∙ c.naps.invariant.woken));
+  run = run_next c.naps.invariant.run c.try_if_free.ensures.acts.run;
   wake = search rules;
   tries = tries_join c.args.self.now.limits c.naps.made 1 (sight c.args.seat.now) (sight c.naps.seat) (sight c.try_if_free.new.seat) None c.naps.invariant.tries c.in-None.ensures.tries;
 }
@@ -43,5 +43,5 @@ pub returns-clause-tries : goal.returns-clause-tries
 returns-clause-tries g c = let below = c.naps.auto.made-end in
     tries_fewer c.args.self.now.limits c.naps.made c.args.self.now.pace.naps (sight c.args.seat.now) (sight c.naps.seat) None (omega arith) c.naps.invariant.tries
 
-pub returns-in-Some-clause-run : goal.returns-in-Some-clause-run
-returns-in-Some-clause-run g c = run_next c.naps.invariant.run c.try_if_free.ensures.run
+pub returns-in-Some-clause-acts : goal.returns-in-Some-clause-acts
+returns-in-Some-clause-acts g c = record { belongs = search rules; run = run_next c.naps.invariant.run c.try_if_free.ensures.acts.run; woken = search rules }

@@ -15,8 +15,8 @@ pub spins-preserved : goal.spins-preserved
 spins-preserved g c = let after = c.spins.invariant.after_the_first.0 in let below = c.spins-test.true in let l = c.args.self.now.limits in let s = sight c.args.seat.now in let t = sight c.try_if_free.new.seat in record {
   belongs = search rules;
   beside = search rules;
-  woken = ap (λ (o : OffTrail). o.woken) (c.try_if_free.ensures.woken ∙ c.poll_count-count.ensures) ∙ c.spins.invariant.woken;
-  run = run_next c.spins.invariant.run c.try_if_free.ensures.run;
+  woken = ap (λ (o : OffTrail). o.woken) (c.try_if_free.ensures.acts.woken ∙ c.poll_count-count.ensures) ∙ c.spins.invariant.woken;
+  run = run_next c.spins.invariant.run c.try_if_free.ensures.acts.run;
   after_the_first = (omega arith, omega arith);
   tries = tries_fewer l (c.spins.made - 1 + 1) (c.spins.made + 1 - 1) s t None (omega arith) (tries_join l (c.spins.made - 1) 1 s (sight c.spins.seat) t None c.spins.invariant.tries c.in-None.ensures.tries);
 }
@@ -43,8 +43,8 @@ pub returns-clause-tries : goal.returns-clause-tries
 returns-clause-tries g c =
     tries_fewer c.args.self.now.limits (c.spins.made - 1) (c.args.self.now.pace.spins - 1) (sight c.args.seat.now) (sight c.spins.seat) None c.spins.invariant.after_the_first.1 c.spins.invariant.tries
 
-pub returns-in-Some-clause-run : goal.returns-in-Some-clause-run
-returns-in-Some-clause-run g c = run_next c.spins.invariant.run c.try_if_free.ensures.run
+pub returns-in-Some-clause-acts : goal.returns-in-Some-clause-acts
+returns-in-Some-clause-acts g c = record { belongs = search rules; run = run_next c.spins.invariant.run c.try_if_free.ensures.acts.run; woken = search rules }
 
-pub returns-then-count-gt-HOLDER_AND_ONE_MORE-clause-run : goal.returns-then-count-gt-HOLDER_AND_ONE_MORE-clause-run
-returns-then-count-gt-HOLDER_AND_ONE_MORE-clause-run g c = run_next c.spins.invariant.run c.try_if_free.ensures.run
+pub returns-then-count-gt-HOLDER_AND_ONE_MORE-clause-acts : goal.returns-then-count-gt-HOLDER_AND_ONE_MORE-clause-acts
+returns-then-count-gt-HOLDER_AND_ONE_MORE-clause-acts g c = record { belongs = search rules; run = run_next c.spins.invariant.run c.try_if_free.ensures.acts.run; woken = search rules }

@@ -1,4 +1,4 @@
-use Rattle.std.proofs.Common.{◌+◌, ◌-◌, Some, arith}
+use Rattle.std.proofs.Common.{◌+◌, ◌-◌, Some, arith, rules}
 use Rattle.lfm_mutex.specs.calls.Sight.{sight}
 use Rattle.lfm_mutex.proofs.BargingEnds.{gains_after, still_may_try, tries_fewer, tries_join}
 use Rattle.lfm_table.proofs.tables.Actions.{run_next}
@@ -19,5 +19,5 @@ pub returns-in-None-clause-tries : goal.returns-in-None-clause-tries
 returns-in-None-clause-tries g c = let p = c.args.self.now.pace in
     tries_join c.args.self.now.limits (p.spins - 1) p.naps (sight c.args.seat.now) (sight c.spin.new.seat) (sight c.nap.new.seat) c.nap.result c.in-None.ensures.tries c.nap.ensures.tries
 
-pub returns-in-None-clause-run : goal.returns-in-None-clause-run
-returns-in-None-clause-run g c = run_next c.spin.ensures.run c.nap.ensures.run
+pub returns-in-None-clause-acts : goal.returns-in-None-clause-acts
+returns-in-None-clause-acts g c = record { belongs = search rules; run = run_next c.spin.ensures.acts.run c.nap.ensures.acts.run; woken = search rules }

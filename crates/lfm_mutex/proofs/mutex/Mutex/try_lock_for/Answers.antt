@@ -18,10 +18,10 @@ returns-in_default-2-clause-locks g c =
 
 pub returns-in-Some-clause-woken : goal.returns-in-Some-clause-woken
 returns-in-Some-clause-woken g c = let f = c.try_until in let tries = c.in-Some.ensures.tries in
-    polls_join c.args.seat.now c.try_lock.new.seat f.new.seat (may_poll c.args.seat.now c.try_lock.new.seat c.try_lock.ensures.woken) (polls_none c.try_lock.new.seat f.new.seat f.ensures.woken (tries_grant c.args.self.now.limits tries.0 (sight c.try_lock.new.seat) (sight f.new.seat) (Some c.in-Some.how) tries.1))
+    polls_join c.args.seat.now c.try_lock.new.seat f.new.seat (may_poll c.args.seat.now c.try_lock.new.seat c.try_lock.ensures.woken) (polls_none c.try_lock.new.seat f.new.seat f.ensures.acts.woken (tries_grant c.args.self.now.limits tries.0 (sight c.try_lock.new.seat) (sight f.new.seat) (Some c.in-Some.how) tries.1))
 
 pub returns-in-Some-clause-run : goal.returns-in-Some-clause-run
-returns-in-Some-clause-run g c = run_next c.try_lock.ensures.run c.try_until.ensures.run
+returns-in-Some-clause-run g c = run_next c.try_lock.ensures.run c.try_until.ensures.acts.run
 
 pub returns-in-Some-clause-locks : goal.returns-in-Some-clause-locks
 returns-in-Some-clause-locks g c = let e = c.in-Err-Busy.ensures in
@@ -29,10 +29,10 @@ returns-in-Some-clause-locks g c = let e = c.in-Err-Busy.ensures in
 
 pub returns-in-None-clause-woken : goal.returns-in-None-clause-woken
 returns-in-None-clause-woken g c = let f = c.try_until in let tries = c.in-None.ensures.tries in
-    polls_join c.args.seat.now c.try_lock.new.seat f.new.seat (may_poll c.args.seat.now c.try_lock.new.seat c.try_lock.ensures.woken) (polls_none c.try_lock.new.seat f.new.seat f.ensures.woken (tries_grant c.args.self.now.limits tries.0 (sight c.try_lock.new.seat) (sight f.new.seat) None tries.1))
+    polls_join c.args.seat.now c.try_lock.new.seat f.new.seat (may_poll c.args.seat.now c.try_lock.new.seat c.try_lock.ensures.woken) (polls_none c.try_lock.new.seat f.new.seat f.ensures.acts.woken (tries_grant c.args.self.now.limits tries.0 (sight c.try_lock.new.seat) (sight f.new.seat) None tries.1))
 
 pub returns-in-None-clause-run : goal.returns-in-None-clause-run
-returns-in-None-clause-run g c = run_next c.try_lock.ensures.run c.try_until.ensures.run
+returns-in-None-clause-run g c = run_next c.try_lock.ensures.run c.try_until.ensures.acts.run
 
 pub returns-in-None-clause-locks : goal.returns-in-None-clause-locks
 returns-in-None-clause-locks g c = let e = c.in-Err-Busy.ensures in

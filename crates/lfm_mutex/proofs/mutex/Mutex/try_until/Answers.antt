@@ -16,8 +16,8 @@ pub tries-preserved : goal.tries-preserved
 tries-preserved g c = let made = c.tries.invariant.made in record {
   belongs = search rules;
   beside = search rules;
-  woken = ap (λ (o : OffTrail). o.woken) (c.try_if_free.ensures.woken ∙ c.poll_count-count.ensures) ∙ c.tries.invariant.woken;
-  run = run_next c.tries.invariant.run c.try_if_free.ensures.run;
+  woken = ap (λ (o : OffTrail). o.woken) (c.try_if_free.ensures.acts.woken ∙ c.poll_count-count.ensures) ∙ c.tries.invariant.woken;
+  run = run_next c.tries.invariant.run c.try_if_free.ensures.acts.run;
   wake = search rules;
   made = (made.0 + 1, tries_join c.args.self.now.limits made.0 1 (sight c.args.seat.now) (sight c.tries.seat) (sight c.try_if_free.new.seat) None made.1 c.in-None-try_if_free.ensures.tries);
 }
@@ -30,5 +30,5 @@ pub returns-in-Some-try_if_free-clause-tries : goal.returns-in-Some-try_if_free-
 returns-in-Some-try_if_free-clause-tries g c = let made = c.tries.invariant.made in
     (made.0 + 1, tries_join c.args.self.now.limits made.0 1 (sight c.args.seat.now) (sight c.tries.seat) (sight c.try_if_free.new.seat) (Some c.in-Some-try_if_free.how) made.1 c.in-Some-try_if_free.ensures.tries)
 
-pub returns-in-Some-try_if_free-clause-run : goal.returns-in-Some-try_if_free-clause-run
-returns-in-Some-try_if_free-clause-run g c = run_next c.tries.invariant.run c.try_if_free.ensures.run
+pub returns-in-Some-try_if_free-clause-acts : goal.returns-in-Some-try_if_free-clause-acts
+returns-in-Some-try_if_free-clause-acts g c = record { belongs = search rules; run = run_next c.tries.invariant.run c.try_if_free.ensures.acts.run; woken = search rules }

@@ -1,15 +1,18 @@
 -- How waits end. The user seat has the sight s before and t after, and its mutex has the limits `user`. The plain seat has
 -- the sight c before and d after; its list has the limits `own`. A seat tries at most `tries` times before it queues for the
 -- list, and at most `user_tries` times before it queues for the user mutex.
-use Rattle.std.specs.Prelude.{◌≡◌, ◌⊎◌, ℕ, ◌+◌, ◌<◌, ◌≤◌, false, Result, Ok, Err}
+use Rattle.std.specs.Prelude.{◌≡◌, ◌⊎◌, ℕ, ◌+◌, ◌-◌, ◌<◌, ◌≤◌, false, Result, Ok, Err}
 use Rattle.lfm_model.specs.declared.answers.How.{How}
 use Rattle.lfm_model.specs.declared.answers.Locked.{Locked}
 use Rattle.lfm_model.specs.declared.refusals.Refusal.{Refusal}
 use Rattle.lfm_protocol.specs.declared.limits.Limits.{Limits}
-use Rattle.lfm_mutex.specs.calls.Barging.{BargesBy}
+use Rattle.lfm_mutex.specs.declared.pace.Pace.{Pace}
+use Rattle.lfm_mutex.specs.calls.Barging.{BargesBy, TriesFirst}
 use Rattle.lfm_mutex.specs.calls.Sight.{Sight, Gains, LeavesOff, WaitRefused}
+use Rattle.lfm_mutex.specs.calls.Trails.{LocksBy}
 use Rattle.lfm_plain_condvar.specs.declared.hold.append.ListedWait.{ListedWait}
 use Rattle.lfm_plain_condvar.specs.declared.parkers.Waker.{Waker}
+use Rattle.lfm_plain_condvar.specs.declared.parkers.woken.Woken.{Woken}
 use Rattle.lfm_plain_condvar.specs.declared.wait_for.Waited.{Waited}
 use Rattle.lfm_plain_condvar.specs.declared.waiters.Waiter.{Waiter}
 use Rattle.lfm_plain_condvar.specs.declared.waiters.Waiters.{Waiters}
@@ -55,6 +58,12 @@ module _ {T : Type 0} where
   -- the seat could wait
   abbrev pub MayWait : ℕ → Sight T → Type 0
   MayWait budget s = (s.asleep ≡ false) × (s.depth ≡ 1) × (s.takes < budget)
+
+  -- How a seat that was woken in this way locks a mutex of this pace. Woken alone, it first makes the steps of a try, if the
+  -- pace has spins. Woken with others, it makes the steps of a lock
+  abbrev pub LocksAsWoken : Pace → Limits → Woken → Sight T → Sight T → Result Locked Refusal → Type 0
+  LocksAsWoken pace user Woken.Alone s t r = 0 < pace.spins → TriesFirst user (pace.spins - 1 + pace.naps) s t r
+  LocksAsWoken pace user Woken.WithOthers s t r = LocksBy user s t r
 
   -- the seat gave up its mutex by one unlock
   abbrev pub GivesUp : Limits → Sight T → Sight T → Type 0

@@ -104,14 +104,19 @@ impl Join<Notices> for NoticesJoined {
     ghost spent = { no_notices };
 }
 
-/// The right to notify one parker. There is only one waker for each parker. The waker also says how the seat was woken when
-/// it was last woken.
+/// The right to notify one parker. There is only one waker for each parker.
 #[derive(Drop)]
 pub struct Waker {
     seat: Seat<(), Notices>,
     pub(crate) number: u64,
-    pub(crate) woken: Woken,
     pub ghost its: { IsWakerOf number seat.me },
+}
+
+/// A waker that was taken out of the table after its parker was notified, and how the waiter was woken.
+#[derive(Drop)]
+pub(crate) struct TakenWaker {
+    pub(crate) waker: Waker,
+    pub(crate) woken: Woken,
 }
 
 /// The parkers that a seat has notified, in order. It takes no bytes. Only `Parkers::notify` adds to it, by the step of the
@@ -180,18 +185,17 @@ impl Parkers {
     }
 
     /// Sets the word of the parker to EMPTY or PARKED, and takes its waker out of the table if it was notified.
-    fn take(&self, number: u64, word: u64) -> Option<Waker>
+    fn take(&self, number: u64, word: u64) -> Option<TakenWaker>
         requires { (number ≤ self.now.seats) × (word < 2) }
-        ensures { IfSome result (λ w. (w.number ≡ number) × (w.seat.table_id ≡ self.now.table.shared.table_id)) }
+        ensures { IfSome result (λ t. (t.waker.number ≡ number) × (t.waker.seat.table_id ≡ self.now.table.shared.table_id)) }
     {
         let (found, seat) = self
             .table
             .shared
             .swap_new_seat::<WakerTaken>(number as usize, word);
         if found >= NOTIFIED {
-            Some(Waker {
-                seat,
-                number,
+            Some(TakenWaker {
+                waker: Waker { seat, number },
                 woken: Woken::of_word(found),
             })
         } else {
@@ -199,10 +203,11 @@ impl Parkers {
         }
     }
 
-    /// The waker of a parker that was notified, whose word is then EMPTY. A parker that was not notified is only read.
-    fn take_if_notified(&self, number: u64) -> Option<Waker>
+    /// If the parker was notified, takes its waker out of the table and sets its word to EMPTY. Otherwise it only reads the
+    /// word.
+    fn take_if_notified(&self, number: u64) -> Option<TakenWaker>
         requires { number ≤ self.now.seats }
-        ensures { IfSome result (λ w. (w.number ≡ number) × (w.seat.table_id ≡ self.now.table.shared.table_id)) }
+        ensures { IfSome result (λ t. (t.waker.number ≡ number) × (t.waker.seat.table_id ≡ self.now.table.shared.table_id)) }
     {
         if self.table.shared.peek(number as usize) < NOTIFIED {
             return None;
@@ -216,7 +221,8 @@ impl Parkers {
         requires { (number ≤ self.now.seats) × (_first.now.of.seat.table_id ≡ self.now.table.shared.table_id) }
         ensures { IfSome result (λ w. (w.number ≡ number) × (w.seat.table_id ≡ self.now.table.shared.table_id)) }
     {
-        self.take_if_notified(number)
+        let TakenWaker { waker, woken: _ } = self.take_if_notified(number)?;
+        Some(waker)
     }
 
     /// Notifies the parker of this waker. If its thread is parked, it returns the duty to wake that thread. It makes one swap
@@ -229,11 +235,7 @@ impl Parkers {
         ensures parked { log.new.seat.me.0.parked ≡ log.old.seat.me.0.parked ++ owed_after result }
         ensures owed { IsOwedTo waker.number result }
     {
-        let Waker {
-            mut seat,
-            number,
-            woken: _,
-        } = waker;
+        let Waker { mut seat, number } = waker;
         let found = self
             .table
             .shared
@@ -279,16 +281,16 @@ impl Parkers {
     }
 
     /// Polls the parker at most this often, with pauses, for a thread that may be notified soon.
-    fn poll(&self, number: u64, polls: u32) -> Option<Waker>
+    fn poll(&self, number: u64, polls: u32) -> Option<TakenWaker>
         requires { number ≤ self.now.seats }
-        ensures { IfSome result (λ w. (w.number ≡ number) × (w.seat.table_id ≡ self.now.table.shared.table_id)) }
+        ensures { IfSome result (λ t. (t.waker.number ≡ number) × (t.waker.seat.table_id ≡ self.now.table.shared.table_id)) }
     {
         'polls: for _ in 0..polls {
             for _ in 0..PAUSES {
                 spin_loop();
             }
-            if let Some(waker) = self.take_if_notified(number) {
-                return Some(waker);
+            if let Some(taken) = self.take_if_notified(number) {
+                return Some(taken);
             }
         }
         None
@@ -296,9 +298,14 @@ impl Parkers {
 
     /// Polls at most this often, or not at all if the credit says so, and tells the credit whether the parker was notified
     /// meanwhile.
-    fn poll_with_credit(&self, number: u64, polls: u32, credit: &mut PollCredit) -> Option<Waker>
+    fn poll_with_credit(
+        &self,
+        number: u64,
+        polls: u32,
+        credit: &mut PollCredit,
+    ) -> Option<TakenWaker>
         requires { number ≤ self.now.seats }
-        ensures { IfSome result (λ w. (w.number ≡ number) × (w.seat.table_id ≡ self.now.table.shared.table_id)) }
+        ensures { IfSome result (λ t. (t.waker.number ≡ number) × (t.waker.seat.table_id ≡ self.now.table.shared.table_id)) }
     {
         if polls == 0 || !credit.allows() {
             return None;
@@ -308,13 +315,18 @@ impl Parkers {
         found
     }
 
-    /// Polls, and then says that the thread is about to park. Returns the waker if the parker was notified before.
-    fn poll_and_announce(&self, number: u64, polls: u32, credit: &mut PollCredit) -> Option<Waker>
+    /// Polls, and then says that the thread is about to park. Takes the waker if the parker was notified before.
+    fn poll_and_announce(
+        &self,
+        number: u64,
+        polls: u32,
+        credit: &mut PollCredit,
+    ) -> Option<TakenWaker>
         requires { number ≤ self.now.seats }
-        ensures { IfSome result (λ w. (w.number ≡ number) × (w.seat.table_id ≡ self.now.table.shared.table_id)) }
+        ensures { IfSome result (λ t. (t.waker.number ≡ number) × (t.waker.seat.table_id ≡ self.now.table.shared.table_id)) }
     {
         match self.poll_with_credit(number, polls, credit) {
-            Some(waker) => Some(waker),
+            Some(taken) => Some(taken),
             None => self.take(number, PARKED),
         }
     }
@@ -327,31 +339,31 @@ impl Parkers {
         wait: &UnlockedWait<T>,
         polls: u32,
         credit: &mut PollCredit,
-    ) -> Waker
+    ) -> TakenWaker
         requires { wait.now.listed.number ≤ self.now.seats }
-        ensures { (result.number ≡ wait.now.listed.number) × (result.seat.table_id ≡ self.now.table.shared.table_id) }
+        ensures { (result.waker.number ≡ wait.now.listed.number) × (result.waker.seat.table_id ≡ self.now.table.shared.table_id) }
     {
         let number = wait.number();
-        if let Some(waker) = self.poll_and_announce(number, polls, credit) {
-            return waker;
+        if let Some(taken) = self.poll_and_announce(number, polls, credit) {
+            return taken;
         }
         for _ in rt.forever() {
-            if let Some(waker) = self.take_if_notified(number) {
-                return waker;
+            if let Some(taken) = self.take_if_notified(number) {
+                return taken;
             }
             self.table.shared.park(rt, number as usize, PARKED as u32);
         }
         unreachable!()
     }
 
-    /// The waker of a parker that was notified although the time of its wait is over.
-    fn take_at_end(&self, number: u64, over: TimeIsOver) -> Result<Waker, TimeIsOver>
+    /// Takes the waker if the parker was notified before this call, although the time of the wait is over.
+    fn take_at_end(&self, number: u64, over: TimeIsOver) -> Result<TakenWaker, TimeIsOver>
         requires { number ≤ self.now.seats }
-        ensures waker { IfOk result (λ w. (w.number ≡ number) × (w.seat.table_id ≡ self.now.table.shared.table_id)) }
+        ensures waker { IfOk result (λ t. (t.waker.number ≡ number) × (t.waker.seat.table_id ≡ self.now.table.shared.table_id)) }
         ensures over { IfErr result (λ o. o ≡ over) }
     {
         match self.take_if_notified(number) {
-            Some(waker) => Ok(waker),
+            Some(taken) => Ok(taken),
             None => Err(over),
         }
     }
@@ -364,15 +376,15 @@ impl Parkers {
         wait: &UnlockedWait<T>,
         polls: u32,
         credit: &mut PollCredit,
-    ) -> Result<Waker, TimeIsOver>
+    ) -> Result<TakenWaker, TimeIsOver>
         requires { wait.now.listed.number ≤ self.now.seats }
-        ensures waker { IfOk result (λ w. (w.number ≡ wait.now.listed.number) × (w.seat.table_id ≡ self.now.table.shared.table_id)) }
+        ensures waker { IfOk result (λ t. (t.waker.number ≡ wait.now.listed.number) × (t.waker.seat.table_id ≡ self.now.table.shared.table_id)) }
         ensures over { IfErr result (λ over. over.deadline ≡ wait.now.deadline) }
     {
         let number = wait.number();
         let deadline = wait.deadline();
-        if let Some(waker) = self.poll_and_announce(number, polls, credit) {
-            return Ok(waker);
+        if let Some(taken) = self.poll_and_announce(number, polls, credit) {
+            return Ok(taken);
         }
         for _ in rt.forever() {
             let time = match TimeIsOver::check(rt, deadline) {
@@ -382,8 +394,8 @@ impl Parkers {
             self.table
                 .shared
                 .park_timeout(rt, number as usize, PARKED as u32, time);
-            if let Some(waker) = self.take_if_notified(number) {
-                return Ok(waker);
+            if let Some(taken) = self.take_if_notified(number) {
+                return Ok(taken);
             }
         }
         unreachable!()
@@ -404,11 +416,7 @@ impl Parkers {
         ensures all { all.new.seat.table_id ≡ all.old.seat.table_id }
         ensures has { all.new.seat.me.0.wakers ≡ all.old.seat.me.0.wakers ++ waker.number ∷ [] }
     {
-        let Waker {
-            mut seat,
-            number,
-            woken: _,
-        } = waker;
+        let Waker { mut seat, number } = waker;
         let _found = self
             .table
             .shared

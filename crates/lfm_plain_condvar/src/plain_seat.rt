@@ -1,9 +1,7 @@
 //! The plain seat: a thread's handle of a plain condvar.
-ghost use Rattle.std.specs.Prelude.{◌≡◌, Some};
 
-use crate::parkers::{NoticeLog, Waker, Woken};
+use crate::parkers::{NoticeLog, Waker};
 use crate::polls::PollCredit;
-use crate::wait_for::Waited;
 use crate::waiters::Waiters;
 use lfm_mutex::{Holder, Seat};
 
@@ -15,30 +13,6 @@ pub struct PlainSeat {
     pub(crate) waker: Option<Waker>,
     pub(crate) log: NoticeLog,
     pub(crate) credit: PollCredit,
-}
-
-impl PlainSeat {
-    /// How the seat was woken when it was last woken.
-    pub(crate) fn woken(&self) -> Woken
-        ensures { (w : _) → self.now.waker ≡ Some w → result ≡ w.woken }
-    {
-        match &self.waker {
-            Some(waker) => waker.woken,
-            None => Woken::Alone,
-        }
-    }
-
-    /// How the seat was woken in a wait that ended in this way. A seat whose time was over locks as one that was woken
-    /// alone.
-    pub(crate) fn woken_after(&self, waited: &Waited) -> Woken
-        ensures woken { (t : _) (w : _) → waited.now ≡ Waited.Woken t → self.now.waker ≡ Some w → result ≡ w.woken }
-        ensures timed_out { (t : _) → waited.now ≡ Waited.TimedOut t → result ≡ Woken.Alone }
-    {
-        match waited {
-            Waited::Woken(_) => self.woken(),
-            Waited::TimedOut(_) => Woken::Alone,
-        }
-    }
 }
 
 impl Holder<Waiters> for PlainSeat {

@@ -1,13 +1,12 @@
 //! What a wait does with the user mutex: it unlocks it once, and locks it once again.
-ghost use Rattle.std.specs.Prelude.{◌≡◌, ◌+◌, ◌-◌, ◌<◌, Ok, false, MatchOption};
+ghost use Rattle.std.specs.Prelude.{◌≡◌, ◌<◌, Ok, false, MatchOption};
 ghost use Rattle.lfm_mutex.specs.Belongs.{Beside, OfMutex, budget_of, limits_of, tries_of};
-ghost use Rattle.lfm_mutex.specs.calls.Barging.{BargesBy, MayTry, TriesFirst};
+ghost use Rattle.lfm_mutex.specs.calls.Barging.{BargesBy, MayTry};
 ghost use Rattle.lfm_mutex.specs.calls.RunGoesOn.{RunGoesOnFrom};
 ghost use Rattle.lfm_mutex.specs.calls.Sight.{sight, LeavesOff, LocksWaiting, MayLeave, WaitRefused};
-ghost use Rattle.lfm_mutex.specs.calls.Trails.{LocksBy};
 ghost use Rattle.lfm_mutex.specs.calls.Woken.{PollsAndWakesAsGranted, WokenAsGranted};
 ghost use Rattle.lfm_plain_condvar.specs.Holds.{Unlocks};
-ghost use Rattle.lfm_plain_condvar.specs.Waits.{ComesBackAs, MayWait};
+ghost use Rattle.lfm_plain_condvar.specs.Waits.{ComesBackAs, LocksAsWoken, MayWait};
 
 use crate::parkers::Woken;
 use lfm_model::{How, Locked, Refusal};
@@ -66,8 +65,7 @@ fn lock_again<T: Kept, R: Wait>(
     ensures woken { PollsAndWakesAsGranted seat.old seat.new }
     ensures locks { LocksWaiting T.follows T.fits (limits_of mutex.now).budget (sight seat.old) (sight seat.new) result }
     ensures steps { BargesBy (limits_of mutex.now) (tries_of mutex.now) (sight seat.old) (sight seat.new) result }
-    ensures alone { woken ≡ Woken.Alone → 0 < mutex.now.pace.spins → TriesFirst (limits_of mutex.now) (mutex.now.pace.spins - 1 + mutex.now.pace.naps) (sight seat.old) (sight seat.new) result }
-    ensures in_order { woken ≡ Woken.WithOthers → LocksBy (limits_of mutex.now) (sight seat.old) (sight seat.new) result }
+    ensures as_woken { LocksAsWoken mutex.now.pace (limits_of mutex.now) woken (sight seat.old) (sight seat.new) result }
 {
     match woken {
         Woken::Alone => mutex.lock_barging(rt, seat),
@@ -88,8 +86,7 @@ pub(crate) fn come_back<T: Kept, R: Wait>(
     ensures run { RunGoesOnFrom seat.old seat.new }
     ensures woken { PollsAndWakesAsGranted seat.old seat.new }
     ensures back { ComesBackAs T.follows T.fits (limits_of mutex.now) (tries_of mutex.now) result (sight seat.old) (sight seat.new) }
-    ensures alone { woken ≡ Woken.Alone → 0 < mutex.now.pace.spins → TriesFirst (limits_of mutex.now) (mutex.now.pace.spins - 1 + mutex.now.pace.naps) (sight seat.old) (sight seat.new) (Ok (Locked.Held result)) }
-    ensures in_order { woken ≡ Woken.WithOthers → LocksBy (limits_of mutex.now) (sight seat.old) (sight seat.new) (Ok (Locked.Held result)) }
+    ensures as_woken { LocksAsWoken mutex.now.pace (limits_of mutex.now) woken (sight seat.old) (sight seat.new) (Ok (Locked.Held result)) }
 {
     match lock_again(rt, mutex, seat, woken) {
         Ok(locked) => match locked {

@@ -10,6 +10,7 @@ ghost use Rattle.lfm_plain_condvar.specs.Waits.{Enlists, WaitEnds, WaitWithHowEn
 
 use crate::condvar::PlainCondvar;
 use crate::hold::ListedWait;
+use crate::parkers::{TakenWaker, Woken};
 use crate::plain_seat::PlainSeat;
 use crate::unlocked_wait::UnlockedWait;
 use crate::user::{bars_wait, come_back, give_up};
@@ -56,21 +57,22 @@ impl PlainCondvar {
         }
     }
 
-    /// Sleeps until the seat is notified, and takes its waker back.
+    /// Sleeps until the seat is notified, and takes its waker back. Returns how the seat was woken.
     pub(crate) fn sleep<T: Kept, R: Wait>(
         &self,
         rt: &R,
         cond: &mut PlainSeat,
         wait: UnlockedWait<T>,
         polls: u32,
-    )
+    ) -> Woken
         requires waits { WaitsAt cond.old self.now }
         requires own { wait.listed.number ≡ (sight cond.old.seat).number }
         ensures belongs { OfPlain cond.new self.now × NotifiesNobody cond.old cond.new }
         ensures same { cond.new.seat ≡ cond.old.seat }
     {
-        let waker = self.parkers.park(rt, &wait, polls, &mut cond.credit);
+        let TakenWaker { waker, woken } = self.parkers.park(rt, &wait, polls, &mut cond.credit);
         cond.waker = Some(waker);
+        woken
     }
 
     /// Gives up the user mutex, which the seat holds at depth 1, waits until a wake takes this seat out of the list and
@@ -136,8 +138,8 @@ impl PlainCondvar {
         give_up(mutex, seat);
         let polls = polls_behind(mutex.pace(), enlisted.ahead());
         let ticket = enlisted.ticket();
-        self.sleep(rt, cond, UnlockedWait::new(enlisted, seat), polls);
-        let how = come_back(rt, mutex, seat, cond.woken());
+        let woken = self.sleep(rt, cond, UnlockedWait::new(enlisted, seat), polls);
+        let how = come_back(rt, mutex, seat, woken);
         Ok((how, ticket))
     }
 }

@@ -1,7 +1,7 @@
 //! Waits with a time limit: a seat whose time is over takes itself out of the list. It needs a `TimeIsOver` of its deadline
 //! for that. If it is no longer in the list, a wake has taken it out, and it sleeps on until it is notified. So no wake is
 //! lost to a wait that timed out.
-ghost use Rattle.std.specs.Prelude.{◌≡◌, ◌<◌, IfSome, MatchBool, MatchOption};
+ghost use Rattle.std.specs.Prelude.{◌≡◌, ◌<◌, IfErr, MatchBool, MatchResult};
 ghost use Rattle.lfm_mutex.specs.Belongs.{Beside, OfMutex, limits_of, tries_of};
 ghost use Rattle.lfm_mutex.specs.calls.RunGoesOn.{RunGoesOnFrom};
 ghost use Rattle.lfm_mutex.specs.calls.Sight.{sight, MayRelease};
@@ -10,6 +10,7 @@ ghost use Rattle.lfm_plain_condvar.specs.Belongs.{NotifiesNobody, OfPlain, Waits
 ghost use Rattle.lfm_plain_condvar.specs.Waits.{LeftList, NoLonger, SleepEnds, WaitForEnds, WaitWithinEnds, waited_of};
 
 use crate::condvar::PlainCondvar;
+use crate::parkers::{TakenWaker, Woken};
 use crate::plain_seat::PlainSeat;
 use crate::time_is_over::TimeIsOver;
 use crate::unlocked_wait::UnlockedWait;
@@ -42,27 +43,28 @@ fn without_how(ended: Result<(How, Waited), Refusal>) -> Result<Waited, Refusal>
 }
 
 impl PlainCondvar {
-    /// Sleeps until the seat is notified, or the deadline of the wait. Returns None if it was notified, and it then has its
-    /// waker back. Otherwise it returns that the time is over.
+    /// Sleeps until the seat is notified or the deadline of the wait has passed. If the seat was notified, it has its waker
+    /// back, and the call returns how it was woken. Otherwise the call returns that the time is over.
     fn sleep_until<T: Kept, R: Wait + Clock>(
         &self,
         rt: &R,
         cond: &mut PlainSeat,
         wait: &UnlockedWait<T>,
         polls: u32,
-    ) -> Option<TimeIsOver>
+    ) -> Result<Woken, TimeIsOver>
         requires waits { WaitsAt cond.old self.now }
         requires own { wait.now.listed.number ≡ (sight cond.old.seat).number }
-        ensures belongs { MatchOption result (OfPlain cond.new self.now) (λ _. WaitsAt cond.new self.now) }
-        ensures over { IfSome result (λ over. over.deadline ≡ wait.now.deadline) }
+        ensures belongs { MatchResult result (λ _. OfPlain cond.new self.now) (λ _. WaitsAt cond.new self.now) }
+        ensures over { IfErr result (λ over. over.deadline ≡ wait.now.deadline) }
         ensures same { (cond.new.seat ≡ cond.old.seat) × NotifiesNobody cond.old cond.new }
     {
         match self.parkers.park_until(rt, wait, polls, &mut cond.credit) {
-            Ok(waker) => {
+            Ok(taken) => {
+                let TakenWaker { waker, woken } = taken;
                 cond.waker = Some(waker);
-                None
+                Ok(woken)
             }
-            Err(over) => Some(over),
+            Err(over) => Err(over),
         }
     }
 
@@ -89,48 +91,52 @@ impl PlainCondvar {
     }
 
     /// The time of the wait is over: the seat takes itself out of the list. If it isn't there, a wake has taken it out and is
-    /// about to notify it, and it sleeps until then.
+    /// about to notify it, and it sleeps until then. Returns how the wait ended, and how the seat was woken. A seat whose time
+    /// is over locks the user mutex as one that was woken alone.
     fn end_at_deadline<T: Kept, R: Wait>(
         &self,
         rt: &R,
         cond: &mut PlainSeat,
         wait: UnlockedWait<T>,
         _over: TimeIsOver,
-    ) -> Waited
+    ) -> (Waited, Woken)
         requires waits { WaitsAt cond.old self.now }
         requires own { wait.listed.number ≡ (sight cond.old.seat).number }
         requires over { _over.deadline ≡ wait.deadline }
         requires spare { (sight cond.old.seat).takes < (limits_of self.now.inner).budget }
         ensures cond_woken { PollsAndWakesAsGranted cond.old.seat cond.new.seat }
         ensures belongs { OfPlain cond.new self.now × NotifiesNobody cond.old cond.new }
-        ensures ends { SleepEnds (limits_of self.now.inner) (tries_of self.now.inner) (sight cond.old.seat) (sight cond.new.seat) wait.entry.listed.enlisted.ticket result }
+        ensures ends { SleepEnds (limits_of self.now.inner) (tries_of self.now.inner) (sight cond.old.seat) (sight cond.new.seat) wait.entry.listed.enlisted.ticket result.0 }
+        ensures timed_out { (t : _) → result.0 ≡ Waited.TimedOut t → result.1 ≡ Woken.Alone }
     {
         let ticket = wait.ticket();
         if self.leave(rt, cond, ticket) {
-            return Waited::TimedOut(ticket);
+            return (Waited::TimedOut(ticket), Woken::Alone);
         }
-        self.sleep(rt, cond, wait, 0);
-        Waited::Woken(ticket)
+        let woken = self.sleep(rt, cond, wait, 0);
+        (Waited::Woken(ticket), woken)
     }
 
-    /// Sleeps until the seat is notified, or has taken itself out of the list after the deadline.
+    /// Sleeps until the seat is notified, or has taken itself out of the list after the deadline. Returns what
+    /// `end_at_deadline` returns.
     fn sleep_or_leave<T: Kept, R: Wait + Clock>(
         &self,
         rt: &R,
         cond: &mut PlainSeat,
         wait: UnlockedWait<T>,
         polls: u32,
-    ) -> Waited
+    ) -> (Waited, Woken)
         requires waits { WaitsAt cond.old self.now }
         requires own { wait.listed.number ≡ (sight cond.old.seat).number }
         requires spare { (sight cond.old.seat).takes < (limits_of self.now.inner).budget }
         ensures cond_woken { PollsAndWakesAsGranted cond.old.seat cond.new.seat }
         ensures belongs { OfPlain cond.new self.now × NotifiesNobody cond.old cond.new }
-        ensures ends { SleepEnds (limits_of self.now.inner) (tries_of self.now.inner) (sight cond.old.seat) (sight cond.new.seat) wait.entry.listed.enlisted.ticket result }
+        ensures ends { SleepEnds (limits_of self.now.inner) (tries_of self.now.inner) (sight cond.old.seat) (sight cond.new.seat) wait.entry.listed.enlisted.ticket result.0 }
+        ensures timed_out { (t : _) → result.0 ≡ Waited.TimedOut t → result.1 ≡ Woken.Alone }
     {
         match self.sleep_until(rt, cond, &wait, polls) {
-            None => Waited::Woken(wait.ticket()),
-            Some(over) => self.end_at_deadline(rt, cond, wait, over),
+            Ok(woken) => (Waited::Woken(wait.ticket()), woken),
+            Err(over) => self.end_at_deadline(rt, cond, wait, over),
         }
     }
 
@@ -162,8 +168,8 @@ impl PlainCondvar {
         give_up(mutex, seat);
         let polls = polls_behind(mutex.pace(), enlisted.ahead());
         let wait = UnlockedWait::until(enlisted, seat, deadline);
-        let waited = self.sleep_or_leave(rt, cond, wait, polls);
-        let how = come_back(rt, mutex, seat, cond.woken_after(&waited));
+        let (waited, woken) = self.sleep_or_leave(rt, cond, wait, polls);
+        let how = come_back(rt, mutex, seat, woken);
         Ok((how, waited))
     }
 

@@ -49,7 +49,7 @@ fn wake_both<R: Wait>(
 }
 
 /// The tickets of two threads that wait at the same time.
-pub(crate) fn wait_both<R: Threads + Wait + Sync>(
+fn wait_both<R: Threads + Wait + Sync>(
     rt: &R,
     mutex: &Mutex<u64>,
     condvar: &PlainCondvar,

@@ -1,12 +1,12 @@
-//! Which woken threads queue for the mutex at once: those that one wake woke together, and not one that was woken alone. At
-//! this pace a thread that tries first never queues while the mutex is held.
+//! Which woken threads queue for the mutex at once: those that one wake woke together, also within their time limit, and not
+//! one that was woken alone. At this pace a thread that tries first never queues while the mutex is held.
 ghost use Rattle.lfm_plain_test_tools.specs.Hands.{IsHandOf};
 
-use crate::broadcast::{come_and_wait, wait_both};
+use crate::broadcast::come_and_wait;
 use crate::seeing::holds;
 use lfm_mutex::{Mutex, Pace};
-use lfm_plain_condvar::PlainCondvar;
-use lfm_plain_test_tools::calls::{lock, number, unlock, wake_all, wake_one};
+use lfm_plain_condvar::{PlainCondvar, Waited};
+use lfm_plain_test_tools::calls::{lock, number, unlock, wait_for, wake_all, wake_one, write};
 use lfm_plain_test_tools::hands::{Hand, three_paced_hands};
 use std::process::Abort;
 use std::sync::Wait;
@@ -17,6 +17,9 @@ use std::time::{Clock, Duration};
 
 /// How long the holder keeps the mutex before it reads the count, in milliseconds.
 const KEPT: u64 = 20;
+
+/// A time limit that does not end, in seconds.
+const LIMIT: u64 = 3600;
 
 /// How often it reads the count at most, once in a millisecond.
 const READS: u64 = 10_000;
@@ -56,6 +59,44 @@ fn soon_counts<R: Wait + Clock>(rt: &R, mutex: &Mutex<u64>, wanted: u64) -> bool
         thread::sleep(rt, Duration::from_millis(1));
     }
     false
+}
+
+/// Adds 1 to the number, and waits within the limit. Returns how the wait ended.
+fn come_and_wait_for<R: Wait + Clock>(
+    rt: &R,
+    mutex: &Mutex<u64>,
+    condvar: &PlainCondvar,
+    mut hand: Hand,
+) -> Option<Waited>
+    requires { IsHandOf hand mutex.now condvar.now }
+{
+    lock(rt, mutex, condvar, &mut hand);
+    let next = number(&hand).wrapping_add(1);
+    write(mutex, condvar, &mut hand, next);
+    let waited = wait_for(rt, mutex, condvar, &mut hand, Duration::from_secs(LIMIT));
+    unlock(mutex, condvar, &mut hand);
+    waited
+}
+
+/// Two threads wait at the same time, the second within the limit.
+fn wait_in_both_ways<R: Threads + Wait + Clock + Sync>(
+    rt: &R,
+    mutex: &Mutex<u64>,
+    condvar: &PlainCondvar,
+    first: Hand,
+    second: Hand,
+) -> (Option<u64>, Option<Waited>)
+    requires { IsHandOf first mutex.now condvar.now × IsHandOf second mutex.now condvar.now }
+{
+    join(
+        rt,
+        move || -> Option<u64>
+            requires { IsHandOf first mutex.now condvar.now }
+        { come_and_wait(rt, mutex, condvar, first) },
+        move || -> Option<Waited>
+            requires { IsHandOf second mutex.now condvar.now }
+        { come_and_wait_for(rt, mutex, condvar, second) },
+    )
 }
 
 /// In one hold, wakes both, and tells whether they queued.
@@ -103,9 +144,9 @@ fn both_queue<R: Threads + Wait + Clock + Abort + Sync>(
     let (first, second) = waiters;
     let (_, queued) = join(
         rt,
-        move || -> (Option<u64>, Option<u64>)
+        move || -> (Option<u64>, Option<Waited>)
             requires { IsHandOf first mutex.now condvar.now × IsHandOf second mutex.now condvar.now }
-        { wait_both(rt, mutex, condvar, first, second) },
+        { wait_in_both_ways(rt, mutex, condvar, first, second) },
         move || -> bool
             requires { IsHandOf waker mutex.now condvar.now }
         { wake_both(rt, mutex, condvar, waker) },

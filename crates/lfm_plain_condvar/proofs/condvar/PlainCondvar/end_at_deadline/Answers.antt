@@ -8,8 +8,8 @@ use Rattle.lfm_plain_condvar.proofs.condvar.PlainCondvar.end_at_deadline.Goals a
 
 pub returns-clause-ends : goal.returns-clause-ends
 returns-clause-ends g c = let v = c.args.self.now.inner in
-    let missed = subst (λ (q : Seat Waiters). NoLonger (limits_of v) (tries_of v) (sight c.args.cond.now.seat) (sight q) c.ticket-ticket.result) (sym c.sleep.ensures.same) c.if-leave.ensures.leaves in
-    (c.ticket-ticket.ensures, inr (subst (λ (i : ℕ). NoLonger (limits_of v) (tries_of v) (sight c.args.cond.now.seat) (sight c.sleep.new.cond.seat) i) c.ticket-ticket.ensures missed))
+    let missed = subst (λ (q : Seat Waiters). NoLonger (limits_of v) (tries_of v) (sight c.args.cond.now.seat) (sight q) c.ticket-ticket.result) (sym c.sleep-woken.ensures.same) c.if-leave.ensures.leaves in
+    (c.ticket-ticket.ensures, inr (subst (λ (i : ℕ). NoLonger (limits_of v) (tries_of v) (sight c.args.cond.now.seat) (sight c.sleep-woken.new.cond.seat) i) c.ticket-ticket.ensures missed))
 
 -- it was still in the list
 pub returns-then-leave-clause-ends : goal.returns-then-leave-clause-ends

@@ -13,15 +13,15 @@ use Rattle.lfm_plain_condvar.proofs.condvar.PlainCondvar.wait_with_how.Goals as 
 pub give_up-requires-clause-leaves : goal.give_up-requires-clause-leaves
 give_up-requires-clause-leaves g c κs within = c.requires.leaves c.in_default.ensures.1
 
-pub sleep-requires-clause-own : goal.sleep-requires-clause-own
-sleep-requires-clause-own g c κs within = ap (λ (l : ListedWait _). l.number) c.new.ensures ∙ c.in_ok-enlisted.ensures.enlists.0
+pub sleep-woken-requires-clause-own : goal.sleep-woken-requires-clause-own
+sleep-woken-requires-clause-own g c κs within = ap (λ (l : ListedWait _). l.number) c.new.ensures ∙ c.in_ok-enlisted.ensures.enlists.0
 
 pub returns-clause-run : goal.returns-clause-run
 returns-clause-run g c = run_next c.give_up.ensures.run c.come_back-how.ensures.run
 
 pub returns-clause-waits : goal.returns-clause-waits
 returns-clause-waits g c = let v = c.args.self.now.inner in let u = c.give_up.ensures in (
-  subst (λ (q : Seat Waiters). Listed (limits_of v) (tries_of v) (sight c.args.cond.now.seat) (sight q) c.ticket-ticket.result) (sym c.sleep.ensures.same)
+  subst (λ (q : Seat Waiters). Listed (limits_of v) (tries_of v) (sight c.args.cond.now.seat) (sight q) c.ticket-ticket.result) (sym c.sleep-woken.ensures.same)
       (subst (λ (i : ℕ). Listed (limits_of v) (tries_of v) (sight c.args.cond.now.seat) (sight c.enlist.new.cond.seat) i) (sym c.ticket-ticket.ensures) c.in_ok-enlisted.ensures.enlists.1),
   (sight c.give_up.new.seat, (u.leaves, u.keeps.0, u.steps), c.come_back-how.ensures.back),
 )

@@ -18,7 +18,7 @@ returns-clause-run g c = run_next c.give_up.ensures.run c.come_back-how.ensures.
 pub returns-clause-waits : goal.returns-clause-waits
 returns-clause-waits g c = let a = c.args in let v = a.self.now.inner in let u = c.give_up.ensures in
     let two : (sight a.cond.now.seat).takes + 2 ≤ (limits_of v).budget = (let test = c.if-left-lt2.false in let left = c.left.ensures in let same = ap (λ (l : Limits). l.budget) c.requires.belongs.0.0.0.1 in omega arith) in
-    let ends = subst (λ (l : ListedWait _). SleepEnds (limits_of v) (tries_of v) (sight c.enlist.new.cond.seat) (sight c.sleep_or_leave-waited.new.cond.seat) l.enlisted.ticket c.sleep_or_leave-waited.result) c.until-wait.ensures.listed c.sleep_or_leave-waited.ensures.ends in
+    let ends = subst (λ (l : ListedWait _). SleepEnds (limits_of v) (tries_of v) (sight c.enlist.new.cond.seat) (sight c.sleep_or_leave-waited.new.cond.seat) l.enlisted.ticket c.sleep_or_leave-waited.result.0) c.until-wait.ensures.listed c.sleep_or_leave-waited.ensures.ends in
     (c.in_ok-enlisted.enlisted.enlisted.ticket, sight c.enlist.new.cond.seat, c.in_ok-enlisted.ensures.enlists.1, ends, (sight c.give_up.new.seat, (u.leaves, u.keeps.0, u.steps), c.come_back-how.ensures.back), two)
 
 -- the list refused the seat

@@ -90,6 +90,6 @@ END {
   print_rows("nanoseconds an acquisition", "")
   print_row(situation("alone"), figure(alone, "lock and unlock", "ours"), figure(alone, "lock_barging and unlock", "ours"), "", \
     figure(alone, "lock and unlock", "std"))
-  print_rows("nanoseconds", "^(ping-pong|wake_all|bounded queue)")
+  print_rows("nanoseconds", "^(ping-pong|wake_all|(bounded )?queue)")
   if (rows["nanoseconds, pool"]) print_pool("nanoseconds, pool")
 }

@@ -11,7 +11,8 @@ function situation(name) {
   sub(/^one among/, "one of", name)
   if (name ~ /^one of [0-9]+$/) name = name " mutexes"
   sub(/^queue,/, "bounded queue,", name)
-  sub(/^ping-pong, a round trip/, "two threads take turns", name)
+  sub(/^ping-pong(, a round trip)?/, "two threads take turns", name)
+  sub(/, wake after unlock$/, ", unlock first", name)
   if (sub(/^(broadcast to|wake_all of)/, "wake all of", name)) {
     sub(/ that wait/, "", name)
     sub(/[0-9]+/, "& waiters", name)

@@ -1,6 +1,7 @@
 //! The peers that are measured, and a round of each workload.
 
 use crate::measure::{Plan, Round, Start, StepTime, Watching};
+use crate::peers::participants::Waking;
 use crate::workloads::alone::{Peers, round, round_of_all};
 use crate::workloads::handoffs::round_of_handoffs;
 use crate::workloads::hits::Hit;
@@ -62,8 +63,9 @@ impl Bench<'_> {
                 let turns = self.turns(step, threads, work);
                 contended::round(rt, contended::Load { watching, ..turns })
             },
-            Workload::PingPong => {
-                ping_pong::round(rt, (calls / CALLS_OF_TRIP).max(FEWEST_TRIPS))
+            Workload::PingPong(waking) => {
+                let turns = (calls / CALLS_OF_TRIP).max(FEWEST_TRIPS);
+                ping_pong::round(rt, ping_pong::Load { turns, waking })
             }
             Workload::Broadcast(threads) => {
                 let broadcasts = (calls / CALLS_OF_BROADCAST).max(FEWEST_BROADCASTS);
@@ -73,10 +75,8 @@ impl Bench<'_> {
                 };
                 broadcast::round(rt, load)
             }
-            Workload::Queue(threads) => {
-                let numbers = calls / CALLS_OF_NUMBER / threads.max(1);
-                let numbers = numbers.max(FEWEST_NUMBERS);
-                queue::round(rt, queue::Load { threads, numbers })
+            Workload::Queue { threads, waking } => {
+                queue::round(rt, self.numbers(threads, waking))
             }
             Workload::Alone(calls) => self.round_of_one_thread(rt, calls),
             Workload::Pool(work) => self.round_of_pool(rt, step, work),
@@ -91,6 +91,16 @@ impl Bench<'_> {
             outside: step.steps(work.outside),
             window: Duration::from_millis(self.plan.milliseconds),
             watching: Watching::Nothing,
+        }
+    }
+
+    /// What this number of threads put into a queue, and as many take out.
+    fn numbers(&self, threads: u64, waking: Waking) -> queue::Load {
+        let numbers = self.plan.calls / CALLS_OF_NUMBER / threads.max(1);
+        queue::Load {
+            threads,
+            numbers: numbers.max(FEWEST_NUMBERS),
+            waking,
         }
     }
 

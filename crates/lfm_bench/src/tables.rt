@@ -4,6 +4,7 @@ use crate::measure::{
     Column, Line, Measure, Mode, Peer, Plan, Row, StepTime, Steps, Watching, bare_table,
 };
 use crate::peers::ours::{FreeSeats, Users, new_mutex};
+use crate::peers::participants::Waking;
 use crate::workloads::alone::Peers;
 use crate::workloads::route::Order;
 use crate::workloads::{Calls, PoolWork, Work, Workload};
@@ -84,13 +85,47 @@ const OF_POOL: [Shape; 7] = [
     ),
 ];
 
-/// The rows of condition variables.
-const CONDITIONS: [Shape; 5] = [
-    ("ping-pong, a round trip", Workload::PingPong),
+/// The rows of condition variables. A thread wakes another while it holds the mutex, and in the rows `wake after unlock` after
+/// it has unlocked it.
+const CONDITIONS: [Shape; 8] = [
+    (
+        "ping-pong, a round trip",
+        Workload::PingPong(Waking::InHold),
+    ),
+    (
+        "ping-pong, wake after unlock",
+        Workload::PingPong(Waking::AfterUnlock),
+    ),
     ("wake_all of 4 that wait", Workload::Broadcast(4)),
     ("wake_all of 32 that wait", Workload::Broadcast(32)),
-    ("bounded queue, 1 to 1", Workload::Queue(1)),
-    ("bounded queue, 4 to 4", Workload::Queue(4)),
+    (
+        "bounded queue, 1 to 1",
+        Workload::Queue {
+            threads: 1,
+            waking: Waking::InHold,
+        },
+    ),
+    (
+        "queue, 1 to 1, wake after unlock",
+        Workload::Queue {
+            threads: 1,
+            waking: Waking::AfterUnlock,
+        },
+    ),
+    (
+        "bounded queue, 4 to 4",
+        Workload::Queue {
+            threads: 4,
+            waking: Waking::InHold,
+        },
+    ),
+    (
+        "queue, 4 to 4, wake after unlock",
+        Workload::Queue {
+            threads: 4,
+            waking: Waking::AfterUnlock,
+        },
+    ),
 ];
 
 /// A section that only adds 1.

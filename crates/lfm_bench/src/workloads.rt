@@ -16,6 +16,7 @@ pub mod recursive;
 pub mod route;
 
 use crate::measure::Watching;
+use crate::peers::participants::Waking;
 use crate::workloads::route::Order;
 
 /// What is measured.
@@ -30,11 +31,14 @@ pub enum Workload {
         watching: Watching,
     },
     /// Two threads wake each other.
-    PingPong,
+    PingPong(Waking),
     /// A thread wakes this number of others, all at once.
     Broadcast(u64),
     /// This number of threads put numbers into a bounded queue, and as many take them out.
-    Queue(u64),
+    Queue {
+        threads: u64,
+        waking: Waking,
+    },
     /// The calls of threads at mutexes of a pool.
     Pool(PoolWork),
 }

@@ -215,12 +215,6 @@ impl Participant for MorphingParticipant<'_> {
         woken.is_ok()
     }
 
-    /// `wake_one`, which puts the woken thread into the queue of the mutex, and then `unlock`, which serves it.
-    fn unlock_and_wake_one<R: Wait>(&mut self, rt: &R) -> bool {
-        let woken = self.wake_one(rt);
-        self.unlock() && woken
-    }
-
     /// `wake_all` of the other condvar. Returns how many were woken, or 0 if it was refused.
     fn wake_all<R: Wait>(&mut self, rt: &R) -> u64 {
         let mutex = &self.shared.mutex;

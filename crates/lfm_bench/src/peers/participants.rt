@@ -12,6 +12,16 @@ pub enum Side {
     Second,
 }
 
+/// When a thread that has changed the value wakes another.
+#[derive(Clone, Copy)]
+pub enum Waking {
+    /// While it holds the mutex.
+    InHold,
+    /// After it has unlocked the mutex. Condvars that morph waits are not measured like this: their wake puts the woken thread
+    /// into the queue of the mutex, and the unlock serves it.
+    AfterUnlock,
+}
+
 /// A thread with its seats. It waits on one of the condvars, and wakes the threads that wait on the other.
 pub trait Participant: Send + Drop {
     /// Locks in its way. Returns whether the seat acquired the mutex and did not hold it before.
@@ -29,9 +39,6 @@ pub trait Participant: Send + Drop {
 
     /// `wake_one` of the other condvar. Returns whether it was not refused.
     fn wake_one<R: Wait>(&mut self, rt: &R) -> bool;
-
-    /// `unlock`, and `wake_one` before or after it, as suits the condvar. Returns whether neither was refused.
-    fn unlock_and_wake_one<R: Wait>(&mut self, rt: &R) -> bool;
 
     /// `wake_all` of the other condvar. Returns how many were woken, or 0 if it was refused.
     fn wake_all<R: Wait>(&mut self, rt: &R) -> u64;
@@ -64,18 +71,38 @@ pub fn wait_and_apply<R: Wait, P: Participant>(
     None
 }
 
+/// `unlock`, and `wake_one` of the other condvar, in the order that `waking` says. Returns whether neither was refused.
+fn unlock_and_wake_one<R: Wait, P: Participant>(
+    rt: &R,
+    participant: &mut P,
+    waking: Waking,
+) -> bool {
+    match waking {
+        Waking::InHold => {
+            let woken = participant.wake_one(rt);
+            participant.unlock() && woken
+        }
+        Waking::AfterUnlock => {
+            let unlocked = participant.unlock();
+            participant.wake_one(rt) && unlocked
+        }
+    }
+}
+
 /// In one hold of the mutex, waits until the operation is possible, and makes it. Then it unlocks the mutex and wakes one
-/// thread that waits on the other condvar. Returns the operation's number, or None if a call was refused.
+/// thread that waits on the other condvar, in the order that `waking` says. Returns the operation's number, or None if a call
+/// was refused.
 pub fn lock_and_apply<R: Wait, P: Participant>(
     rt: &R,
     participant: &mut P,
     operation: Operation,
+    waking: Waking,
 ) -> Option<u64> {
     if !participant.lock(rt) {
         return None;
     }
     let number = wait_and_apply(rt, participant, operation)?;
-    if !participant.unlock_and_wake_one(rt) {
+    if !unlock_and_wake_one(rt, participant, waking) {
         return None;
     }
     Some(number)

@@ -195,12 +195,6 @@ impl Participant for PlainParticipant<'_> {
         woken.is_ok()
     }
 
-    /// `unlock`, and then `wake_one`: the woken thread has to lock the mutex.
-    fn unlock_and_wake_one<R: Wait>(&mut self, rt: &R) -> bool {
-        let unlocked = self.unlock();
-        self.wake_one(rt) && unlocked
-    }
-
     /// `wake_all` of the other condvar. Returns how many were woken, or 0 if it was refused.
     fn wake_all<R: Wait>(&mut self, rt: &R) -> u64 {
         let woken = match self.waits_on {

@@ -9,8 +9,9 @@ use crate::measure::{Gate, Round, Sample};
 use crate::peers::guarded::{Operation, Queue};
 use crate::peers::morphing::{MorphingParticipant, MorphingPlaces, MorphingShared};
 use crate::peers::ours::Locking;
-use crate::peers::participants::{Places, Side, lock_and_apply};
+use crate::peers::participants::{Places, Side, Waking, lock_and_apply};
 use crate::peers::plain::{PlainParticipant, PlainPlaces, PlainShared};
+use crate::peers::standard::unlock_and_notify;
 use std::alloc::{AllocError, Global};
 use std::io;
 use std::sync::{Condvar, Mutex, Wait};
@@ -24,6 +25,8 @@ pub struct Load {
     pub threads: u64,
     /// How many numbers each of them puts in or takes out.
     pub numbers: u64,
+    /// When a thread that has put a number in or taken one out wakes another.
+    pub waking: Waking,
 }
 
 impl Load {
@@ -36,33 +39,33 @@ impl Load {
 /// A thread that puts numbers in or takes them out.
 trait Mover {
     /// Puts this number in, as soon as there is room. Returns whether it was put in.
-    fn put<R: Wait>(&mut self, rt: &R, number: u64) -> bool;
+    fn put<R: Wait>(&mut self, rt: &R, number: u64, waking: Waking) -> bool;
 
     /// Takes a number out, as soon as one is there.
-    fn take<R: Wait>(&mut self, rt: &R) -> Option<u64>;
+    fn take<R: Wait>(&mut self, rt: &R, waking: Waking) -> Option<u64>;
 }
 
 impl Mover for MorphingParticipant<'_> {
     /// In one hold of our mutex.
-    fn put<R: Wait>(&mut self, rt: &R, number: u64) -> bool {
-        lock_and_apply(rt, self, Operation::Put(number)).is_some()
+    fn put<R: Wait>(&mut self, rt: &R, number: u64, waking: Waking) -> bool {
+        lock_and_apply(rt, self, Operation::Put(number), waking).is_some()
     }
 
     /// In one hold of our mutex.
-    fn take<R: Wait>(&mut self, rt: &R) -> Option<u64> {
-        lock_and_apply(rt, self, Operation::Take)
+    fn take<R: Wait>(&mut self, rt: &R, waking: Waking) -> Option<u64> {
+        lock_and_apply(rt, self, Operation::Take, waking)
     }
 }
 
 impl Mover for PlainParticipant<'_> {
     /// In one hold of our mutex.
-    fn put<R: Wait>(&mut self, rt: &R, number: u64) -> bool {
-        lock_and_apply(rt, self, Operation::Put(number)).is_some()
+    fn put<R: Wait>(&mut self, rt: &R, number: u64, waking: Waking) -> bool {
+        lock_and_apply(rt, self, Operation::Put(number), waking).is_some()
     }
 
     /// In one hold of our mutex.
-    fn take<R: Wait>(&mut self, rt: &R) -> Option<u64> {
-        lock_and_apply(rt, self, Operation::Take)
+    fn take<R: Wait>(&mut self, rt: &R, waking: Waking) -> Option<u64> {
+        lock_and_apply(rt, self, Operation::Take, waking)
     }
 }
 
@@ -75,8 +78,8 @@ struct StandardQueue {
 }
 
 impl Mover for &StandardQueue {
-    /// Waits on std's condvar while there is no room, and notifies after the mutex is unlocked.
-    fn put<R: Wait>(&mut self, rt: &R, number: u64) -> bool {
+    /// Waits on std's condvar while there is no room.
+    fn put<R: Wait>(&mut self, rt: &R, number: u64, waking: Waking) -> bool {
         let mut queue = self.queue.lock(rt);
         for _ in rt.forever() {
             if queue.put(number).is_some() {
@@ -84,18 +87,16 @@ impl Mover for &StandardQueue {
             }
             queue = self.not_full.wait(rt, queue);
         }
-        drop(queue);
-        self.not_empty.notify_one();
+        unlock_and_notify(queue, &self.not_empty, waking);
         true
     }
 
-    /// Waits on std's condvar while the queue is empty, and notifies after the mutex is unlocked.
-    fn take<R: Wait>(&mut self, rt: &R) -> Option<u64> {
+    /// Waits on std's condvar while the queue is empty.
+    fn take<R: Wait>(&mut self, rt: &R, waking: Waking) -> Option<u64> {
         let mut queue = self.queue.lock(rt);
         for _ in rt.forever() {
             if let Some(number) = queue.take() {
-                drop(queue);
-                self.not_full.notify_one();
+                unlock_and_notify(queue, &self.not_full, waking);
                 return Some(number);
             }
             queue = self.not_empty.wait(rt, queue);
@@ -123,9 +124,16 @@ pub fn round<R: Threads + Sync + Wait + Clock + AllocGlobal>(
     rt: &R,
     load: Load,
 ) -> io::Result<Round> {
+    let (in_order, barging) = match load.waking {
+        Waking::InHold => (
+            Some(morphing(rt, load, Locking::InOrder)?),
+            Some(morphing(rt, load, Locking::Barging)?),
+        ),
+        Waking::AfterUnlock => (None, None),
+    };
     Ok(Round {
-        in_order: Some(morphing(rt, load, Locking::InOrder)?),
-        barging: Some(morphing(rt, load, Locking::Barging)?),
+        in_order,
+        barging,
         plain: Some(plain(rt, load)?),
         standard: Some(standard(rt, load)?),
         ..Round::NONE
@@ -224,10 +232,10 @@ fn work<R: Wait + Clock, M: Mover + Drop>(
     for turn in 0..load.numbers {
         match task {
             Task::Put { first } => {
-                mover.put(rt, first.wrapping_add(turn));
+                mover.put(rt, first.wrapping_add(turn), load.waking);
             }
             Task::Take => {
-                if let Some(number) = mover.take(rt) {
+                if let Some(number) = mover.take(rt, load.waking) {
                     numbers.push(number)?;
                 }
             }

@@ -79,24 +79,25 @@ FAST_PATH void use_here(struct own_cond *ours) {
   if (UNLIKELY(__atomic_load_n(&ours->used_in, __ATOMIC_ACQUIRE) != this_process())) begin_use(ours);
 }
 
-/* Waits, at most until this time if there is one, with all holds of a recursive mutex. */
-static lfm_status wait_by(struct own_cond *cond, struct own_mutex *mutex, clockid_t clock, const struct timespec *end) {
-  return end ? lfm_wait_all_holds_until_here(&cond->by, &mutex->by, clock, end)
-             : lfm_wait_all_holds_here(&cond->by, &mutex->by);
+/* Begins a wait with the mutex: 0 if both are ready for it, PASSED_ON, or an error. */
+static int begin_wait(pthread_cond_t *cond, pthread_mutex_t *mutex) {
+  struct own_mutex *with = own_of(mutex);
+  return settle(own_cond_of(cond), is_passed_on(with)) ? ready_for_call(with) : EINVAL;
 }
 
-/* The body of the three waits. A cancellation that was requested before is acted on while the thread holds the mutex,
- * before the wait and if its time is over. It doesn't act after a wake, which would be lost. */
-#define RETURN_WAIT(cond, mutex, clock, end, passed_on) \
-  struct own_cond *ours = own_cond_of(cond);            \
-  struct own_mutex *with = own_of(mutex);               \
-  if (!settle(ours, is_passed_on(with))) return EINVAL; \
-  MAKE_READY_OR_RETURN(with, passed_on);                \
-  use_here(ours);                                       \
-  pthread_testcancel();                                 \
-  lfm_status status = wait_by(ours, with, clock, end);  \
-  if (status == LFM_TIMED_OUT) pthread_testcancel();    \
-  return LIKELY(status == LFM_DONE) ? 0 : error_of(status)
+/* Waits, at most until this time if there is one, with all holds of a recursive mutex. A cancellation that was requested
+ * before is acted on while the thread holds the mutex, before the wait and if its time is over. It doesn't act after a wake,
+ * which would be lost. */
+static int wait_until_woken(pthread_cond_t *cond, pthread_mutex_t *mutex, clockid_t clock, const struct timespec *end) {
+  struct own_cond *ours = own_cond_of(cond);
+  struct own_mutex *with = own_of(mutex);
+  use_here(ours);
+  pthread_testcancel();
+  lfm_status status = end ? lfm_wait_all_holds_until_here(&ours->by, &with->by, clock, end)
+                          : lfm_wait_all_holds_here(&ours->by, &with->by);
+  if (status == LFM_TIMED_OUT) pthread_testcancel();
+  return LIKELY(status == LFM_DONE) ? 0 : error_of(status);
+}
 
 static bool is_time(const struct timespec *time) { return time->tv_nsec >= 0 && time->tv_nsec < NANOSECONDS; }
 
@@ -115,34 +116,49 @@ EXPORTED int pthread_cond_destroy(pthread_cond_t *cond) {
 }
 
 EXPORTED int pthread_cond_wait(pthread_cond_t *cond, pthread_mutex_t *mutex) {
-  RETURN_WAIT(cond, mutex, 0, NULL, system_cond_wait(cond, mutex));
+  int error = begin_wait(cond, mutex);
+  if (UNLIKELY(error)) return error == PASSED_ON ? system_cond_wait(cond, mutex) : error;
+  return wait_until_woken(cond, mutex, 0, NULL);
 }
 
 EXPORTED int pthread_cond_timedwait(pthread_cond_t *cond, pthread_mutex_t *mutex, const struct timespec *end) {
   if (!is_time(end)) return EINVAL;
+  int error = begin_wait(cond, mutex);
+  if (UNLIKELY(error)) return error == PASSED_ON ? system_cond_timedwait(cond, mutex, end) : error;
   clockid_t clock = own_cond_of(cond)->flags & IS_MONOTONIC ? CLOCK_MONOTONIC : CLOCK_REALTIME;
-  RETURN_WAIT(cond, mutex, clock, end, system_cond_timedwait(cond, mutex, end));
+  return wait_until_woken(cond, mutex, clock, end);
 }
 
 EXPORTED int pthread_cond_clockwait(pthread_cond_t *cond, pthread_mutex_t *mutex, clockid_t clock, const struct timespec *end) {
   if (!is_time(end) || (clock != CLOCK_REALTIME && clock != CLOCK_MONOTONIC)) return EINVAL;
-  RETURN_WAIT(cond, mutex, clock, end, system_cond_clockwait(cond, mutex, clock, end));
+  int error = begin_wait(cond, mutex);
+  if (UNLIKELY(error)) return error == PASSED_ON ? system_cond_clockwait(cond, mutex, clock, end) : error;
+  return wait_until_woken(cond, mutex, clock, end);
 }
 
-/* The body of the two wakes. */
-#define RETURN_WAKE(cond, passed_on, own_wake)                           \
-  struct own_cond *ours = own_cond_of(cond);                             \
-  bool has_waiter = __atomic_load_n(&ours->by.oldest, __ATOMIC_ACQUIRE); \
-  if (is_cond_passed_on(ours)) return passed_on;                         \
-  if (!has_waiter) return 0;                                             \
-  use_here(ours);                                                        \
-  own_wake;                                                              \
-  return 0
+enum waker { NOBODY_WAITS, LIBRARY_WAKES, SYSTEM_WAKES };
+
+/* Begins a wake, and says who makes it, if anybody waits. */
+FAST_PATH enum waker begin_wake(struct own_cond *ours) {
+  bool has_waiter = __atomic_load_n(&ours->by.oldest, __ATOMIC_ACQUIRE);
+  if (is_cond_passed_on(ours)) return SYSTEM_WAKES;
+  if (!has_waiter) return NOBODY_WAITS;
+  use_here(ours);
+  return LIBRARY_WAKES;
+}
 
 EXPORTED int pthread_cond_signal(pthread_cond_t *cond) {
-  RETURN_WAKE(cond, system_cond_signal(cond), lfm_wake_one(&ours->by));
+  struct own_cond *ours = own_cond_of(cond);
+  enum waker waker = begin_wake(ours);
+  if (waker == SYSTEM_WAKES) return system_cond_signal(cond);
+  if (waker == LIBRARY_WAKES) lfm_wake_one(&ours->by);
+  return 0;
 }
 
 EXPORTED int pthread_cond_broadcast(pthread_cond_t *cond) {
-  RETURN_WAKE(cond, system_cond_broadcast(cond), lfm_wake_all(&ours->by));
+  struct own_cond *ours = own_cond_of(cond);
+  enum waker waker = begin_wake(ours);
+  if (waker == SYSTEM_WAKES) return system_cond_broadcast(cond);
+  if (waker == LIBRARY_WAKES) lfm_wake_all(&ours->by);
+  return 0;
 }

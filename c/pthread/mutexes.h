@@ -18,14 +18,17 @@ SLOW_PATH int error_of(lfm_status status) {
   }
 }
 
-/* Returns from a function unless the mutex is ready: with what the system answers if it is passed on, or with an error. */
-#define MAKE_READY_OR_RETURN(ours, passed_on)          \
-  if (UNLIKELY(!is_ready(ours))) {                     \
-    if (is_passed_on(ours)) return passed_on;          \
-    lfm_status is_open = make_ready(ours);             \
-    if (is_open != LFM_DONE) return error_of(is_open); \
-  }                                                    \
-  COUNT_CALL(made)
+/* Says of a call that the system makes it. It is no error number. */
+enum { PASSED_ON = -1 };
+
+SLOW_PATH int ready_now(struct own_mutex *ours) { return is_passed_on(ours) ? PASSED_ON : error_of(make_ready(ours)); }
+
+/* Has the mutex ready for a call: 0, PASSED_ON, or an error. */
+FAST_PATH int ready_for_call(struct own_mutex *ours) {
+  int error = LIKELY(is_ready(ours)) ? 0 : ready_now(ours);
+  if (!error) COUNT_CALL(made);
+  return error;
+}
 
 /* Whether a thread that holds the mutex and locks it again waits for itself, as POSIX has it. */
 static bool is_for_one_hold(const struct own_mutex *ours) {
@@ -81,14 +84,16 @@ EXPORTED int pthread_mutex_destroy(pthread_mutex_t *mutex) {
 
 EXPORTED int pthread_mutex_lock(pthread_mutex_t *mutex) {
   struct own_mutex *ours = own_of(mutex);
-  MAKE_READY_OR_RETURN(ours, system_mutex_lock(mutex));
+  int error = ready_for_call(ours);
+  if (UNLIKELY(error)) return error == PASSED_ON ? system_mutex_lock(mutex) : error;
   lfm_status status = lfm_lock_here(&ours->by);
   return LIKELY(status == LFM_DONE) ? 0 : end_lock(ours, status, NULL);
 }
 
 EXPORTED int pthread_mutex_trylock(pthread_mutex_t *mutex) {
   struct own_mutex *ours = own_of(mutex);
-  MAKE_READY_OR_RETURN(ours, system_mutex_trylock(mutex));
+  int error = ready_for_call(ours);
+  if (UNLIKELY(error)) return error == PASSED_ON ? system_mutex_trylock(mutex) : error;
   lfm_status status = lfm_try_lock_here(&ours->by);
   if (LIKELY(status == LFM_DONE)) return 0;
   if (status != LFM_AGAIN) return error_of(status);
@@ -99,20 +104,23 @@ EXPORTED int pthread_mutex_trylock(pthread_mutex_t *mutex) {
 
 EXPORTED int pthread_mutex_timedlock(pthread_mutex_t *mutex, const struct timespec *end) {
   struct own_mutex *ours = own_of(mutex);
-  MAKE_READY_OR_RETURN(ours, system_mutex_timedlock(mutex, end));
+  int error = ready_for_call(ours);
+  if (UNLIKELY(error)) return error == PASSED_ON ? system_mutex_timedlock(mutex, end) : error;
   return lock_at_most_until(ours, CLOCK_REALTIME, end);
 }
 
 EXPORTED int pthread_mutex_clocklock(pthread_mutex_t *mutex, clockid_t clock, const struct timespec *end) {
   struct own_mutex *ours = own_of(mutex);
   if (clock != CLOCK_REALTIME && clock != CLOCK_MONOTONIC) return EINVAL;
-  MAKE_READY_OR_RETURN(ours, system_mutex_clocklock(mutex, clock, end));
+  int error = ready_for_call(ours);
+  if (UNLIKELY(error)) return error == PASSED_ON ? system_mutex_clocklock(mutex, clock, end) : error;
   return lock_at_most_until(ours, clock, end);
 }
 
 EXPORTED int pthread_mutex_unlock(pthread_mutex_t *mutex) {
   struct own_mutex *ours = own_of(mutex);
-  MAKE_READY_OR_RETURN(ours, system_mutex_unlock(mutex));
+  int error = ready_for_call(ours);
+  if (UNLIKELY(error)) return error == PASSED_ON ? system_mutex_unlock(mutex) : error;
   lfm_status status = lfm_unlock_here(&ours->by);
   return LIKELY(!lfm_is_refused(status)) ? 0 : error_of(status);
 }

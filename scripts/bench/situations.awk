@@ -10,9 +10,9 @@ function situation(name) {
   sub(/^one among 65536/, "one of 65,536 mutexes", name)
   sub(/^one among/, "one of", name)
   if (name ~ /^one of [0-9]+$/) name = name " mutexes"
-  sub(/^queue,/, "bounded queue,", name)
-  sub(/^ping-pong(, a round trip)?/, "two threads take turns", name)
-  sub(/, wake after unlock$/, ", unlock first", name)
+  sub(/^ping-pong, a round trip/, "two threads take turns", name)
+  if (sub(/, wake after unlock$/, ", unlock first", name)) sub(/^ping-pong/, "turns", name)
+  else sub(/^queue,/, "bounded queue,", name)
   if (sub(/^(broadcast to|wake_all of)/, "wake all of", name)) {
     sub(/ that wait/, "", name)
     sub(/[0-9]+/, "& waiters", name)

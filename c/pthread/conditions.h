@@ -79,7 +79,7 @@ FAST_PATH void use_here(struct own_cond *ours) {
   if (UNLIKELY(__atomic_load_n(&ours->used_in, __ATOMIC_ACQUIRE) != this_process())) begin_use(ours);
 }
 
-/* Begins a wait with the mutex: 0 if both are ready for it, PASSED_ON, or an error. */
+/* Begins a wait with the mutex. Returns 0 if both are ready for it, PASSED_ON, or an error. */
 static int begin_wait(pthread_cond_t *cond, pthread_mutex_t *mutex) {
   struct own_mutex *with = own_of(mutex);
   return settle(own_cond_of(cond), is_passed_on(with)) ? ready_for_call(with) : EINVAL;
@@ -138,7 +138,7 @@ EXPORTED int pthread_cond_clockwait(pthread_cond_t *cond, pthread_mutex_t *mutex
 
 enum waker { NOBODY_WAITS, LIBRARY_WAKES, SYSTEM_WAKES };
 
-/* Begins a wake, and says who makes it, if anybody waits. */
+/* Begins a wake. Returns who is to make it, or that nobody waits. */
 FAST_PATH enum waker begin_wake(struct own_cond *ours) {
   bool has_waiter = __atomic_load_n(&ours->by.oldest, __ATOMIC_ACQUIRE);
   if (is_cond_passed_on(ours)) return SYSTEM_WAKES;

@@ -18,12 +18,12 @@ SLOW_PATH int error_of(lfm_status status) {
   }
 }
 
-/* Says of a call that the system makes it. It is no error number. */
+/* The answer of ready_for_call if the system is to make the call. It is no error number. */
 enum { PASSED_ON = -1 };
 
 SLOW_PATH int ready_now(struct own_mutex *ours) { return is_passed_on(ours) ? PASSED_ON : error_of(make_ready(ours)); }
 
-/* Has the mutex ready for a call: 0, PASSED_ON, or an error. */
+/* Makes the mutex ready for a call. Returns 0, PASSED_ON, or an error. */
 FAST_PATH int ready_for_call(struct own_mutex *ours) {
   int error = LIKELY(is_ready(ours)) ? 0 : ready_now(ours);
   if (!error) COUNT_CALL(made);

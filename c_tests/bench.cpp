@@ -156,7 +156,8 @@ struct Shares {
   double nanoseconds, most_over_fewest;
 };
 
-// This many threads, which hold for `inside` turns and stay outside for `outside` turns, until the time is over.
+// This many threads, which hold for `inside` turns and stay outside for `outside` turns, until the time is over. Each holds at
+// least once, also if it starts late on a busy machine.
 template <class Lock> static Shares together(Lock &lock, int threads, uint64_t inside, uint64_t outside) {
   std::vector<uint64_t> gained(size_t(threads), 0);
   std::atomic<bool> is_over{false};
@@ -165,13 +166,14 @@ template <class Lock> static Shares together(Lock &lock, int threads, uint64_t i
       threads,
       [&](int thread) {
         uint64_t count = 0;
-        for (; !is_over.load(std::memory_order_relaxed); count++) {
+        do {
           lock.lock(thread);
           total++;
           if (inside) turn(inside);
           lock.unlock(thread);
           if (outside) turn(outside);
-        }
+          count++;
+        } while (!is_over.load(std::memory_order_relaxed));
         gained[size_t(thread)] = count;
       },
       [&] {

@@ -159,6 +159,6 @@ lfm_status lfm_mutex_open(lfm_mutex *mutex, uint64_t seats, uint64_t budget, int
   if (!taken) return cause;
   mutex->seats = (uint32_t)seats;
   mutex->version = LFM_VERSION;
-  __atomic_store_n(&mutex->core, (struct lfm_core *)(uintptr_t)taken, __ATOMIC_SEQ_CST);
+  __atomic_store_n(&mutex->core, (struct lfm_core *)(uintptr_t)taken, __ATOMIC_RELEASE);
   return LFM_DONE;
 }

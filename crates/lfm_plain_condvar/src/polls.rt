@@ -1,16 +1,20 @@
-//! Whether a seat that waits polls before its thread parks. Between two threads that take turns a wake comes early, and a
-//! poll costs less than a sleep and a wake-up. But on busy processors polls keep the other thread from its work. So a seat
-//! polls if it is new or was notified in one of its last five polls, and otherwise at one of 32 waits, as a trial.
-ghost use Rattle.std.specs.Prelude.{◌≡◌, ◌+◌, ◌/◌, ◌%◌, ◌^◌, MatchBool, if◌then◌else◌};
+//! Whether a seat that waits polls before its thread parks, and whether it may yield before it locks again. Between two threads
+//! that take turns a wake comes early, and a poll costs less than a sleep and a wake-up. But on busy processors polls keep the
+//! other thread from its work, and a yield costs a time slice. So a seat polls if it is new or was notified in one of its last
+//! five polls, and otherwise at one of 32 waits, as a trial. Only a seat with such credit may yield.
+ghost use Rattle.std.specs.Prelude.{◌≡◌, ◌+◌, ◌/◌, ◌%◌, ◌^◌, ◌<◌, MatchBool, if◌then◌else◌};
 ghost use Rattle.lfm_plain_condvar.specs.Polls.{MayPoll};
 
-/// The credit of a new seat, and of one that was notified while it polled. Each time that a seat polls and is not notified halves it.
+/// The credit of a seat that was notified while it polled. Each time that a seat polls and is not notified halves it.
 const FULL: u32 = 16;
+
+/// The credit of a new seat, which may poll and yield.
+const HALF: u32 = 8;
 
 /// A seat without credit polls at one of this many waits.
 const WAITS_PER_TRIAL: u32 = 32;
 
-/// Whether the next waits of a seat may poll.
+/// Whether the next waits of a seat may poll, and whether it may yield after a wait.
 #[derive(Clone, Copy)]
 pub struct PollCredit {
     credit: u32,
@@ -21,7 +25,7 @@ pub struct PollCredit {
 impl PollCredit {
     /// The credit of a new seat.
     pub(crate) const NEW: PollCredit = PollCredit {
-        credit: FULL,
+        credit: HALF,
         waits: 0,
     };
 
@@ -32,6 +36,15 @@ impl PollCredit {
     {
         self.waits = self.waits.wrapping_add(1);
         self.credit > 0 || self.waits % WAITS_PER_TRIAL == 0
+    }
+
+    /// Whether the seat may yield after a wait that began behind this number of waiters: if there was none, and it has some
+    /// credit, but not all. With all of it, a poll has just found the wake-up, so the waker runs on another processor. A seat
+    /// that never polls keeps the credit of a new one.
+    pub(crate) fn allows_yield(&self, ahead: usize) -> bool
+        ensures { MatchBool result ((ahead ≡ 0) × (0 < self.now.credit) × (self.now.credit < 16)) ((ahead ≡ 0) × (0 < self.now.credit) × (self.now.credit < 16) → ⊥) }
+    {
+        ahead == 0 && self.credit > 0 && self.credit < FULL
     }
 
     /// Takes note of whether the seat was notified while it polled.

@@ -4,7 +4,7 @@ ghost use Rattle.lfm_mutex.specs.Belongs.{Beside, OfMutex, budget_of, limits_of,
 ghost use Rattle.lfm_mutex.specs.calls.Barging.{BargesBy, MayTry};
 ghost use Rattle.lfm_mutex.specs.calls.RunGoesOn.{RunGoesOnFrom};
 ghost use Rattle.lfm_mutex.specs.calls.Sight.{sight, LeavesOff, LocksWaiting, MayLeave, WaitRefused};
-ghost use Rattle.lfm_mutex.specs.calls.Woken.{PollsAndWakesAsGranted, WokenAsGranted};
+ghost use Rattle.lfm_mutex.specs.calls.Woken.{PollsAndWakesAsGranted, PollsOnce, WokenAsGranted};
 ghost use Rattle.lfm_plain_condvar.specs.Holds.{Unlocks};
 ghost use Rattle.lfm_plain_condvar.specs.Waits.{ComesBackAs, LocksAsWoken, MayWait};
 
@@ -12,6 +12,19 @@ use crate::parkers::Woken;
 use lfm_model::{How, Locked, Refusal};
 use lfm_mutex::{Kept, Mutex, Seat};
 use std::sync::Wait;
+use std::thread::yield_now;
+
+/// The count of a mutex that only one seat holds or wants.
+const ONE_SEAT: u64 = 1;
+
+/// How a seat that was woken locks the user mutex again.
+#[derive(Clone, Copy)]
+pub(crate) struct Relock {
+    pub(crate) woken: Woken,
+
+    /// Whether it may yield before, if it was woken alone.
+    pub(crate) may_yield: bool,
+}
 
 /// Why the user seat can't wait, if it can't: the first of Asleep, NotOwner, Nested and Spent that applies.
 pub(crate) fn bars_wait<T: Kept>(seat: &Seat<T>) -> Option<Refusal>
@@ -50,13 +63,29 @@ pub(crate) fn give_up<T: Kept>(mutex: &Mutex<T>, seat: &mut Seat<T>)
     }
 }
 
-/// Locks the user mutex again: by `lock_barging` if the seat was woken alone, else by `lock`. Most of several threads that
-/// one wake woke would find the mutex held by another of them, and nap.
+/// Reads the count of the user mutex. If it is 1 and the seat may yield, yields once. The counted seat is mostly that of the
+/// thread that woke this one, and that thread may be ready on the same processor. A yield lets it unlock; a nap of
+/// `lock_barging` would last longer than its hold. But on a busy processor a yield costs a time slice.
+fn yield_to_waker<T: Kept>(mutex: &Mutex<T>, seat: &mut Seat<T>, may_yield: bool)
+    requires belongs { OfMutex seat.old mutex.now }
+    ensures belongs { Beside seat.old seat.new }
+    ensures same { sight seat.new ≡ sight seat.old }
+    ensures run { RunGoesOnFrom seat.old seat.new }
+    ensures woken { PollsOnce seat.old seat.new }
+{
+    let count = mutex.count_from(seat);
+    if may_yield && count == ONE_SEAT {
+        yield_now();
+    }
+}
+
+/// Locks the user mutex again: by `lock_barging` if the seat was woken alone, else by `lock`. Before `lock_barging` it may yield
+/// once. Most of several threads that one wake woke would find the mutex held by another of them, and nap.
 fn lock_again<T: Kept, R: Wait>(
     rt: &R,
     mutex: &Mutex<T>,
     seat: &mut Seat<T>,
-    woken: Woken,
+    relock: Relock,
 ) -> Result<Locked, Refusal>
     requires belongs { OfMutex seat.old mutex.now }
     requires free { MayTry (limits_of mutex.now).budget (sight seat.old) }
@@ -65,10 +94,13 @@ fn lock_again<T: Kept, R: Wait>(
     ensures woken { PollsAndWakesAsGranted seat.old seat.new }
     ensures locks { LocksWaiting T.follows T.fits (limits_of mutex.now).budget (sight seat.old) (sight seat.new) result }
     ensures steps { BargesBy (limits_of mutex.now) (tries_of mutex.now) (sight seat.old) (sight seat.new) result }
-    ensures as_woken { LocksAsWoken mutex.now.pace (limits_of mutex.now) woken (sight seat.old) (sight seat.new) result }
+    ensures as_woken { LocksAsWoken mutex.now.pace (limits_of mutex.now) relock.woken (sight seat.old) (sight seat.new) result }
 {
-    match woken {
-        Woken::Alone => mutex.lock_barging(rt, seat),
+    match relock.woken {
+        Woken::Alone => {
+            yield_to_waker(mutex, seat, relock.may_yield);
+            mutex.lock_barging(rt, seat)
+        }
         Woken::WithOthers => mutex.lock(rt, seat),
     }
 }
@@ -78,7 +110,7 @@ pub(crate) fn come_back<T: Kept, R: Wait>(
     rt: &R,
     mutex: &Mutex<T>,
     seat: &mut Seat<T>,
-    woken: Woken,
+    relock: Relock,
 ) -> How
     requires belongs { OfMutex seat.old mutex.now }
     requires free { ((sight seat.old).depth ≡ 0) × ((sight seat.old).asleep ≡ false) × ((sight seat.old).takes < (limits_of mutex.now).budget) }
@@ -86,9 +118,9 @@ pub(crate) fn come_back<T: Kept, R: Wait>(
     ensures run { RunGoesOnFrom seat.old seat.new }
     ensures woken { PollsAndWakesAsGranted seat.old seat.new }
     ensures back { ComesBackAs T.follows T.fits (limits_of mutex.now) (tries_of mutex.now) result (sight seat.old) (sight seat.new) }
-    ensures as_woken { LocksAsWoken mutex.now.pace (limits_of mutex.now) woken (sight seat.old) (sight seat.new) (Ok (Locked.Held result)) }
+    ensures as_woken { LocksAsWoken mutex.now.pace (limits_of mutex.now) relock.woken (sight seat.old) (sight seat.new) (Ok (Locked.Held result)) }
 {
-    match lock_again(rt, mutex, seat, woken) {
+    match lock_again(rt, mutex, seat, relock) {
         Ok(locked) => match locked {
             Locked::Held(how) => how,
             Locked::Again(_) => unreachable!(),

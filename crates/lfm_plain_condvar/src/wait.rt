@@ -13,7 +13,7 @@ use crate::hold::ListedWait;
 use crate::parkers::{TakenWaker, Woken};
 use crate::plain_seat::PlainSeat;
 use crate::unlocked_wait::UnlockedWait;
-use crate::user::{bars_wait, come_back, give_up};
+use crate::user::{Relock, bars_wait, come_back, give_up};
 use lfm_model::{How, Refusal};
 use lfm_mutex::{Kept, Mutex, Pace, Seat};
 use std::mem::replace;
@@ -88,7 +88,9 @@ impl PlainCondvar {
     /// A wait costs each seat one take. It allocates no memory, sleeps, and wakes the seat that it grants a mutex, if any.
     /// If no other seat waited when this one was added to the list, it may poll before it sleeps, as often as the pace of
     /// the user mutex says. A seat polls if it is new or was notified in one of its last five polls, and otherwise at one of
-    /// 32 such waits. It sleeps at once if others wait.
+    /// 32 such waits. It sleeps at once if others wait. A seat that slept and was woken alone may yield once before it locks.
+    /// It does so if no other seat waited when it was added, if it is new or was notified in one of its last five polls, and if
+    /// the mutex counts one seat. A seat that never polls, since the pace has no polls, counts as new.
     pub fn wait<T: Kept, R: Wait>(
         &self,
         rt: &R,
@@ -136,10 +138,12 @@ impl PlainCondvar {
         }
         let enlisted = self.enlist(rt, cond, seat)?;
         give_up(mutex, seat);
-        let polls = polls_behind(mutex.pace(), enlisted.ahead());
+        let ahead = enlisted.ahead();
+        let polls = polls_behind(mutex.pace(), ahead);
         let ticket = enlisted.ticket();
         let woken = self.sleep(rt, cond, UnlockedWait::new(enlisted, seat), polls);
-        let how = come_back(rt, mutex, seat, woken);
+        let may_yield = cond.credit.allows_yield(ahead);
+        let how = come_back(rt, mutex, seat, Relock { woken, may_yield });
         Ok((how, ticket))
     }
 }

@@ -14,7 +14,7 @@ use crate::parkers::{TakenWaker, Woken};
 use crate::plain_seat::PlainSeat;
 use crate::time_is_over::TimeIsOver;
 use crate::unlocked_wait::UnlockedWait;
-use crate::user::{bars_wait, come_back, give_up};
+use crate::user::{Relock, bars_wait, come_back, give_up};
 use crate::wait::polls_behind;
 use crate::waiters::Waiter;
 use lfm_model::{How, Refusal};
@@ -166,10 +166,12 @@ impl PlainCondvar {
         }
         let enlisted = self.enlist(rt, cond, seat)?;
         give_up(mutex, seat);
-        let polls = polls_behind(mutex.pace(), enlisted.ahead());
+        let ahead = enlisted.ahead();
+        let polls = polls_behind(mutex.pace(), ahead);
         let wait = UnlockedWait::until(enlisted, seat, deadline);
         let (waited, woken) = self.sleep_or_leave(rt, cond, wait, polls);
-        let how = come_back(rt, mutex, seat, woken);
+        let may_yield = cond.credit.allows_yield(ahead);
+        let how = come_back(rt, mutex, seat, Relock { woken, may_yield });
         Ok((how, waited))
     }
 

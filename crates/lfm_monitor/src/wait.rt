@@ -49,8 +49,9 @@ impl<O: Object> Monitor<O> {
     ///
     /// On a plain condition a wake notifies the pass, which then acquires the monitor as in `hold`, or queues for it at once if
     /// that wake notified others too. The pass polls if no other pass waits there and its credit allows it, however many others
-    /// hold or want the monitor, and may yield before it acquires the monitor, as `wait` of `PlainCondvar` says. The wait
-    /// unlocks the monitor after it has released the list. The contract has Busy, but it is not reached.
+    /// hold or want the monitor. If it was woken alone, it may first yield, or queue after one try, as `wait` of
+    /// `PlainCondvar` says. The wait unlocks the monitor after it has released the list. The contract has Busy, but it is not
+    /// reached.
     pub fn wait<R: Wait>(
         &self,
         rt: &R,

@@ -218,8 +218,8 @@ impl<T: Kept> Mutex<T> {
     }
 
     /// The count after a yield. The thread to which the mutex was handed over may be ready on this processor. A yield lets it
-    /// run at once; a nap would last longer than its section. On a busy processor a yield costs a whole time slice, so it is
-    /// made only here.
+    /// run at once; a nap would last longer than its section. On a busy processor a yield costs a whole time slice, so
+    /// all other naps are sleeps.
     fn count_after_yield(&self, off_trail: &mut OffTrail) -> u64
         ensures { off_trail.new.woken ≡ off_trail.old.woken }
     {

@@ -11,3 +11,4 @@ pub mod Order
 pub mod Repeating
 pub mod Rule
 pub mod Taken
+mod TryThenLock

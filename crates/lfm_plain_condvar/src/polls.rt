@@ -1,20 +1,33 @@
-//! Whether a seat that waits polls before its thread parks, and whether it may yield before it locks again. Between two threads
-//! that take turns a wake comes early, and a poll costs less than a sleep and a wake-up. But on busy processors polls keep the
-//! other thread from its work, and a yield costs a time slice. So a seat polls if it is new or was notified in one of its last
-//! five polls, and otherwise at one of 32 waits, as a trial. Only a seat with such credit may yield.
+//! Whether a seat that waits polls before its thread parks, and what it does if its waker still holds when it locks again.
+//! Between two threads that take turns a wake comes early, and a poll costs less than a sleep and a wake-up. But on busy
+//! processors polls keep the other thread from its work, and a yield costs a time slice. So a seat polls if it is new or was
+//! notified in one of its last five polls, and otherwise at one of 32 waits, as a trial. Only a seat with such credit yields.
 ghost use Rattle.std.specs.Prelude.{◌≡◌, ◌+◌, ◌/◌, ◌%◌, ◌^◌, ◌<◌, MatchBool, if◌then◌else◌};
-ghost use Rattle.lfm_plain_condvar.specs.Polls.{MayPoll};
+ghost use Rattle.lfm_plain_condvar.specs.Polls.{ChoosesBehindWaker, MayPoll};
 
 /// The credit of a seat that was notified while it polled. Each time that a seat polls and is not notified halves it.
 const FULL: u32 = 16;
 
 /// The credit of a new seat, which may poll and yield.
-const HALF: u32 = 8;
+const NEW_SEAT: u32 = 8;
 
 /// A seat without credit polls at one of this many waits.
 const WAITS_PER_TRIAL: u32 = 32;
 
-/// Whether the next waits of a seat may poll, and whether it may yield after a wait.
+/// What a seat that was woken alone does if the mutex counts one seat. Mostly that is its waker, which still holds.
+#[derive(Clone, Copy)]
+pub enum BehindWaker {
+    /// It calls `lock_barging`: the waker runs on another processor and soon unlocks, other seats waited ahead, or no thread
+    /// woke the seat.
+    Barges,
+    /// It yields once before that: the waker may be ready on this processor.
+    Yields,
+    /// It tries once, and then queues: no recent poll found a wake-up, so the waker may be on this processor, or all processors
+    /// are busy. A queued seat is woken at the unlock, mostly sooner than a nap ends, and costs no time slice.
+    Queues,
+}
+
+/// Whether the next waits of a seat may poll, and what it does behind its waker.
 #[derive(Clone, Copy)]
 pub struct PollCredit {
     credit: u32,
@@ -25,7 +38,7 @@ pub struct PollCredit {
 impl PollCredit {
     /// The credit of a new seat.
     pub(crate) const NEW: PollCredit = PollCredit {
-        credit: HALF,
+        credit: NEW_SEAT,
         waits: 0,
     };
 
@@ -38,13 +51,20 @@ impl PollCredit {
         self.credit > 0 || self.waits % WAITS_PER_TRIAL == 0
     }
 
-    /// Whether the seat may yield after a wait that began behind this number of waiters: if there was none, and it has some
-    /// credit, but not all. With all of it, a poll has just found the wake-up, so the waker runs on another processor. A seat
-    /// that never polls keeps the credit of a new one.
-    pub(crate) fn allows_yield(&self, ahead: usize) -> bool
-        ensures { MatchBool result ((ahead ≡ 0) × (0 < self.now.credit) × (self.now.credit < 16)) ((ahead ≡ 0) × (0 < self.now.credit) × (self.now.credit < 16) → ⊥) }
+    /// What the seat does behind its waker, after a wait that began behind this number of waiters. It barges if there was a
+    /// waiter, or if a poll has just found the wake-up: then the waker runs on another processor. A seat that never polls keeps
+    /// the credit of a new one.
+    pub(crate) fn behind_waker(&self, ahead: usize) -> BehindWaker
+        ensures { ChoosesBehindWaker ahead self.now.credit result }
     {
-        ahead == 0 && self.credit > 0 && self.credit < FULL
+        if ahead > 0 || self.credit >= FULL {
+            return BehindWaker::Barges;
+        }
+        if self.credit > 0 {
+            BehindWaker::Yields
+        } else {
+            BehindWaker::Queues
+        }
     }
 
     /// Takes note of whether the seat was notified while it polled.

@@ -1,7 +1,7 @@
 //! What a wait does with the user mutex: it unlocks it once, and locks it once again.
-ghost use Rattle.std.specs.Prelude.{◌≡◌, ◌<◌, Ok, false, MatchOption};
+ghost use Rattle.std.specs.Prelude.{◌≡◌, ◌+◌, ◌-◌, ◌<◌, Ok, false, MatchOption};
 ghost use Rattle.lfm_mutex.specs.Belongs.{Beside, OfMutex, budget_of, limits_of, tries_of};
-ghost use Rattle.lfm_mutex.specs.calls.Barging.{BargesBy, MayTry};
+ghost use Rattle.lfm_mutex.specs.calls.Barging.{BargesBy, MayTry, TriesFirst};
 ghost use Rattle.lfm_mutex.specs.calls.RunGoesOn.{RunGoesOnFrom};
 ghost use Rattle.lfm_mutex.specs.calls.Sight.{sight, LeavesOff, LocksWaiting, MayLeave, WaitRefused};
 ghost use Rattle.lfm_mutex.specs.calls.Woken.{PollsAndWakesAsGranted, PollsOnce, WokenAsGranted};
@@ -9,6 +9,7 @@ ghost use Rattle.lfm_plain_condvar.specs.Holds.{Unlocks};
 ghost use Rattle.lfm_plain_condvar.specs.Waits.{ComesBackAs, LocksAsWoken, MayWait};
 
 use crate::parkers::Woken;
+use crate::polls::BehindWaker;
 use lfm_model::{How, Locked, Refusal};
 use lfm_mutex::{Kept, Mutex, Seat};
 use std::sync::Wait;
@@ -22,8 +23,8 @@ const ONE_SEAT: u64 = 1;
 pub(crate) struct Relock {
     pub(crate) woken: Woken,
 
-    /// Whether it may yield before, if it was woken alone.
-    pub(crate) may_yield: bool,
+    /// What it does behind its waker, if it was woken alone.
+    pub(crate) behind_waker: BehindWaker,
 }
 
 /// Why the user seat can't wait, if it can't: the first of Asleep, NotOwner, Nested and Spent that applies.
@@ -63,24 +64,61 @@ pub(crate) fn give_up<T: Kept>(mutex: &Mutex<T>, seat: &mut Seat<T>)
     }
 }
 
-/// Reads the count of the user mutex. If it is 1 and the seat may yield, yields once. The counted seat is mostly that of the
-/// thread that woke this one, and that thread may be ready on the same processor. A yield lets it unlock; a nap of
-/// `lock_barging` would last longer than its hold. But on a busy processor a yield costs a time slice.
-fn yield_to_waker<T: Kept>(mutex: &Mutex<T>, seat: &mut Seat<T>, may_yield: bool)
+/// Reads the count of the user mutex. If it is 1, the counted seat is mostly that of the waker, whose thread may be ready on
+/// this processor. A seat that yields does so here, which lets the waker unlock; a nap of `lock_barging` would last longer than
+/// its hold. Returns whether the seat is to queue.
+fn yields_or_queues<T: Kept>(
+    mutex: &Mutex<T>,
+    seat: &mut Seat<T>,
+    behind_waker: BehindWaker,
+) -> bool
     requires belongs { OfMutex seat.old mutex.now }
     ensures belongs { Beside seat.old seat.new }
     ensures same { sight seat.new ≡ sight seat.old }
     ensures run { RunGoesOnFrom seat.old seat.new }
     ensures woken { PollsOnce seat.old seat.new }
 {
-    let count = mutex.count_from(seat);
-    if may_yield && count == ONE_SEAT {
-        yield_now();
+    if mutex.count_from(seat) != ONE_SEAT {
+        return false;
+    }
+    match behind_waker {
+        BehindWaker::Barges => false,
+        BehindWaker::Yields => {
+            yield_now();
+            false
+        }
+        BehindWaker::Queues => true,
     }
 }
 
-/// Locks the user mutex again: by `lock_barging` if the seat was woken alone, else by `lock`. Before `lock_barging` it may yield
-/// once. Most of several threads that one wake woke would find the mutex held by another of them, and nap.
+/// Locks the user mutex again, for a seat that was woken alone: by `lock_barging`, or, if it queues, by a try and, if that
+/// fails, by `lock`. If the pace has no spins, no try is made before the naps, so `lock_barging` is called in both cases.
+fn barge_or_queue<T: Kept, R: Wait>(
+    rt: &R,
+    mutex: &Mutex<T>,
+    seat: &mut Seat<T>,
+    queues: bool,
+) -> Result<Locked, Refusal>
+    requires belongs { OfMutex seat.old mutex.now }
+    requires free { MayTry (limits_of mutex.now).budget (sight seat.old) }
+    ensures belongs { Beside seat.old seat.new }
+    ensures run { RunGoesOnFrom seat.old seat.new }
+    ensures woken { PollsAndWakesAsGranted seat.old seat.new }
+    ensures locks { LocksWaiting T.follows T.fits (limits_of mutex.now).budget (sight seat.old) (sight seat.new) result }
+    ensures steps { BargesBy (limits_of mutex.now) (tries_of mutex.now) (sight seat.old) (sight seat.new) result }
+    ensures first { 0 < mutex.now.pace.spins → TriesFirst (limits_of mutex.now) (mutex.now.pace.spins - 1 + mutex.now.pace.naps) (sight seat.old) (sight seat.new) result }
+{
+    if !queues || mutex.pace().spins() == 0 {
+        return mutex.lock_barging(rt, seat);
+    }
+    match mutex.try_lock(seat) {
+        Ok(locked) => Ok(locked),
+        Err(_) => mutex.lock(rt, seat),
+    }
+}
+
+/// Locks the user mutex again: by `lock`, if the seat was woken with others, since most of these would find the mutex held by
+/// another of them, and nap. A seat that was woken alone first reads the count, and then calls `barge_or_queue`.
 fn lock_again<T: Kept, R: Wait>(
     rt: &R,
     mutex: &Mutex<T>,
@@ -98,8 +136,8 @@ fn lock_again<T: Kept, R: Wait>(
 {
     match relock.woken {
         Woken::Alone => {
-            yield_to_waker(mutex, seat, relock.may_yield);
-            mutex.lock_barging(rt, seat)
+            let queues = yields_or_queues(mutex, seat, relock.behind_waker);
+            barge_or_queue(rt, mutex, seat, queues)
         }
         Woken::WithOthers => mutex.lock(rt, seat),
     }

@@ -76,10 +76,10 @@ impl PlainCondvar {
     }
 
     /// Gives up the user mutex, which the seat holds at depth 1, waits until a wake takes this seat out of the list and
-    /// notifies it, and locks the user mutex again: by `lock_barging`, or by `lock` if that wake took out others too. It
-    /// returns the ticket: 1 for the first that waited on this condvar, and so on. It never returns without a wake. The seat
-    /// is in the list before the user mutex is unlocked, so no wake that is made after another thread has locked that mutex
-    /// misses it.
+    /// notifies it, and locks the user mutex again: by `lock` if that wake took out others too, and otherwise by
+    /// `lock_barging`, or by one try and then `lock`, as said below. It returns the ticket: 1 for the first that waited on this
+    /// condvar, and so on. It never returns without a wake. The seat is in the list before the user mutex is unlocked, so no
+    /// wake that is made after another thread has locked that mutex misses it.
     ///
     /// Refuses, in this order, before anything is changed: Asleep (the user seat sleeps, or a call of it is open), NotOwner,
     /// Nested (it holds above depth 1), Spent (either seat has no take left). The contract has Busy too, which is not
@@ -88,9 +88,12 @@ impl PlainCondvar {
     /// A wait costs each seat one take. It allocates no memory, sleeps, and wakes the seat that it grants a mutex, if any.
     /// If no other seat waited when this one was added to the list, it may poll before it sleeps, as often as the pace of
     /// the user mutex says. A seat polls if it is new or was notified in one of its last five polls, and otherwise at one of
-    /// 32 such waits. It sleeps at once if others wait. A seat that slept and was woken alone may yield once before it locks.
-    /// It does so if no other seat waited when it was added, if it is new or was notified in one of its last five polls, and if
-    /// the mutex counts one seat. A seat that never polls, since the pace has no polls, counts as new.
+    /// 32 such waits. It sleeps at once if others wait.
+    ///
+    /// A seat that was woken alone locks by `lock_barging`, unless no other seat waited when it was added and the mutex counts
+    /// one seat, mostly that of its waker, which still holds. In that case it yields once before `lock_barging`, if an earlier
+    /// one of its last five polls found a wake, but not the last. So does a seat that is new or never polls, since the pace has
+    /// no polls. If none of them did, it tries once and then queues by `lock`, unless the pace has no spins.
     pub fn wait<T: Kept, R: Wait>(
         &self,
         rt: &R,
@@ -142,8 +145,12 @@ impl PlainCondvar {
         let polls = polls_behind(mutex.pace(), ahead);
         let ticket = enlisted.ticket();
         let woken = self.sleep(rt, cond, UnlockedWait::new(enlisted, seat), polls);
-        let may_yield = cond.credit.allows_yield(ahead);
-        let how = come_back(rt, mutex, seat, Relock { woken, may_yield });
+        let behind_waker = cond.credit.behind_waker(ahead);
+        let relock = Relock {
+            woken,
+            behind_waker,
+        };
+        let how = come_back(rt, mutex, seat, relock);
         Ok((how, ticket))
     }
 }

@@ -12,6 +12,7 @@ ghost use Rattle.lfm_plain_condvar.specs.Waits.{LeftList, NoLonger, SleepEnds, W
 use crate::condvar::PlainCondvar;
 use crate::parkers::{TakenWaker, Woken};
 use crate::plain_seat::PlainSeat;
+use crate::polls::BehindWaker;
 use crate::time_is_over::TimeIsOver;
 use crate::unlocked_wait::UnlockedWait;
 use crate::user::{Relock, bars_wait, come_back, give_up};
@@ -92,7 +93,7 @@ impl PlainCondvar {
 
     /// The time of the wait is over: the seat takes itself out of the list. If it isn't there, a wake has taken it out and is
     /// about to notify it, and it sleeps until then. Returns how the wait ended, and how the seat was woken. A seat whose time
-    /// is over locks the user mutex as one that was woken alone.
+    /// is over counts as woken alone.
     fn end_at_deadline<T: Kept, R: Wait>(
         &self,
         rt: &R,
@@ -170,8 +171,15 @@ impl PlainCondvar {
         let polls = polls_behind(mutex.pace(), ahead);
         let wait = UnlockedWait::until(enlisted, seat, deadline);
         let (waited, woken) = self.sleep_or_leave(rt, cond, wait, polls);
-        let may_yield = cond.credit.allows_yield(ahead);
-        let how = come_back(rt, mutex, seat, Relock { woken, may_yield });
+        let behind_waker = match waited {
+            Waited::Woken(_) => cond.credit.behind_waker(ahead),
+            Waited::TimedOut(_) => BehindWaker::Barges,
+        };
+        let relock = Relock {
+            woken,
+            behind_waker,
+        };
+        let how = come_back(rt, mutex, seat, relock);
         Ok((how, waited))
     }
 

@@ -1,5 +1,6 @@
 //! Which woken threads queue for the mutex at once: those that one wake woke together, also within their time limit, and not
-//! one that was woken alone. At this pace a thread that tries first never queues while the mutex is held.
+//! one that was woken alone, since at this pace no seat polls, so each keeps its credit. At this pace a thread that tries first
+//! never queues while the mutex is held.
 ghost use Rattle.lfm_plain_test_tools.specs.Hands.{IsHandOf};
 
 use crate::broadcast::come_and_wait;

@@ -18,8 +18,7 @@ pub enum Peer {
     Barging,
     /// Our pool of mutexes.
     Pool,
-    /// Several threads that lock our mutex by `lock_barging`, and wait on plain condvars. Those that are woken together lock
-    /// it by `lock`.
+    /// Several threads that lock our mutex by `lock_barging`, and wait on plain condvars.
     Plain,
     /// The bare steps of our mutex's calls.
     Bare,

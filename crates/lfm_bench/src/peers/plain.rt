@@ -1,5 +1,5 @@
-//! Our mutex with two plain condvars, used by several threads. Those that never waited, and those that were woken alone,
-//! lock the mutex by `lock_barging`; those that were woken together, by `lock`.
+//! Our mutex with two plain condvars, used by several threads. Those that never waited lock the mutex by `lock_barging`; those
+//! that were woken lock it as `wait` of the condvar does.
 ghost use Rattle.std.specs.Prelude.{◌≡◌, ℕ, IfOk, IfSome};
 ghost use Rattle.lfm_mutex.specs.Belongs.{OfMutex};
 ghost use Rattle.lfm_plain_condvar.specs.Belongs.{OfPlain};

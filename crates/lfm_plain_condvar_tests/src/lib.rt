@@ -3,6 +3,8 @@
 #![tactic(auto)]
 
 #[cfg(test)]
+mod behind_waker;
+#[cfg(test)]
 mod beside_limits;
 #[cfg(test)]
 mod broadcast;

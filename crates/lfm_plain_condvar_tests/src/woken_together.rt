@@ -31,7 +31,7 @@ fn pace() -> Pace {
 }
 
 /// Locks the mutex once this many threads wait.
-fn lock_once_they_wait<R: Wait>(
+pub(crate) fn lock_once_they_wait<R: Wait>(
     rt: &R,
     mutex: &Mutex<u64>,
     condvar: &PlainCondvar,

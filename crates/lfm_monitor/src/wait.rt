@@ -47,11 +47,10 @@ impl<O: Object> Monitor<O> {
     /// list, and at most one other holds or wants the monitor, it polls before it sleeps, as often as the pace says. Otherwise
     /// it sleeps at once. A wait wakes the pass that it grants the monitor, if any, after it has released the list.
     ///
-    /// On a plain condition a wake notifies the pass, which then acquires the monitor as in `hold`, or queues for it at once if
-    /// that wake notified others too. The pass polls if no other pass waits there and its credit allows it, however many others
-    /// hold or want the monitor. If it was woken alone, it may first yield, or queue after one try, as `wait` of
-    /// `PlainCondvar` says. The wait unlocks the monitor after it has released the list. The contract has Busy, but it is not
-    /// reached.
+    /// On a plain condition a wake notifies the pass, which then acquires the monitor again. It queues at once if that wake
+    /// notified others too. Otherwise it acquires as in `hold`, first yields, or queues after one try, as `wait` of
+    /// `PlainCondvar` says. That call also says when it polls, however many others hold or want the monitor. The wait unlocks
+    /// the monitor after it has released the list. The contract has Busy, but it is not reached.
     pub fn wait<R: Wait>(
         &self,
         rt: &R,

@@ -55,9 +55,9 @@ OwedBy (Ok (Some r)) v = IsOwedBy r v
 OwedBy (Ok None) v = ⊤
 OwedBy (Err e) v = ⊤
 
--- a new plain seat around this seat of the inner mutex: it has its waker, and has notified nobody
+-- a new plain seat around this seat of the inner mutex: it has its waker, has notified nobody, and has the credit of a new seat
 abbrev pub IsNewSeat : PlainSeat → Seat Waiters → Parkers → Type 0
-IsNewSeat c s p = (c.seat ≡ s) × HasWaker c p × (c.log.seat.table_id ≡ p.table.shared.table_id) × (notified_by c ≡ [])
+IsNewSeat c s p = (c.seat ≡ s) × HasWaker c p × (c.log.seat.table_id ≡ p.table.shared.table_id) × (notified_by c ≡ []) × (c.credit ≡ record { credit = 8; waits = 0 })
 
 -- the seats of the inner mutex, of these plain seats
 abbrev pub inner_seats : List PlainSeat → List (Seat Waiters)

@@ -8,10 +8,11 @@ use crate::waiters::Waiters;
 use lfm_mutex::{Mutex, Pace};
 
 /// A condition variable as `std::sync::Condvar` is one: a woken thread locks the user mutex again by itself. It does so by
-/// `lock` if one wake took several waiters out of the list: most of them would find the mutex held by another of them, and
-/// nap. A thread that was woken alone tries first, as `wait` says. Waiters are woken in the order in which they began to wait.
-/// A thread that never waited may lock the mutex before a thread that was woken earlier. `wait_for` and `wait_until` end at a
-/// time limit. No wait ends unless a wake took that wait out of the list, or its time is over.
+/// `lock` if one wake took several waiters out of the list: by `lock_barging`, most of them would nap while another of them
+/// holds. A thread that was woken alone, or whose time is over, may try before it queues, as `wait` says. Waiters are woken in
+/// the order in which they began to wait. A thread that never waited may lock the mutex before a thread that was woken earlier.
+/// `wait_for` and `wait_until` end at a time limit. No wait ends unless a wake took that wait out of the list, or its time is
+/// over.
 ///
 /// Choose between this and `Condvar` of `lfm_condvar` by what a woken thread needs. That one puts a woken thread into the
 /// queue of the user mutex, so that it holds the mutex in the order of the wakes, and no thread that locks later is served

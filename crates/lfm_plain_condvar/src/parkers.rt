@@ -6,9 +6,10 @@
 //! Whoever notifies a parker whose thread is parked owes that thread a wake-up, which `parked` uses up. It is not proved that
 //! a wake-up reaches the thread: `wake_one` of the table makes a system call, and the system wakes the thread that parks on
 //! the low 32 bits of the word.
-ghost use Rattle.std.specs.Prelude.{◌≡◌, ◌+◌, ◌<◌, ◌≤◌, ℕ, [], ◌∷◌, ◌++◌, IfErr, IfOk, IfSome};
+ghost use Rattle.std.specs.Prelude.{◌≡◌, ◌+◌, ◌<◌, ◌≤◌, ℕ, [], ◌∷◌, ◌++◌, IfErr, IfOk, IfSome, is_some};
 ghost use Rattle.lfm_plain_condvar.specs.Parked.{Gathers, IsOwedTo, owed_after};
 ghost use Rattle.lfm_plain_condvar.specs.Parkers.{HasEachOnce, IsWakerOf, Notifies, ParkersHold, Retires, StartsWithNone, TakesIfNotified, no_notices, times, with_those};
+ghost use Rattle.lfm_plain_condvar.specs.Polls.{PollsByCredit};
 
 mod parked;
 pub mod woken;
@@ -296,8 +297,8 @@ impl Parkers {
         None
     }
 
-    /// Polls at most this often, or not at all if the credit says so, and tells the credit whether the parker was notified
-    /// meanwhile.
+    /// Polls at most this often, if the credit allows it, and then tells the credit whether a poll found that the parker was
+    /// notified.
     fn poll_with_credit(
         &self,
         number: u64,
@@ -305,9 +306,13 @@ impl Parkers {
         credit: &mut PollCredit,
     ) -> Option<TakenWaker>
         requires { number ≤ self.now.seats }
-        ensures { IfSome result (λ t. (t.waker.number ≡ number) × (t.waker.seat.table_id ≡ self.now.table.shared.table_id)) }
+        ensures taken { IfSome result (λ t. (t.waker.number ≡ number) × (t.waker.seat.table_id ≡ self.now.table.shared.table_id)) }
+        ensures credit { PollsByCredit polls (is_some result) credit.old credit.new }
     {
-        if polls == 0 || !credit.allows() {
+        if polls == 0 {
+            return None;
+        }
+        if !credit.allows() {
             return None;
         }
         let found = self.poll(number, polls);

@@ -1,11 +1,13 @@
 //! Whether a seat that waits polls before its thread parks, and what it does if its waker still holds when it locks again.
 //! Between two threads that take turns a wake comes early, and a poll costs less than a sleep and a wake-up. But on busy
-//! processors polls keep the other thread from its work, and a yield costs a time slice. So a seat polls if it is new or was
-//! notified in one of its last five polls, and otherwise at one of 32 waits, as a trial. Only a seat with such credit yields.
-ghost use Rattle.std.specs.Prelude.{◌≡◌, ◌+◌, ◌/◌, ◌%◌, ◌^◌, ◌<◌, MatchBool, if◌then◌else◌};
-ghost use Rattle.lfm_plain_condvar.specs.Polls.{ChoosesBehindWaker, MayPoll};
+//! processors polls keep the other thread from its work, and a yield costs a time slice. So a seat polls while it has credit, and
+//! otherwise at one of 32 waits, as a trial. After a success the fifth failed round of polls in a row ends the credit, and for a
+//! new seat the fourth. Behind its waker, a seat whose last round succeeded barges, another seat with credit yields, and one
+//! without credit queues.
+ghost use Rattle.std.specs.Prelude.{◌≡◌, ◌/◌, MatchBool, if◌then◌else◌};
+ghost use Rattle.lfm_plain_condvar.specs.Polls.{ChoosesBehindWaker, MayPoll, with_wait};
 
-/// The credit of a seat that was notified while it polled. Each time that a seat polls and is not notified halves it.
+/// The credit of a seat that was notified in its last round of polls. Each round without that halves it.
 const FULL: u32 = 16;
 
 /// The credit of a new seat, which may poll and yield.
@@ -42,9 +44,9 @@ impl PollCredit {
         waits: 0,
     };
 
-    /// Whether the seat polls at its next wait: if it has credit, or as a trial. It counts the wait.
+    /// Whether the seat polls at this wait: if it has credit, or as a trial. It counts the wait.
     pub(crate) fn allows(&mut self) -> bool
-        ensures counts { self.new ≡ record self.old { waits = (self.old.waits + 1) % 2 ^ 32 } }
+        ensures counts { self.new ≡ with_wait self.old }
         ensures allows { MatchBool result (MayPoll self.new) (MayPoll self.new → ⊥) }
     {
         self.waits = self.waits.wrapping_add(1);
@@ -52,8 +54,8 @@ impl PollCredit {
     }
 
     /// What the seat does behind its waker, after a wait that began behind this number of waiters. It barges if there was a
-    /// waiter, or if a poll has just found the wake-up: then the waker runs on another processor. A seat that never polls keeps
-    /// the credit of a new one.
+    /// waiter, or if its last round of polls found that it was notified: then the waker runs on another processor. A seat that
+    /// never polls keeps the credit of a new one.
     pub(crate) fn behind_waker(&self, ahead: usize) -> BehindWaker
         ensures { ChoosesBehindWaker ahead self.now.credit result }
     {

@@ -2,6 +2,7 @@
 //! by such a wait. So it sleeps after it was added to the list, and while its user seat doesn't hold.
 ghost use Rattle.std.specs.Prelude.{◌≡◌};
 ghost use Rattle.lfm_mutex.specs.calls.Sight.{sight};
+ghost use Rattle.lfm_mutex.specs.declared.deadlines.Deadline.TheVariants.{Never};
 
 use crate::hold::ListedWait;
 use lfm_mutex::deadlines::Deadline;
@@ -19,7 +20,8 @@ impl<'a, T: Kept> UnlockedWait<'a, T> {
     /// The listed wait of this user seat, which has given up its mutex. It has no time limit.
     pub(crate) fn new(listed: ListedWait<T>, _seat: &'a Seat<T>) -> UnlockedWait<'a, T>
         requires { (sight _seat.now).depth ≡ 0 }
-        ensures { result.listed ≡ listed }
+        ensures listed { result.listed ≡ listed }
+        ensures deadline { result.deadline ≡ Never }
     {
         UnlockedWait {
             listed,

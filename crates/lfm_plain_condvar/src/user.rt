@@ -1,5 +1,5 @@
 //! What a wait does with the user mutex: it unlocks it once, and locks it once again.
-ghost use Rattle.std.specs.Prelude.{◌≡◌, ◌+◌, ◌-◌, ◌<◌, Ok, false, MatchOption};
+ghost use Rattle.std.specs.Prelude.{◌≡◌, ◌+◌, ◌-◌, ◌<◌, Ok, false, true, MatchOption};
 ghost use Rattle.lfm_mutex.specs.Belongs.{Beside, OfMutex, budget_of, limits_of, tries_of};
 ghost use Rattle.lfm_mutex.specs.calls.Barging.{BargesBy, MayTry, TriesFirst};
 ghost use Rattle.lfm_mutex.specs.calls.RunGoesOn.{RunGoesOnFrom};
@@ -7,6 +7,7 @@ ghost use Rattle.lfm_mutex.specs.calls.Sight.{sight, LeavesOff, LocksWaiting, Ma
 ghost use Rattle.lfm_mutex.specs.calls.Woken.{PollsAndWakesAsGranted, PollsOnce, WokenAsGranted};
 ghost use Rattle.lfm_plain_condvar.specs.Holds.{Unlocks};
 ghost use Rattle.lfm_plain_condvar.specs.Waits.{ComesBackAs, LocksAsWoken, MayWait};
+ghost use Rattle.lfm_plain_condvar.specs.declared.polls.BehindWaker.TheVariants.{Queues};
 
 use crate::parkers::Woken;
 use crate::polls::BehindWaker;
@@ -65,8 +66,8 @@ pub(crate) fn give_up<T: Kept>(mutex: &Mutex<T>, seat: &mut Seat<T>)
 }
 
 /// Reads the count of the user mutex. If it is 1, the counted seat is mostly that of the waker, whose thread may be ready on
-/// this processor. A seat that yields does so here, which lets the waker unlock; a nap of `lock_barging` would last longer than
-/// its hold. Returns whether the seat is to queue.
+/// this processor. A seat that yields does so here, which lets the waker unlock; a nap of `lock_barging` would mostly last longer
+/// than its hold. Returns whether the seat is to queue.
 fn yields_or_queues<T: Kept>(
     mutex: &Mutex<T>,
     seat: &mut Seat<T>,
@@ -77,6 +78,7 @@ fn yields_or_queues<T: Kept>(
     ensures same { sight seat.new ≡ sight seat.old }
     ensures run { RunGoesOnFrom seat.old seat.new }
     ensures woken { PollsOnce seat.old seat.new }
+    ensures queues { result ≡ true → behind_waker ≡ Queues }
 {
     if mutex.count_from(seat) != ONE_SEAT {
         return false;
@@ -92,7 +94,7 @@ fn yields_or_queues<T: Kept>(
 }
 
 /// Locks the user mutex again, for a seat that was woken alone: by `lock_barging`, or, if it queues, by a try and, if that
-/// fails, by `lock`. If the pace has no spins, no try is made before the naps, so `lock_barging` is called in both cases.
+/// fails, by `lock`. If the pace has no spins, the seat calls `lock_barging` even if it is to queue, and may nap before that.
 fn barge_or_queue<T: Kept, R: Wait>(
     rt: &R,
     mutex: &Mutex<T>,
@@ -107,6 +109,7 @@ fn barge_or_queue<T: Kept, R: Wait>(
     ensures locks { LocksWaiting T.follows T.fits (limits_of mutex.now).budget (sight seat.old) (sight seat.new) result }
     ensures steps { BargesBy (limits_of mutex.now) (tries_of mutex.now) (sight seat.old) (sight seat.new) result }
     ensures first { 0 < mutex.now.pace.spins → TriesFirst (limits_of mutex.now) (mutex.now.pace.spins - 1 + mutex.now.pace.naps) (sight seat.old) (sight seat.new) result }
+    ensures tries_once { queues ≡ true → 0 < mutex.now.pace.spins → TriesFirst (limits_of mutex.now) 0 (sight seat.old) (sight seat.new) result }
 {
     if !queues || mutex.pace().spins() == 0 {
         return mutex.lock_barging(rt, seat);
@@ -117,8 +120,8 @@ fn barge_or_queue<T: Kept, R: Wait>(
     }
 }
 
-/// Locks the user mutex again: by `lock`, if the seat was woken with others, since most of these would find the mutex held by
-/// another of them, and nap. A seat that was woken alone first reads the count, and then calls `barge_or_queue`.
+/// Locks the user mutex again. A seat that was woken with others calls `lock`: by `lock_barging`, most of them would nap while
+/// another of them holds. A seat that was woken alone first reads the count, and then calls `barge_or_queue`.
 fn lock_again<T: Kept, R: Wait>(
     rt: &R,
     mutex: &Mutex<T>,

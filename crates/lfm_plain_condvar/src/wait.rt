@@ -86,14 +86,16 @@ impl PlainCondvar {
     /// reached: as many would have to wait as there are seats.
     ///
     /// A wait costs each seat one take. It allocates no memory, sleeps, and wakes the seat that it grants a mutex, if any.
-    /// If no other seat waited when this one was added to the list, it may poll before it sleeps, as often as the pace of
-    /// the user mutex says. A seat polls if it is new or was notified in one of its last five polls, and otherwise at one of
-    /// 32 such waits. It sleeps at once if others wait.
+    /// If no other seat waits when this one is added to the list, it may poll before it sleeps, as often as the pace of the
+    /// user mutex says. Otherwise it sleeps at once. Of these waits, a seat polls at each if it was notified in one of its last
+    /// five rounds of polls. So does a new seat until four rounds have failed. Any other seat polls at one of 32.
     ///
-    /// A seat that was woken alone locks by `lock_barging`, unless no other seat waited when it was added and the mutex counts
-    /// one seat, mostly that of its waker, which still holds. In that case it yields once before `lock_barging`, if an earlier
-    /// one of its last five polls found a wake, but not the last. So does a seat that is new or never polls, since the pace has
-    /// no polls. If none of them did, it tries once and then queues by `lock`, unless the pace has no spins.
+    /// A seat that was woken alone locks by `lock_barging`, except in two cases. In both, no other seat waited when it was
+    /// added, and the mutex counts one seat. That is mostly its waker, which still holds.
+    /// - It yields once before `lock_barging`, if its last round failed and it may still poll at its next wait, or if it has
+    ///   never polled.
+    /// - It tries once and then queues by `lock`, if its last rounds have failed and it polls only at one of 32 waits. If the
+    ///   pace has no spins, it calls `lock_barging` here too.
     pub fn wait<T: Kept, R: Wait>(
         &self,
         rt: &R,

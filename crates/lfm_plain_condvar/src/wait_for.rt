@@ -92,8 +92,8 @@ impl PlainCondvar {
     }
 
     /// The time of the wait is over: the seat takes itself out of the list. If it isn't there, a wake has taken it out and is
-    /// about to notify it, and it sleeps until then. Returns how the wait ended, and how the seat was woken. A seat whose time
-    /// is over counts as woken alone.
+    /// about to notify it, and it sleeps until then. Returns how the wait ended, and how the seat was woken. A seat that took
+    /// itself out counts as woken alone.
     fn end_at_deadline<T: Kept, R: Wait>(
         &self,
         rt: &R,

@@ -21,7 +21,7 @@ const WAITS: u64 = 20;
 /// How long the waker lets the thread poll and park, and how long it holds after the wake, in milliseconds.
 const KEPT: u64 = 20;
 
-/// A pace at which a waiter polls once before it parks, and a thread that tries first naps until the mutex is free.
+/// A pace at which a waiter polls once before it parks, and a thread that calls `lock_barging` naps until the mutex is free.
 fn pace() -> Pace {
     Pace::new(1, 0).with_barging(1, u32::MAX)
 }

@@ -1,6 +1,6 @@
 //! Which woken threads queue for the mutex at once: those that one wake woke together, also within their time limit, and not
-//! one that was woken alone, since at this pace no seat polls, so each keeps its credit. At this pace a thread that tries first
-//! never queues while the mutex is held.
+//! one that was woken alone, since at this pace no seat polls, so each keeps its credit. At this pace a thread that calls
+//! `lock_barging` never queues while the mutex is held.
 ghost use Rattle.lfm_plain_test_tools.specs.Hands.{IsHandOf};
 
 use crate::broadcast::come_and_wait;
@@ -25,7 +25,7 @@ const LIMIT: u64 = 3600;
 /// How often it reads the count at most, once in a millisecond.
 const READS: u64 = 10_000;
 
-/// A pace at which a thread that tries first naps until the mutex is free.
+/// A pace at which a thread that calls `lock_barging` naps until the mutex is free.
 fn pace() -> Pace {
     Pace::new(0, 0).with_barging(1, u32::MAX)
 }

@@ -26,5 +26,5 @@ wrapped-preserved c = let b = c.into_iter-seat-iterator.ensures.into_iter_gives 
     record {
       size = (let n = length_push c.wrapped.yielded c.in-Some.seat in let l = c.push_reserved.ensures.len in let z = i.size.0 in (omega arith, search rules));
       wraps = and_last (λ (j : ℕ) (s : PlainSeat). (get_elem? xs j ≡ some s.seat) × IsNewSeat s s.seat c.args.parkers.now) c.wrapped.plain_seats.items c.push_reserved.new.self.items _ c.push_reserved.ensures.items
-          (subst (λ (n : ℕ). get_elem? xs n ≡ some p.seat) long (subst (λ (z : Seat Waiters). get_elem? xs (length c.wrapped.yielded) ≡ some z) (sym made.0) here), (refl, made.1, made.2, made.3)) i.wraps;
+          (subst (λ (n : ℕ). get_elem? xs n ≡ some p.seat) long (subst (λ (z : Seat Waiters). get_elem? xs (length c.wrapped.yielded) ≡ some z) (sym made.0) here), (refl, made.1, made.2, made.3, made.4)) i.wraps;
     }

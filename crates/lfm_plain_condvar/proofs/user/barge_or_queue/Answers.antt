@@ -23,3 +23,7 @@ returns-in-Err-clause-steps g c = let m = c.args.mutex.now in let s = sight c.ar
 pub returns-in-Err-clause-first : goal.returns-in-Err-clause-first
 returns-in-Err-clause-first g c = let m = c.args.mutex.now in let s = sight c.args.seat.now in let t = sight c.try_lock.new.seat in let e = c.in-Err.ensures in λ spins.
     tries_first g.T.Kept.follows g.T.Kept.fits (limits_of m) (m.pace.spins - 1 + m.pace.naps) s t (sight c.lock.new.seat) c.lock.result (try_failed g.T.Kept.follows g.T.Kept.fits (limits_of m) s t c.in-Err.field-0 c.requires.free (e.locks, e.steps)) c.lock.ensures.steps
+
+pub returns-in-Err-clause-tries_once : goal.returns-in-Err-clause-tries_once
+returns-in-Err-clause-tries_once g c = let m = c.args.mutex.now in let s = sight c.args.seat.now in let t = sight c.try_lock.new.seat in let e = c.in-Err.ensures in λ queued spins.
+    tries_first g.T.Kept.follows g.T.Kept.fits (limits_of m) 0 s t (sight c.lock.new.seat) c.lock.result (try_failed g.T.Kept.follows g.T.Kept.fits (limits_of m) s t c.in-Err.field-0 c.requires.free (e.locks, e.steps)) c.lock.ensures.steps

@@ -14,7 +14,7 @@ pub give_up-requires-clause-leaves : goal.give_up-requires-clause-leaves
 give_up-requires-clause-leaves g c κs within = c.requires.leaves c.in_default.ensures.1
 
 pub sleep-woken-requires-clause-own : goal.sleep-woken-requires-clause-own
-sleep-woken-requires-clause-own g c κs within = ap (λ (l : ListedWait _). l.number) c.new.ensures ∙ c.in_ok-enlisted.ensures.enlists.0
+sleep-woken-requires-clause-own g c κs within = ap (λ (l : ListedWait _). l.number) c.new.ensures.listed ∙ c.in_ok-enlisted.ensures.enlists.0
 
 pub returns-clause-run : goal.returns-clause-run
 returns-clause-run g c = run_next c.give_up.ensures.run c.come_back-how.ensures.run

@@ -94,25 +94,25 @@ module _ (s : PoolSeat) (t : TableSeat) (p : Pool) (m : ℕ) (between : IsBetwee
   counts : CountsTakes s.takes 0 s.table_seat p
   counts = (between.awake awake).1
 
-  stays : (takes : ℕ) → IsAtRest t p → CountsTakes takes 0 t p → IsBetweenCalls (record { table_seat = t; takes = takes; asleep_in = s.asleep_in }) p
+  stays : (takes : ℕ) → IsAtRest t p → CountsTakes takes 0 t p → IsBetweenCalls (record s { table_seat = t; takes = takes }) p
   stays takes later counted = record { awake = λ e. (later, counted); sleeps = λ n e. let no : None ≡ Some n = sym awake ∙ e in absurd (cc) }
 
   -- a try_lock
   pub tried_held : (result : Result Locked Refusal) (how : How) → result ≡ Ok (Locked.Held how) → IsAtRest t p → TriesAtAnyDepth result s.table_seat t p m
       → (has_take : Bool) → TellsTake has_take s p → (HasDepthIn s.table_seat p m 0 → has_take ≡ false → result ≡ Err Refusal.Spent)
-      → IsBetweenCalls (record { table_seat = t; takes = s.takes + 1; asleep_in = s.asleep_in }) p
+      → IsBetweenCalls (record s { table_seat = t; takes = s.takes + 1 }) p
   tried_held result how is later did has_take tells refuses =
       let done = subst (λ (r : Result Locked Refusal). TriesAtAnyDepth r s.table_seat t p m) is did in
       let left = has_left has_take s p tells (λ e. let spent = refuses done.0 e in absurd (cc)) in
       stays (s.takes + 1) later (counts_tried s.table_seat t p m s.takes rest.belongs less counts left.0 left.1 (Locked.Held how) done.1)
 
   pub tried_again : (result : Result Locked Refusal) (depth : ℕ) → result ≡ Ok (Locked.Again depth) → IsAtRest t p → TriesAtAnyDepth result s.table_seat t p m
-      → IsBetweenCalls (record { table_seat = t; takes = s.takes; asleep_in = s.asleep_in }) p
+      → IsBetweenCalls (record s { table_seat = t }) p
   tried_again result depth is later did =
       stays s.takes later (counts_again s.table_seat t p m s.takes rest less counts depth (subst (λ (r : Result Locked Refusal). TriesAtAnyDepth r s.table_seat t p m) is did))
 
   pub try_refused : (result : Result Locked Refusal) (refusal : Refusal) → result ≡ Err refusal → IsAtRest t p → TriesAtAnyDepth result s.table_seat t p m
-      → IsBetweenCalls (record { table_seat = t; takes = s.takes; asleep_in = s.asleep_in }) p
+      → IsBetweenCalls (record s { table_seat = t }) p
   try_refused result refusal is later did =
       stays s.takes later (counts_refused_try s.table_seat t p m s.takes rest less counts refusal (subst (λ (r : Result Locked Refusal). TriesAtAnyDepth r s.table_seat t p m) is did))
 
@@ -128,7 +128,7 @@ module _ (s : PoolSeat) (t : TableSeat) (p : Pool) (m : ℕ) (between : IsBetwee
 
   pub asked_held : (result : Result Asked Refusal) (granted : Option Record) (how : How) → result ≡ Ok (Asked.Held how) → IsPlacedBy result t p m → AsksAtAnyDepth result granted s.table_seat t p m
       → (has_take : Bool) → TellsTake has_take s p → (HasDepthIn s.table_seat p m 0 → has_take ≡ false → result ≡ Err Refusal.Spent)
-      → IsBetweenCalls (record { table_seat = t; takes = s.takes + 1; asleep_in = s.asleep_in }) p
+      → IsBetweenCalls (record s { table_seat = t; takes = s.takes + 1 }) p
   asked_held result granted how is placed did has_take tells refuses =
       let done = subst (λ (r : Result Asked Refusal). AsksAtAnyDepth r granted s.table_seat t p m) is did in
       let left = has_left has_take s p tells (λ e. let spent = refuses done.0 e in absurd (cc)) in
@@ -137,7 +137,7 @@ module _ (s : PoolSeat) (t : TableSeat) (p : Pool) (m : ℕ) (between : IsBetwee
 
   pub asked_asleep : (result : Result Asked Refusal) (granted : Option Record) → result ≡ Ok Asked.Asleep → IsPlacedBy result t p m → AsksAtAnyDepth result granted s.table_seat t p m
       → (has_take : Bool) → TellsTake has_take s p → (HasDepthIn s.table_seat p m 0 → has_take ≡ false → result ≡ Err Refusal.Spent)
-      → IsBetweenCalls (record { table_seat = t; takes = s.takes + 1; asleep_in = Some m }) p
+      → IsBetweenCalls (record s { table_seat = t; takes = s.takes + 1; asleep_in = Some m }) p
   asked_asleep result granted is placed did has_take tells refuses =
       let done = subst (λ (r : Result Asked Refusal). AsksAtAnyDepth r granted s.table_seat t p m) is did in
       let left = has_left has_take s p tells (λ e. let spent = refuses done.0 e in absurd (cc)) in
@@ -148,19 +148,19 @@ module _ (s : PoolSeat) (t : TableSeat) (p : Pool) (m : ℕ) (between : IsBetwee
       }
 
   pub asked_again : (result : Result Asked Refusal) (granted : Option Record) (depth : ℕ) → result ≡ Ok (Asked.Again depth) → IsPlacedBy result t p m → AsksAtAnyDepth result granted s.table_seat t p m
-      → IsBetweenCalls (record { table_seat = t; takes = s.takes; asleep_in = s.asleep_in }) p
+      → IsBetweenCalls (record s { table_seat = t }) p
   asked_again result granted depth is placed did =
       stays s.takes (subst (λ (r : Result Asked Refusal). IsPlacedBy r t p m) is placed)
       (counts_asked_again s.table_seat t p m s.takes rest less counts depth granted (subst (λ (r : Result Asked Refusal). AsksAtAnyDepth r granted s.table_seat t p m) is did))
 
   pub ask_refused : (result : Result Asked Refusal) (granted : Option Record) (refusal : Refusal) → result ≡ Err refusal → IsPlacedBy result t p m → AsksAtAnyDepth result granted s.table_seat t p m
-      → IsBetweenCalls (record { table_seat = t; takes = s.takes; asleep_in = s.asleep_in }) p
+      → IsBetweenCalls (record s { table_seat = t }) p
   ask_refused result granted refusal is placed did =
       stays s.takes (subst (λ (r : Result Asked Refusal). IsPlacedBy r t p m) is placed)
       (counts_not_asked s.table_seat t p m s.takes rest less counts refusal granted (subst (λ (r : Result Asked Refusal). AsksAtAnyDepth r granted s.table_seat t p m) is did))
 
   -- an unlock
-  pub unlocked : (result : Result Release Refusal) → IsAtRest t p → UnlocksAtAnyDepth result s.table_seat t p m → IsBetweenCalls (record { table_seat = t; takes = s.takes; asleep_in = s.asleep_in }) p
+  pub unlocked : (result : Result Release Refusal) → IsAtRest t p → UnlocksAtAnyDepth result s.table_seat t p m → IsBetweenCalls (record s { table_seat = t }) p
   unlocked result later did = stays s.takes later (counts_unlocked s.table_seat t p m s.takes rest less counts result did)
 
 -- The seat after a receive, which began asleep in the mutex
@@ -170,7 +170,7 @@ module _ (s : PoolSeat) (t : TableSeat) (p : Pool) (m : ℕ) (between : IsBetwee
   away = between.sleeps m asleep
 
   -- it has found no grant
-  pub still_asleep : (result : Option How) → is_some result ≡ false → ReceivedIn s.table_seat t m result → MayStepIn t p m → IsBetweenCalls (record { table_seat = t; takes = s.takes; asleep_in = s.asleep_in }) p
+  pub still_asleep : (result : Option How) → is_some result ≡ false → ReceivedIn s.table_seat t m result → MayStepIn t p m → IsBetweenCalls (record s { table_seat = t }) p
   still_asleep None is did later =
       let sleeps = receive_sleeps s.table_seat t p m away.0 same did later away.1 in
       let counted = counts_asleep s.table_seat t p m s.takes away.0.may.belongs less away.2 did in record {
@@ -180,7 +180,7 @@ module _ (s : PoolSeat) (t : TableSeat) (p : Pool) (m : ℕ) (between : IsBetwee
   still_asleep (Some how) is did later = absurd (false≢true (sym is))
 
   -- it has found its grant
-  pub woken : (result : Option How) → is_some result ≡ true → ReceivedIn s.table_seat t m result → IfSome result (λ _. HoldsOnceIn t p m) → IsBetweenCalls (record { table_seat = t; takes = s.takes; asleep_in = None }) p
+  pub woken : (result : Option How) → is_some result ≡ true → ReceivedIn s.table_seat t m result → IfSome result (λ _. HoldsOnceIn t p m) → IsBetweenCalls (record s { table_seat = t; asleep_in = None }) p
   woken None is did holds = absurd (false≢true is)
   woken (Some how) is did holds = record {
     awake = λ e. (receive_rests s.table_seat t p m away.0 same how did holds, counts_received s.table_seat t p m s.takes away.0.may.belongs less away.2 how did);

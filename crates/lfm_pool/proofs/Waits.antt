@@ -1,6 +1,7 @@
 -- The calls that wait: the receives of a seat that sleeps, one after another, and the tries before a lock.
 use Rattle.std.proofs.Common.{◌≡◌, ◌≢◌, ◌↔◌, Bool, true, false, IsTrue, ℕ, zero, suc, ◌+◌, ◌<◌, ◌≤◌, inl, inr, refl, sym, subst, Option, Some, None, Result, Ok, Err, arith}
 use Rattle.std.proofs.lemmas.Bool.{false≢true}
+use Rattle.std.specs.Result.{IsErrAnd}
 use Rattle.lfm_model.specs.declared.answers.Asked.{Asked}
 use Rattle.lfm_model.specs.declared.answers.How.{How}
 use Rattle.lfm_model.specs.declared.answers.Locked.{Locked}
@@ -61,6 +62,11 @@ module _ (s : PoolSeat) (p : Pool) (m : ℕ) where
 -- an ask has put the seat to sleep, and it has waited until it was granted the mutex
 pub locks_asleep : (s t u : PoolSeat) (p : Pool) (m : ℕ) (how : How) → AsksWaking (Ok Asked.Asleep) s t p m → Awaits (Ok how) t u p m → Locks (Ok (Locked.Held how)) s u p m
 locks_asleep s t u p m how asked awaited = inr (t, asked, awaited)
+
+-- the ask was refused
+pub locks_refused : (s t : PoolSeat) (p : Pool) (m : ℕ) (refusal : Refusal) (r : Result Locked Refusal) → IsErrAnd r (λ e. e ≡ refusal) → AsksWaking (Err refusal) s t p m → Locks r s t p m
+locks_refused s t p m refusal (Ok locked) is asked = absurd is
+locks_refused s t p m refusal (Err e) is asked = subst (λ (x : Refusal). AsksWaking (Err x) s t p m) (sym is) asked
 
 -- Tries
 

@@ -1,5 +1,5 @@
 -- For which seats of a pool wake-ups are. A contract sees a wake-up as the record that was granted.
-use Rattle.std.specs.Prelude.{⊤, ◌≤◌, Option, Some, None}
+use Rattle.std.specs.Prelude.{⊤, ℕ, ◌≤◌, List, [], ◌∷◌, Option, Some, None}
 use Rattle.lfm_words.specs.declared.pop_lists.Record.{Record}
 use Rattle.lfm_pool.specs.declared.finish_ask.Finished.{Finished}
 use Rattle.lfm_pool.specs.declared.pool.Pool.{Pool}
@@ -14,6 +14,11 @@ IsForSeatOf r p = r.seat ≤ p.limits.seats
 abbrev pub WakesSeatOf : Option Record → Pool → Type 0
 WakesSeatOf (Some r) p = IsForSeatOf r p
 WakesSeatOf None p = ⊤
+
+-- the seat that is to be woken, if there is a wake-up
+abbrev pub seats_to_wake : Option Record → List ℕ
+seats_to_wake (Some r) = r.seat ∷ []
+seats_to_wake None = []
 
 -- the record that a call has granted, by its answer
 abbrev pub granted_by_finish : Finished → Option Record

@@ -1,8 +1,8 @@
 //! The tries that `lock_barging` makes after its first one, before it queues: by spins and by naps. Nothing here queues. No step
 //! is made besides those of `try_lock`.
 //!
-//! Before each try the count is read, since a failed try costs the holder more than a read does. The numbers are those of the
-//! usual pace of `Mutex` of lfm_mutex, which were measured there.
+//! Before each try the count is read, since a failed try costs the holder more than a read does. Tries, pauses and naps are as
+//! many as at the usual pace of `Mutex` of lfm_mutex, which counts the first try as a spin. There they were measured.
 ghost use Rattle.std.specs.Prelude.{◌≡◌, ◌↔◌, ◌<◌, ◌≤◌, Err, IsTrue};
 ghost use Rattle.lfm_model.specs.declared.refusals.Refusal.{Refusal as RefusalNow};
 ghost use Rattle.lfm_pool.specs.Belongs.{IsMutex};

@@ -5,12 +5,17 @@
 //! A seat that sleeps finds its grant by `try_receive`. `ask` and `unlock` wake the thread of the seat to which they grant the
 //! mutex; the other calls wake nobody. None allocates or waits: the calls that wait are in `lock`. Nothing changes in other
 //! mutexes, nor in what the seat knows of them.
-ghost use Rattle.std.specs.Prelude.{◌≡◌, ◌+◌, ◌<◌, ◌&&◌, IfOk, length, nat_lt};
+//!
+//! Besides the atomic steps that are counted here, each call but `try_receive` loads the owner word. If the seat holds the mutex,
+//! it also loads the carried word, and to change the depth loads it again and stores it. An `ask` of a seat that does not hold
+//! loads the push word. Records that are popped are passed on by loads and stores of the carried word and of link words.
+ghost use Rattle.std.specs.Prelude.{◌≡◌, ◌+◌, ◌<◌, ◌&&◌, Err, IfOk, length, nat_lt};
+ghost use Rattle.lfm_model.specs.declared.refusals.Refusal.{Refusal as RefusalNow};
 ghost use Rattle.lfm_pool.specs.Admissions.{most_posts};
 ghost use Rattle.lfm_pool.specs.AnyDepth.{granted_in};
 ghost use Rattle.lfm_pool.specs.Ask.{MakesBesideFailuresIn};
 ghost use Rattle.lfm_pool.specs.Belongs.{IsMutex};
-ghost use Rattle.lfm_pool.specs.Calls.{Asks, AsksWaking, IsBetweenCalls, Receives, SamePoolSeat, Tries, Unlocks, UnlocksWaking};
+ghost use Rattle.lfm_pool.specs.Calls.{Asks, AsksWaking, IsBetweenCalls, MayNotTake, Receives, SamePoolSeat, Tries, Unlocks, UnlocksWaking};
 ghost use Rattle.lfm_pool.specs.Moves.{MakesAtMostIn};
 ghost use Rattle.lfm_pool.specs.Seats.{popped_of};
 ghost use Rattle.lfm_pool.specs.WakeUps.{WakesSeatOf};
@@ -19,7 +24,7 @@ pub use crate::any_depth::Release;
 use crate::pool::Pool;
 use crate::seat::PoolSeat;
 pub use crate::unlock::Released;
-use crate::wake_up::{WakeUp, wake, wake_granted};
+use crate::wake_up::{WakeUp, wake_and_note, wake_granted_and_note};
 use crate::{any_depth, receive};
 use lfm_model::{Asked, How, Locked, Refusal, Unlocked};
 
@@ -32,8 +37,7 @@ const MOST_POSTS: u64 = 1 << 47;
 /// Refuses, in this order: Asleep (the seat sleeps in some mutex of the pool), DepthFull (it holds this mutex 65,535 times),
 /// Spent (it does not hold this mutex, and has made 2^63 takes or 2^47 posts), and Busy: the mutex was taken, and nothing was
 /// posted, or the post had gone when the call tried to accept it. A call that is refused is charged nothing. Whatever other
-/// seats do, the call makes at most 6 atomic steps, and before them a load of the owner word, and of the carried word if the
-/// seat holds the mutex.
+/// seats do, the call makes at most 6 atomic steps.
 #[inline(always)]
 pub fn try_lock(pool: &Pool, seat: &mut PoolSeat, mutex: usize) -> Result<Locked, Refusal>
     requires between { IsBetweenCalls seat.old pool.now }
@@ -41,6 +45,7 @@ pub fn try_lock(pool: &Pool, seat: &mut PoolSeat, mutex: usize) -> Result<Locked
     ensures belongs { SamePoolSeat seat.old seat.new }
     ensures between { IsBetweenCalls seat.new pool.now }
     ensures tries { Tries result seat.old seat.new pool.now mutex }
+    ensures spent { MayNotTake seat.old pool.now mutex → result ≡ Err RefusalNow.Spent }
     ensures bounded { MakesAtMostIn 6 seat.old.table_seat seat.new.table_seat mutex }
 {
     if seat.asleep_in.is_some() {
@@ -57,15 +62,15 @@ pub fn try_lock(pool: &Pool, seat: &mut PoolSeat, mutex: usize) -> Result<Locked
 }
 
 /// Asks for this mutex, or deepens the hold: a `lock` without its sleep. An acquisition is charged one take, also one that the
-/// seat waits for. If the mutex is free, the seat acquires it; if the seat holds it, the hold is deepened; else the seat queues,
-/// as `ask_without_waking` of `ask_all` says. Returns Held, Again with the new depth, or Asleep: the seat sleeps then until a
-/// receive finds its grant. It wakes no thread, and also returns the wake-up of the seat to which it has granted the mutex, if
-/// any.
+/// seat waits for. If the mutex is free, the seat acquires it; if the seat holds it, the hold is deepened. Else the seat queues:
+/// it pushes its record, and tries to take over a post that it finds then. If it succeeds, it serves the oldest queued seat,
+/// which may be itself. Returns Held, Again with the new depth, or Asleep: the seat sleeps then until a receive finds its grant.
+/// It wakes no thread, and also returns the wake-up of the seat to which it has granted the mutex, if any.
 ///
 /// Refuses, in this order: Asleep (the seat sleeps in some mutex of the pool), DepthFull (it holds this mutex 65,535 times), and
 /// Spent (it does not hold this mutex, and has made 2^63 takes or 2^47 posts, or the mutex has had 2^48 - 2^13 pushes). The call
-/// makes as many atomic steps as that of `ask_all`, or 3 if it deepens the hold, and before them a load of the owner word, and of
-/// the carried word if the seat holds the mutex, and else of the push word.
+/// makes at most 10 atomic steps, one more for each record that is popped when it has ended, and two more for each push that
+/// fails since another seat has changed the push word.
 #[inline(always)]
 pub fn ask_without_waking(
     pool: &Pool,
@@ -77,6 +82,7 @@ pub fn ask_without_waking(
     ensures belongs { SamePoolSeat seat.old seat.new }
     ensures between { IsBetweenCalls seat.new pool.now }
     ensures asks { Asks result.0 result.1 seat.old seat.new pool.now mutex }
+    ensures spent { MayNotTake seat.old pool.now mutex → result.0 ≡ Err RefusalNow.Spent }
     ensures bounded { MakesBesideFailuresIn (10 + length (popped_of seat.new.table_seat mutex)) seat.old.table_seat seat.new.table_seat mutex }
     ensures inside { WakesSeatOf result.1 pool.now }
 {
@@ -97,13 +103,13 @@ pub fn ask_without_waking(
     (asked, granted)
 }
 
-/// Gives up one hold of this mutex. If that was the last one, the mutex is free, granted to the oldest queued seat, or posted,
-/// as `unlock` of the module of that name says. It wakes no thread: if it granted the mutex, it returns the wake-up of that
-/// seat.
+/// Gives up one hold of this mutex. If that was the last one, the mutex is free, granted to the oldest queued seat, or posted for
+/// a seat that is on its way into the queue, and perhaps taken over by that. It wakes no thread: if it granted the mutex, it
+/// returns the wake-up of that seat.
 ///
-/// Refuses, in this order: Asleep (the seat sleeps in some mutex of the pool), and NotOwner (it does not hold this mutex). A
-/// seat that still holds the mutex has made no atomic step of the protocol. Before its steps the call loads the owner word, and
-/// the carried word if the seat holds the mutex.
+/// Refuses, in this order: Asleep (the seat sleeps in some mutex of the pool), and NotOwner (it does not hold this mutex). The
+/// call makes at most 9 atomic steps, and one more for each record that is popped when it has ended. A seat that still holds the
+/// mutex has made none.
 #[inline(always)]
 pub fn unlock_without_waking(
     pool: &Pool,
@@ -142,10 +148,11 @@ pub fn ask(pool: &Pool, seat: &mut PoolSeat, mutex: usize) -> Result<Asked, Refu
     ensures belongs { SamePoolSeat seat.old seat.new }
     ensures between { IsBetweenCalls seat.new pool.now }
     ensures asks { AsksWaking result seat.old seat.new pool.now mutex }
+    ensures spent { MayNotTake seat.old pool.now mutex → result ≡ Err RefusalNow.Spent }
     ensures bounded { MakesBesideFailuresIn (10 + length (popped_of seat.new.table_seat mutex)) seat.old.table_seat seat.new.table_seat mutex }
 {
     let (asked, wake_up) = ask_without_waking(pool, seat, mutex);
-    wake_granted(pool, wake_up);
+    wake_granted_and_note(pool, wake_up, &mut seat.off_trail);
     asked
 }
 
@@ -167,7 +174,7 @@ pub fn unlock(pool: &Pool, seat: &mut PoolSeat, mutex: usize) -> Result<Unlocked
         Ok(Release::Last(Released::Free)) => Ok(Unlocked::Free),
         Ok(Release::Last(Released::Granted(wake_up))) => {
             let next = wake_up.seat();
-            wake(pool, wake_up);
+            wake_and_note(pool, wake_up, &mut seat.off_trail);
             Ok(Unlocked::Granted(next))
         }
         Ok(Release::Last(Released::Posted)) => Ok(Unlocked::Posted),

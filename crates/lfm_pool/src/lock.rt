@@ -1,9 +1,9 @@
 //! The calls of a seat that may wait: `lock`, `lock_barging`, and `receive_lock` for a seat that an ask has put to sleep.
 //!
 //! No grant is missed. A thread parks only after it has loaded a wake word that is no grant, and it parks on the low 32 bits of
-//! that word, in which a grant differs from the other states. Whoever stores a grant wakes the thread of that seat afterwards.
-//! That this thread then wakes up is not proved: neither the sleep nor the wake-up changes a word, and their contracts promise
-//! nothing.
+//! that word, in which a grant differs from the other states. Whoever stores a grant wakes the thread of that seat afterwards, by
+//! the contracts of `ask` and `unlock`. That this thread then wakes up is not proved: neither the sleep nor the wake-up changes a
+//! word, and their contracts promise nothing.
 //!
 //! The loads by which a thread polls or parks are no steps of its seat, and no proof learns anything from them. They are made
 //! only here and in `barging`, by calls that may wait. Besides them, `count` of `reading` makes such a load.

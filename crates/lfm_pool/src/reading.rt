@@ -5,7 +5,7 @@
 //! allocates or waits, and none refuses anything: a seat that sleeps may call them too.
 ghost use Rattle.std.specs.Prelude.{◌≡◌, ◌≢◌, Some};
 ghost use Rattle.lfm_pool.specs.Belongs.{IsMutex};
-ghost use Rattle.lfm_pool.specs.Calls.{IsBetweenCalls, SamePoolSeat};
+ghost use Rattle.lfm_pool.specs.Calls.{IsBetweenCalls, SamePoolSeat, WakesNobody};
 ghost use Rattle.lfm_pool.specs.Depths.{HasDepthIn, TellsOwner};
 ghost use Rattle.lfm_pool.specs.Tables.{part};
 
@@ -23,8 +23,9 @@ pub fn count(pool: &Pool, mutex: usize) -> u64
     pool.table.shared.peek(own_at(mutex, COUNT))
 }
 
-/// Loads the owner word of this mutex. Returns the number of the seat that owns it, or 0 if none does. It is the caller's own
-/// number exactly if the caller holds the mutex. Another seat's number may be out of date when the caller reads it.
+/// Loads the owner word of this mutex. Returns the number of the seat that owned it then, or 0 if none did. It is the caller's
+/// own number exactly if the caller holds the mutex; the contract says only this. Another seat's number may be out of date when
+/// the caller reads it.
 #[inline(always)]
 pub fn read_owner(pool: &Pool, seat: &mut PoolSeat, mutex: usize) -> u64
     requires between { IsBetweenCalls seat.old pool.now }
@@ -32,6 +33,7 @@ pub fn read_owner(pool: &Pool, seat: &mut PoolSeat, mutex: usize) -> u64
     ensures belongs { SamePoolSeat seat.old seat.new }
     ensures between { IsBetweenCalls seat.new pool.now }
     ensures same { (seat.new.asleep_in ≡ seat.old.asleep_in) × (seat.new.takes ≡ seat.old.takes) × (seat.new.table_seat.place.me ≡ seat.old.table_seat.place.me) }
+    ensures woken { WakesNobody seat.old seat.new }
     ensures tells { TellsOwner (part seat.old.table_seat.place.me.0 mutex) result }
 {
     crate::depth::read_owner(pool, &mut seat.table_seat, mutex)
@@ -46,6 +48,7 @@ pub fn depth(pool: &Pool, seat: &mut PoolSeat, mutex: usize) -> u32
     ensures belongs { SamePoolSeat seat.old seat.new }
     ensures between { IsBetweenCalls seat.new pool.now }
     ensures same { (seat.new.asleep_in ≡ seat.old.asleep_in) × (seat.new.takes ≡ seat.old.takes) × (seat.new.table_seat.place.me ≡ seat.old.table_seat.place.me) }
+    ensures woken { WakesNobody seat.old seat.new }
     ensures depth { seat.old.asleep_in ≢ Some mutex → HasDepthIn seat.old.table_seat pool.now mutex result }
     ensures sleeping { seat.old.asleep_in ≡ Some mutex → result ≡ 0 }
 {

@@ -3,6 +3,7 @@
 ghost use Rattle.std.specs.Prelude.{◌≡◌, Option, None};
 
 use crate::pool::TableSeat;
+use crate::wake_up::off_trail::OffTrail;
 
 /// A seat of a pool. It may hold any number of mutexes at once, each up to 65,535 times, and sleeps in at most one. The calls
 /// are in `calls`, `lock` and `reading`.
@@ -15,6 +16,9 @@ pub struct PoolSeat {
 
     /// The mutex in which it sleeps.
     pub(crate) asleep_in: Option<usize>,
+
+    /// The seats that its calls have woken. No code reads it.
+    pub(crate) off_trail: OffTrail,
 }
 
 impl PoolSeat {
@@ -26,6 +30,7 @@ impl PoolSeat {
             table_seat,
             takes: 0,
             asleep_in: None,
+            off_trail: OffTrail::new(),
         }
     }
 

@@ -1,22 +1,26 @@
 //! The grant of a mutex to a queued seat, and the wake-up that is owed after it. Each wake-up is made here, by the step that
-//! stores the grant, and is consumed here: by `wake`, or by `into_seat`, whose caller then has to wake the thread. No path of the
-//! code can lose one in between.
+//! stores the grant, and is consumed here: by `wake_and_note` or `wake`, or by `into_seat`, whose caller then has to wake the
+//! thread. No path of the code can lose one in between. `wake_and_note` adds the seat to the `OffTrail` of the seat that makes
+//! the call: by its contract, a call that says whom it wakes wakes that seat.
 //!
 //! Nothing checks that a wake-up is passed to the pool whose call returned it: `wake` requires only that the pool has a seat
 //! of that number.
-ghost use Rattle.std.specs.Prelude.{◌≡◌, ◌<◌, ◌≤◌, drop};
+ghost use Rattle.std.specs.Prelude.{◌≡◌, ◌<◌, ◌≤◌, ◌++◌, ◌∷◌, [], drop};
 ghost use Rattle.lfm_words.specs.Words.{wake_word};
 ghost use Rattle.lfm_words.specs.declared.wakes.Wake.TheVariants.{Grant};
 ghost use Rattle.lfm_pool.specs.Belongs.{IsMutex, OfPool, SameSeat};
 ghost use Rattle.lfm_pool.specs.Chain.{rested};
 ghost use Rattle.lfm_pool.specs.Seats.{note_of, popped_of, state_of, MovesIn, RestsInOthers, SitsIn};
 ghost use Rattle.lfm_pool.specs.SeatWords.{Grants};
-ghost use Rattle.lfm_pool.specs.WakeUps.{IsForSeatOf, WakesSeatOf};
+ghost use Rattle.lfm_pool.specs.WakeUps.{IsForSeatOf, WakesSeatOf, seats_to_wake};
+
+pub mod off_trail;
 
 use crate::accesses::PoolAccess;
 use crate::layout::wake_at;
 use crate::pool::{Pool, TableSeat};
 use crate::step::next_at;
+use crate::wake_up::off_trail::OffTrail;
 use lfm_model::SeatNo;
 use lfm_table::layout as lone;
 use lfm_table::operations::Access;
@@ -24,7 +28,7 @@ use lfm_words::{Record, Wake};
 use std::marker::Model;
 
 /// The duty to wake the thread of a seat to which a call has granted a mutex of a pool. Only the step that stores a grant
-/// makes one, and only `wake` and `into_seat` consume it. A contract sees the record that was granted.
+/// makes one, and only `wake`, `wake_and_note` and `into_seat` consume it. A contract sees the record that was granted.
 ///
 /// The type has no `Drop` and is not `Copy`: a call that loses a wake-up, or uses it twice, does not compile.
 pub struct WakeUp {
@@ -97,9 +101,8 @@ pub(crate) fn grant(pool: &Pool, seat: &mut TableSeat, mutex: usize, oldest: Rec
 pub fn wake(pool: &Pool, wake_up: WakeUp)
     requires inside { IsForSeatOf wake_up pool.now }
 {
-    let WakeUp { granted } = wake_up;
-    let word = wake_at(pool.mutexes, granted.seat.get());
-    pool.table.shared.wake_one(word);
+    let mut off_trail = OffTrail::new();
+    wake_and_note(pool, wake_up, &mut off_trail);
 }
 
 /// `wake`, if a call has returned a wake-up.
@@ -109,6 +112,29 @@ pub fn wake_granted(pool: &Pool, wake_up: Option<WakeUp>)
 {
     match wake_up {
         Some(wake_up) => wake(pool, wake_up),
+        None => {}
+    }
+}
+
+/// `wake`, which also adds the seat to those that the calls of a seat have woken.
+pub(crate) fn wake_and_note(pool: &Pool, wake_up: WakeUp, off_trail: &mut OffTrail)
+    requires inside { IsForSeatOf wake_up pool.now }
+    ensures { off_trail.new ≡ record off_trail.old { woken = off_trail.old.woken ++ wake_up.seat ∷ [] } }
+{
+    *off_trail = OffTrail::with_wake_up(off_trail, &wake_up);
+    let WakeUp { granted } = wake_up;
+    let word = wake_at(pool.mutexes, granted.seat.get());
+    pool.table.shared.wake_one(word);
+}
+
+/// `wake_and_note`, if a call has returned a wake-up.
+#[inline(always)]
+pub(crate) fn wake_granted_and_note(pool: &Pool, wake_up: Option<WakeUp>, off_trail: &mut OffTrail)
+    requires inside { WakesSeatOf wake_up pool.now }
+    ensures { off_trail.new ≡ record off_trail.old { woken = off_trail.old.woken ++ seats_to_wake wake_up } }
+{
+    match wake_up {
+        Some(wake_up) => wake_and_note(pool, wake_up, off_trail),
         None => {}
     }
 }

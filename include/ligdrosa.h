@@ -12,7 +12,7 @@
  *     lfm_unlock_here(&mutex);
  *
  * Most programs need only the calls whose names end in `here`, and lfm_wake_one and lfm_wake_all. A status is tested by
- * lfm_is_refused, and not against 0: each one below LFM_BLANK is a success, as LFM_AGAIN of a thread that held before.
+ * lfm_is_refused, and not against 0: each one below LFM_BLANK is a success, such as LFM_AGAIN of a thread that held before.
  * lfm_status_text has its meaning in words. A program that goes on after a refused lock may call lfm_acquire_here, which
  * answers a bool. Null, a mutex that is neither open nor LFM_MUTEX_INIT, and a seat that is not taken are answered by
  * LFM_BLANK. An unlock or wait of an LFM_MUTEX_INIT that is not open yet is refused as LFM_NOT_OWNER. A refused call has
@@ -35,8 +35,9 @@
  *
  * What is proved
  *
- * The inner calls are proved: they lock and unlock, but neither sleep nor wake. Proved are their answers and refusals, their
- * steps, how many these are at most (a lock makes two more for each push that fails), and which seat they grant the mutex.
+ * The library calls functions named lfm_c_, which lock and unlock, but neither sleep nor wake. Proved are their answers, their
+ * refusals and their steps, how many these are at most (a lock makes two more for each push that fails), and which seat they
+ * grant the mutex.
  * That no two seats hold at once follows, in every sequentially consistent interleaving. The rest, which makes these calls,
  * is only tested: it puts threads to sleep and wakes them, tries before it queues, waits by the clock, gives out mutexes and
  * numbers, and has the condition variables. Its source argues why no wake-up is lost, and why nothing is touched after its
@@ -47,14 +48,14 @@
  *   - An lfm_mutex is zero or LFM_MUTEX_INIT, and an lfm_seat and lfm_condvar zero, before their first call. They are
  *     touched by these calls alone. A mutex and a condition variable are moved only between calls, and a seat not while it
  *     is taken. All three are of one process: they don't lie in memory that processes share. All parts of a program that
- *     share a mutex call one copy of the library, as libligdrosa.so, since each copy has mutexes of its own.
+ *     share a mutex call one copy of the library, such as libligdrosa.so, since each copy has mutexes of its own.
  *   - A seat is in one call at a time. It goes from one thread to another by a lock, a thread's start or join, or the like.
  *     If all files of a program are compiled with -DLFM_CHECKED, two threads in one seat of lfm_seat_take end it with a
  *     text. This does not check lfm_depth and lfm_assert_held.
  *   - No signal handler makes a call or forks. Handlers of pthread_atfork that were made before the library's own, which
  *     it makes as it is initialized, call no mutex, and leave the mask of signals as it was: they run with signals
  *     blocked. A fork waits for calls that open a mutex or take a number or a seat, and these wait for it: so the thread
- *     of such a call holds nothing that a fork or such a handler waits for, as a stream (flockfile) while another thread
+ *     of such a call holds nothing that a fork or such a handler waits for, such as a stream (flockfile) while another thread
  *     flushes all streams.
  *   - A forked child calls a mutex that the forking thread held only after lfm_after_fork. It doesn't call one that another
  *     thread held, or that nobody held and another thread asked for or was releasing. All others it calls as its parent
@@ -63,8 +64,8 @@
  *     If other threads of the parent may have waited at a condition variable or been in a call of it, the child sets it to
  *     zero before it calls it: it has none of these threads. Numbers of threads that the child lacks stay taken. The child is
  *     one of fork: the library doesn't see those of _Fork, vfork and clone.
- *   - A proved call that opens a pool takes memory, so its proof excludes a child whose parent had other threads. The
- *     library takes it from the system, which such a child may ask. For lfm_seat_here malloc has to be usable there.
+ *   - The proof of the call that opens a pool does not cover a forked child whose parent had other threads, since such a
+ *     child may not call malloc. The library uses mmap in its place. For lfm_seat_here malloc has to be usable there.
  *   - While a mutex is opened by lfm_mutex_new or closed, no other call of it begins. See lfm_mutex_close.
  *   - A call that has begun returns: no signal handler jumps out of it, and its thread is not cancelled asynchronously. No
  *     call is a cancellation point.
@@ -132,8 +133,8 @@ typedef enum lfm_status {
 static inline bool lfm_is_refused(lfm_status status) { return status >= LFM_BLANK; }
 
 #define LFM_API __attribute__((visibility("default"), nothrow))
-/* The compiler warns if the status of such a call is not used. A program that goes on after a refused lock would not
- * hold. */
+/* The compiler warns if the status of such a call is not used. A program that ignores a refused lock goes on without the
+ * mutex. */
 #define LFM_MUST_TEST __attribute__((warn_unused_result))
 #define LFM_NODISCARD LFM_MUST_TEST LFM_API
 
@@ -225,7 +226,7 @@ static inline lfm_status lfm_mutex_new(lfm_mutex *mutex, uint64_t seats, uint64_
  * its number queued. The last is not seen if the calling thread has no number and is refused one. */
 LFM_API lfm_status lfm_mutex_close(lfm_mutex *mutex);
 
-/* For programs that call it: LFM_MOST_TAKES times the number of seats that was named, whatever was locked. */
+/* Kept so that existing programs compile. It answers LFM_MOST_TAKES times the number of seats that was named. */
 LFM_API uint64_t lfm_takes_left(lfm_mutex *mutex);
 
 /* In a forked child, makes a mutex new that the thread which forked held, and then holds as often as before, or that no
@@ -263,7 +264,7 @@ LFM_API uint64_t lfm_number(lfm_seat *seat);
 LFM_API uint64_t lfm_depth(lfm_seat *seat);
 /* Ends the program with a text unless the seat holds the mutex, and else changes nothing. It never sleeps. */
 LFM_API void lfm_assert_held(lfm_seat *seat);
-/* For programs that call it: LFM_MOST_TAKES, or 0 of a seat that is not taken. */
+/* Kept so that existing programs compile. It answers LFM_MOST_TAKES, or 0 of a seat that is not taken. */
 LFM_API uint64_t lfm_left(lfm_seat *seat);
 
 /* Locks */
@@ -305,10 +306,10 @@ static inline LFM_MUST_TEST bool lfm_try_acquire(lfm_seat *seat) { return !lfm_i
 
 /* Releases one hold: LFM_STILL if the seat still holds, else LFM_DONE, LFM_POSTED or LFM_GRANTED. It never sleeps. It makes
  * at most two calls of the system: one to wake the next thread that asked, if one has, and the rest for the threads at
- * condition variables that were woken in the hold, however many these are. If the system refuses FUTEX_WAKE_OP, as a sandbox
- * may, an unlock that finds this out makes up to six. On its way to the next thread that waits, it passes by the places that
- * timed locks have left in the queue, and LFM_GRANTED counts these too. No number bounds these: more may be left before the
- * unlock ends. The same holds of a lock that wakes another thread.
+ * condition variables that were woken in the hold, however many these are. If the system refuses FUTEX_WAKE_OP, which a sandbox
+ * may do, an unlock that finds this out makes up to six. On its way to the next thread that waits, it passes by the places that
+ * timed locks have left in the queue, and answers LFM_GRANTED also if the oldest place was one of these. No number bounds
+ * these: more may be left before the unlock ends. The same holds of a lock that wakes another thread.
  * Refused: LFM_BLANK, LFM_SEAT_ASLEEP, LFM_NOT_OWNER. */
 LFM_API lfm_status lfm_unlock(lfm_seat *seat);
 

@@ -246,9 +246,15 @@ static void tell(const struct row *row) {
          median(bare_ratios), row->limit);
 }
 
+static void *nothing(void *unused) { return unused; }
+
 int main(int count, char **words) {
+  pthread_t thread;
   if (count > 1) rounds = atoi(words[1]);
   if (rounds < 1 || rounds > MOST_ROUNDS) return 2;
+  /* until a program has started a thread, pthread's mutexes make no atomic operation */
+  EXPECT(pthread_create(&thread, NULL, nothing, NULL), 0);
+  EXPECT(pthread_join(thread, NULL), 0);
   open_both();
   shuffle();
   for (size_t i = 0; i < sizeof rows / sizeof rows[0]; i++) tell(&rows[i]);

@@ -9,8 +9,8 @@
  * latch. If a wake was first, the waiter is not listed any more: then it counts as woken, and waits for its ring.
  *
  * A thread that would be woken while the caller holds its mutex could only sleep again, or take the caller's processor. So
- * if the caller's own seat holds it, the ring is put off until that seat releases the mutex: no waiter could go on before.
- * Who makes it then is said in waiter.h. This is not done for a timed wait, for which a close may wait.
+ * if the caller holds it, by its own seat or by a deputy, the ring is put off until it releases the mutex: no waiter could go
+ * on before. Who makes it then is said in waiter.h. This is not done for a timed wait, for which a close may wait.
  *
  * Nothing is touched after its end. A wake reads a waiter's neighbour before it rings for it, and releases the latch before
  * the first ring. A waiter without a deadline touches its condition variable no more once it is listed and has released the

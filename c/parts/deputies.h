@@ -29,7 +29,7 @@
  * No wake-up is lost. A step of the waker fails only if the deputy's participant has made one, and after any of those another
  * step of the waker is there to be made. Each of them costs the participant a call of a lock, so no number bounds them.
  *
- * Here is no wait: a deputy that is being passed by is left alone, and another one is used. */
+ * Nothing here waits: a deputy that is being passed by is left alone, and another one is used. */
 
 FAST_PATH enum deputy_state state_of(const struct participant *deputy) {
   return (enum deputy_state)__atomic_load_n(&deputy->state, __ATOMIC_SEQ_CST);

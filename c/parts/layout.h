@@ -15,8 +15,8 @@ enum { MOST_PARTICIPANTS = LFM_MOST_PARTICIPANTS, MOST_DEPUTIES = (MOST_PARTICIP
  * is not open is 0. */
 typedef uint64_t mutex_word;
 
-/* Flags of a participant. If one is set, its calls don't take the fast path. IS_WATCHED tells tools. IS_LATE gives the
- * participant back after a call that leaves it without a hold, since its thread ends. */
+/* Flags of a participant. If one is set, its calls don't take the fast path. IS_WATCHED: its calls tell tools of locks and
+ * unlocks. IS_LATE: its thread is ending, so the call that leaves it without a hold gives it back. */
 enum { IS_WATCHED = 1, IS_LATE = 2 };
 
 /* What a deputy does: see deputies.h. */

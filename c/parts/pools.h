@@ -83,7 +83,7 @@ SLOW_PATH lfm_status grow(uint32_t known) {
   return status;
 }
 
-/* Takes a mutex of a pool that is not open: its word, or 0 and the cause. */
+/* Takes a mutex that is not open from one of the pools: its word, or 0 and the cause. */
 static mutex_word take_mutex(lfm_status *cause) {
   for (;;) {
     uint32_t known = __atomic_load_n(&LFM_PROCESS.count_of_pools, __ATOMIC_ACQUIRE);

@@ -1,7 +1,7 @@
 /* The participant of each thread: taken by its first call of a mutex, and given back when the thread ends. The calls that use it
  * are in here.h. No mutex is acquired or released here. */
 
-/* It has no seat, so no call of it takes the fast path. */
+/* Stands for the participant of a thread that has none. It has no seats, so no call takes the fast path. */
 static struct participant nobody;
 
 static _Thread_local struct {

@@ -18,13 +18,14 @@
 
 enum { RINGS = 2, CALLS_OF_AN_UNLOCK = 2 };
 
-/* For how many waiters an unlock rings. A tool that explores interleavings may have it ring for fewer: then few waiters ring
- * for others, as otherwise only many do. */
+/* For how many waiters an unlock rings. A tool that explores interleavings may have it ring for fewer, so that even a few
+ * waiters ring for one another. */
 #ifndef LFM_RINGS
 #define LFM_RINGS(count) (count)
 #endif
 
-/* Whether an unlock rings for all of them in place of that. Then nobody waits for another waiter, which may be stopped. */
+/* Whether an unlock rings for all of them instead. Then no waiter depends on another one, which a signal handler may have
+ * stopped. */
 #ifndef LFM_UNLOCK_RINGS_FOR_ALL
 #define LFM_UNLOCK_RINGS_FOR_ALL 0
 #endif
@@ -80,7 +81,7 @@ static void ring_for_all(struct lfm_waiter *first) {
 }
 
 /* Makes the rings that were put off until the participant releases the mutex, after an unlock with this status: those for the
- * first waiters. If it has granted the mutex to another seat, a call of the system has been made to wake that. */
+ * first waiters. If it has granted the mutex to another seat, one call of the system may already have been made to wake that. */
 static void ring_unrung(struct participant *by, lfm_status status) {
   struct lfm_waiter *first[CALLS_OF_AN_UNLOCK * RINGS] = {NULL}, *waiter = by->unrung;
   int calls = status == LFM_GRANTED ? CALLS_OF_AN_UNLOCK - 1 : CALLS_OF_AN_UNLOCK;

@@ -150,8 +150,7 @@ lfm_status lfm_seat_give_here(lfm_mutex *mutex) {
   mutex_word word = load_mutex(mutex);
   if (!has_seat(word)) return LFM_BLANK;
   if (depth_of(own.by, word)) return LFM_HOLDING;
-  lfm_seat *seat = find_seat_here(word);
-  if (seat) forget_seat_here(seat);
+  forget_seat_here(find_seat_here(word));
   return LFM_DONE;
 }
 

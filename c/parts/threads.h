@@ -18,7 +18,7 @@ enum { NO_KEY = 0 };
 static uint32_t end_key;
 _Static_assert(sizeof(pthread_key_t) <= sizeof end_key, "the word has room for a key, which is a small number");
 
-/* Takes a seat of lfm_seat_here out of the list of its thread, and frees it: whether it was there. */
+/* Takes a seat of lfm_seat_here out of the list of its thread, and frees it: whether it was there. It may be null. */
 static bool forget_seat_here(lfm_seat *seat) {
   lfm_seat **at = &own.seats_here;
   while (*at && *at != seat) at = &(*at)->next;

@@ -56,9 +56,8 @@ lfm_status lfm_try_lock_for_here(lfm_mutex *mutex, uint64_t nanoseconds) {
 }
 
 lfm_status lfm_try_lock_until_here(lfm_mutex *mutex, int clock, const struct timespec *time) {
-  struct deadline deadline;
-  lfm_status status = deadline_at(clock, time, &deadline);
-  if (status != LFM_DONE) return status;
+  struct deadline deadline = deadline_at(clock, time);
+  if (deadline.refused) return deadline.refused;
   RETURN_CALL_HERE(mutex, lock_until(by, word, &deadline));
 }
 

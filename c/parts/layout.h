@@ -20,7 +20,7 @@ typedef uint64_t mutex_word;
 enum { IS_WATCHED = 1, IS_LATE = 2 };
 
 /* What a deputy does: see deputies.h. */
-enum deputy_state { RESTS, TIMED, ABANDONED, PASSING, ORPHANED, ORPHAN_PASSING };
+enum deputy_state { RESTS, TIMED, ABANDONED, PASSING, ORPHANED };
 
 /* Who takes part in mutexes: a thread, a seat in hand, or a deputy. It has one number and one bell, and one seat in each pool.
  * Its own thread alone changes it, except for the bell and the state, and for the seats of a deputy that has abandoned its

@@ -120,16 +120,6 @@ static bool may_put_off(struct participant *by, const struct lfm_waiter *waiter)
   return depth_of(by, waiter->mutex) != 0;
 }
 
-/* Rings for a waiter that was taken out of its list, or puts it off. */
-static void ring_for(struct lfm_waiter *waiter, struct participant *by) {
-  if (!may_put_off(by, waiter)) {
-    ring(&waiter->bell);
-    return;
-  }
-  by->unrung_at = waiter->mutex;
-  put_off_ring(by, waiter);
-}
-
 /* Wakes the oldest waiter, or all, for a caller that is this participant. */
 static lfm_status wake(lfm_condvar *condvar, struct participant *by, bool all) {
   if (!condvar) return LFM_BLANK;
@@ -144,7 +134,10 @@ static lfm_status wake(lfm_condvar *condvar, struct participant *by, bool all) {
   for (struct lfm_waiter *waiter = first, *next; waiter; waiter = next) {
     next = waiter == last ? NULL : waiter->newer;
     waiter->is_one_of_many = first != last;
-    ring_for(waiter, by);
+    if (may_put_off(by, waiter))
+      put_off_ring(by, waiter);
+    else
+      ring(&waiter->bell);
   }
   return first ? LFM_DONE : LFM_NOBODY;
 }

@@ -32,6 +32,7 @@ struct participant {
   struct participant *deputies;  /* those that it has taken and not given back */
   struct lfm_waiter *unrung;     /* the oldest waiter whose ring is put off until it releases `unrung_at`, or null */
   struct lfm_waiter *last_unrung;
+  struct lfm_waiter *ringer; /* of those whose rings are put off, the one that rings for the last, or the only one */
   mutex_word unrung_at;
   uint16_t number;
   uint8_t flags;

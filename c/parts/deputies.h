@@ -84,11 +84,11 @@ FAST_PATH lfm_status wake_named(mutex_word mutex, uint64_t answer) {
 
 /* The deputies of a participant */
 
-/* The deputy that holds the mutex, or null. */
-SLOW_PATH struct participant *holding_deputy(const struct participant *by, mutex_word mutex) {
+/* The deputy that holds the mutex, or else the participant itself, which may hold it by its own seat. */
+static struct participant *holder_of(struct participant *by, mutex_word mutex) {
   struct participant *deputy = by->deputies;
   while (deputy && (deputy->at != mutex || !deputy->holds)) deputy = deputy->next;
-  return deputy;
+  return deputy ? deputy : by;
 }
 
 /* Takes up the place of a deputy that has abandoned it in this mutex: the deputy, or null if there is none. */

@@ -55,8 +55,8 @@ static lfm_status replace_mutex(lfm_mutex *mutex, struct participant *by, uint64
   lfm_status cause;
   mutex_word taken = take_mutex(&cause);
   if (!taken) return cause;
-  struct participant *deputy = holding_deputy(by, load_mutex(mutex));
-  if (deputy) deputy->holds = 0;
+  struct participant *holder = holder_of(by, load_mutex(mutex));
+  if (holder != by) holder->holds = 0;
   take_seats(by, taken);
   for (uint64_t i = 0; i < depth; i++) try_by(by, taken);
   mutex->core = (struct lfm_core *)(uintptr_t)taken;

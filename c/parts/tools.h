@@ -5,7 +5,6 @@
  * found. An unlock orders something only if it releases the mutex. From valgrind's tools the library hides its own memory,
  * since they don't know atomic operations. */
 
-#if defined(__has_include)
 #if __has_include(<valgrind/helgrind.h>) && __has_include(<valgrind/drd.h>)
 #include <valgrind/helgrind.h>
 static void tell_helgrind_before(void *of) { ANNOTATE_HAPPENS_BEFORE(of); }
@@ -16,9 +15,7 @@ SLOW_PATH void hide_in_valgrind(void *at, size_t bytes) {
   VALGRIND_HG_DISABLE_CHECKING(at, bytes);
   ANNOTATE_BENIGN_RACE_SIZED(at, bytes, "of ligdrosa");
 }
-#endif
-#endif
-#ifndef IS_IN_VALGRIND
+#else
 #define IS_IN_VALGRIND 0
 #define ANNOTATE_HAPPENS_AFTER(of) ((void)(of))
 #define ANNOTATE_HAPPENS_BEFORE(of) ((void)(of))

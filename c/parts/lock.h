@@ -190,10 +190,13 @@ FAST_PATH lfm_status lock_plainly(struct participant *by, mutex_word mutex) {
   return LIKELY(!lfm_is_refused(status)) ? note_hold(by, status) : lock_slowly(by, mutex, status);
 }
 
+SLOW_PATH lfm_status try_by_holder(struct participant *by, mutex_word mutex) {
+  return note_hold(by, try_by(holder_of(by, mutex), mutex));
+}
+
 FAST_PATH lfm_status try_plainly(struct participant *by, mutex_word mutex) {
   lfm_status status = note_hold(by, try_by(by, mutex));
-  if (UNLIKELY(status == LFM_BUSY && by->deputies)) status = note_hold(by, try_by(holder_of(by, mutex), mutex));
-  return status;
+  return UNLIKELY(status == LFM_BUSY && by->deputies) ? try_by_holder(by, mutex) : status;
 }
 
 SLOW_PATH lfm_status unlock_by_deputy(struct participant *by, mutex_word mutex) {

@@ -2,7 +2,7 @@
  * crates/lfm_c, and are proved.
  *
  * This is one compilation unit in parts. Each part uses only parts above it. Its head says what it has, and what it leaves to
- * others. Who looks for the argument that no wake-up is lost finds it in bell.h, deputies.h and condvar.h. */
+ * others. The argument that no wake-up is lost is in bell.h, waiter.h, deputies.h, lock.h and condvar.h. */
 #ifndef _GNU_SOURCE
 #define _GNU_SOURCE
 #endif

@@ -29,7 +29,7 @@ static void in_the_old_place(lfm_status (*again)(lfm_seat *)) {
 /* What a thread may do that holds by a deputy: all that it may by its own seat. */
 static lfm_status hold_by_deputy(lfm_seat *seat) {
   EXPECT(lfm_try_lock_for(seat, LONG), LFM_DONE);
-  EXPECT(holding_deputy(seat->by, seat->mutex) == NULL, false);
+  EXPECT(holder_of(seat->by, seat->mutex) == seat->by, false);
   EXPECT(lfm_lock(seat), LFM_AGAIN);
   EXPECT(lfm_try_lock(seat), LFM_AGAIN);
   EXPECT(lfm_lock_in_order(seat), LFM_AGAIN);
@@ -40,7 +40,7 @@ static lfm_status hold_by_deputy(lfm_seat *seat) {
   for (int depth = 5; depth > 1; depth--) EXPECT(lfm_unlock(seat), LFM_STILL);
   lfm_assert_held(seat);
   EXPECT(lfm_wait_for(&condvar, seat, 1), LFM_TIMED_OUT); /* it holds by its own seat then */
-  EXPECT(holding_deputy(seat->by, seat->mutex) == NULL, true);
+  EXPECT(holder_of(seat->by, seat->mutex) == seat->by, true);
   EXPECT(lfm_depth(seat), 1);
   EXPECT(seat->by->holds, 1);
   EXPECT(lfm_unlock(seat), LFM_DONE);

@@ -1,17 +1,16 @@
 /* What the tests of abandoned places share: three seats in hand of a mutex, calls made by threads, and how many numbers are
- * taken. It has the C file of the library in it, and can stop a thread after its unlock, or after a compare-and-exchange that is
- * made. */
+ * taken. It has the C file of the library in it, and can stop a thread after its unlock, or after an exchange. */
 #ifndef ABANDONED_H
 #define ABANDONED_H
 #define LFM_SPIN_NANOSECONDS 0
 #include <sched.h>
 #include <stdbool.h>
 #include <stdint.h>
-static bool stopped_exchange(bool is_made);
-#define __atomic_compare_exchange_n(...) stopped_exchange(__atomic_compare_exchange_n(__VA_ARGS__))
+static uint32_t stopped_exchange(uint32_t found);
+#define __atomic_exchange_n(...) stopped_exchange(__atomic_exchange_n(__VA_ARGS__))
 #define lfm_c_pool_unlock stopped_unlock
 #include "../c/ligdrosa.c"
-#undef __atomic_compare_exchange_n
+#undef __atomic_exchange_n
 #undef lfm_c_pool_unlock
 #include "expect.h"
 uint64_t lfm_c_pool_unlock(void *seat, uint64_t index);
@@ -22,7 +21,7 @@ static lfm_mutex mutex;
 static lfm_seat a, b, c;
 static int is_stopped;
 static _Thread_local int stop_after; /* after which call of the library's unlock from now on the thread stops, 0 for none */
-static _Thread_local int stop_at_exchange; /* the thread stops after its next compare-and-exchange that is made */
+static _Thread_local int stop_at_exchange; /* the thread stops after its next exchange */
 
 static inline int seen(int *word) { return __atomic_load_n(word, __ATOMIC_SEQ_CST); }
 static inline void set(int *word, int value) { __atomic_store_n(word, value, __ATOMIC_SEQ_CST); }
@@ -38,12 +37,12 @@ uint64_t stopped_unlock(void *seat, uint64_t index) {
   return answer;
 }
 
-static bool stopped_exchange(bool is_made) {
-  if (is_made && stop_at_exchange) {
+static uint32_t stopped_exchange(uint32_t found) {
+  if (stop_at_exchange) {
     stop_at_exchange = 0;
     stop();
   }
-  return is_made;
+  return found;
 }
 
 static inline void await_stop(void) {

@@ -76,7 +76,7 @@ static void given_while_passed(void) {
   start(&by_a, &a, unlock_only, 2);
   await_stop();
   EXPECT(lfm_seat_give(&b), LFM_DONE);
-  EXPECT(state_of(deputy), ORPHAN_PASSING);
+  EXPECT(state_of(deputy), ORPHANED);
   set(&is_stopped, 0);
   join(&by_a);
   EXPECT(state_of(deputy), RESTS);

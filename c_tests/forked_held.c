@@ -114,7 +114,7 @@ static void by_deputy(void) {
   EXPECT(pthread_create(&thread, NULL, hold_until_queued, NULL), 0);
   wait_for_step(1);
   EXPECT(lfm_try_lock_for_here(&mutex, LONG), LFM_DONE);
-  EXPECT(holding_deputy(own.by, word_before) == NULL, false);
+  EXPECT(holder_of(own.by, word_before) == own.by, false);
   EXPECT(pthread_join(thread, NULL), 0);
   deepen_hold();
   fork_holding();

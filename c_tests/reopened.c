@@ -32,7 +32,7 @@ static mutex_word use_once(unsigned way) {
 }
 
 static void one_after_another(void) {
-  for (unsigned i = 0; i < TIMES; i++) EXPECT(use_once(i), word_of(1, 1));
+  for (unsigned i = 0; i < TIMES; i++) EXPECT(use_once(i), (mutex_word)1 << 32 | 1);
 }
 
 static void some_at_a_time(unsigned thread) {

@@ -29,8 +29,9 @@ static thread_local int calls;
 extern "C" long __real_syscall(long number, ...);
 extern "C" long __wrap_syscall(long number, ...);
 
-// Makes the change and no wake of the second word. Whoever slept at the first one has gone on.
-static void only_change(const long *arguments) {
+// Makes the change and no wake of the second word. Whoever slept at the first one has gone on. ThreadSanitizer doesn't see this
+// change, as it sees none that the system makes.
+__attribute__((noinline, no_sanitize_thread)) static void only_change(const long *arguments) {
   __atomic_exchange_n(reinterpret_cast<uint32_t *>(arguments[4]), arguments[5] >> 12 & 0xfff, __ATOMIC_SEQ_CST);
   __real_syscall(SYS_futex, arguments[0], FUTEX_WAKE_PRIVATE, 1, nullptr, nullptr, 0);
 }

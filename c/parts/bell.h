@@ -22,8 +22,6 @@ enum { SILENT, LISTENED, RUNG };
 #define LFM_SPIN_NANOSECONDS 20000
 #endif
 enum { PAUSES_PER_LOAD = 4, LOADS_PER_TIME = 16 /* between two readings of the clock */ };
-/* How many loads a thread makes before it sleeps, if it waits for a few steps of another. */
-enum { SHORT_SPIN = 64 };
 
 /* Sequentially consistent, as the ring is: a seat's handle may go with it to the thread that waits. */
 static uint32_t bell_of(uint32_t *bell) { return __atomic_load_n(bell, __ATOMIC_SEQ_CST); }

@@ -9,106 +9,13 @@
  * latch. If a wake was first, the waiter is not listed any more: then it counts as woken, and waits for its ring.
  *
  * A thread that would be woken while the caller holds its mutex could only sleep again, or take the caller's processor. So
- * if the caller's own seat holds it, the ring is put off until that seat releases the mutex: no waiter could go on before.
- * Who makes it then is said in waiter.h. This is not done for a timed wait, for which a close may wait.
+ * if the caller holds it, by its own seat or by a deputy, the ring is put off until it releases the mutex: no waiter could go
+ * on before. Who makes it then is said in waiter.h. This is not done for a timed wait, for which a close may wait.
  *
  * Nothing is touched after its end. A wake reads a waiter's neighbour before it rings for it, and releases the latch before
  * the first ring. A waiter without a deadline touches its condition variable no more once it is listed and has released the
  * latch, and no wake takes it out before, since that takes the latch. A timed one may still take the latch when others have
  * woken it. So it is counted in `inside` until it has done so, and a close waits for that. */
-
-/* Releases the mutex, waits for a wake or the deadline, and acquires the mutex again. */
-static lfm_status wait_until(lfm_condvar *condvar, struct participant *by, mutex_word mutex, const struct deadline *deadline);
-/* The same with all holds of the mutex. */
-static lfm_status wait_with_all_holds(lfm_condvar *condvar, struct participant *by, mutex_word mutex,
-                                      const struct deadline *deadline);
-/* Wakes the oldest waiter, or all, for a caller that is this participant. */
-static lfm_status wake(lfm_condvar *condvar, struct participant *by, bool all);
-
-/* Makes a wait, which is given a condition variable. */
-#define WAIT_AT(condvar, call) ((condvar) ? (call) : LFM_BLANK)
-
-lfm_status lfm_wait(lfm_condvar *condvar, lfm_seat *seat) {
-  return WAIT_AT(condvar, CALL_BY(seat, wait_until(condvar, seat->by, seat->mutex, NULL)));
-}
-
-lfm_status lfm_wait_for(lfm_condvar *condvar, lfm_seat *seat, uint64_t nanoseconds) {
-  struct deadline deadline = deadline_after(nanoseconds);
-  return WAIT_AT(condvar, CALL_BY(seat, wait_until(condvar, seat->by, seat->mutex, &deadline)));
-}
-
-lfm_status lfm_wait_until(lfm_condvar *condvar, lfm_seat *seat, int clock, const struct timespec *time) {
-  struct deadline deadline;
-  lfm_status status = deadline_at(clock, time, &deadline);
-  return status == LFM_DONE ? WAIT_AT(condvar, CALL_BY(seat, wait_until(condvar, seat->by, seat->mutex, &deadline))) : status;
-}
-
-lfm_status lfm_wait_all_holds(lfm_condvar *condvar, lfm_seat *seat) {
-  return WAIT_AT(condvar, CALL_BY(seat, wait_with_all_holds(condvar, seat->by, seat->mutex, NULL)));
-}
-
-lfm_status lfm_wait_all_holds_until(lfm_condvar *condvar, lfm_seat *seat, int clock, const struct timespec *time) {
-  struct deadline deadline;
-  lfm_status status = deadline_at(clock, time, &deadline);
-  if (status != LFM_DONE) return status;
-  return WAIT_AT(condvar, CALL_BY(seat, wait_with_all_holds(condvar, seat->by, seat->mutex, &deadline)));
-}
-
-/* The body of a function that makes a wait of `word` by the calling thread's participant `by`. A thread without a seat doesn't
- * hold. */
-#define RETURN_WAIT_HERE(condvar, mutex, wait) \
-  mutex_word word = load_mutex(mutex);         \
-  struct participant *by = own.by;             \
-  return WAIT_AT(condvar, has_seat(word) ? end_here(by, wait) : status_without_seat(mutex))
-
-lfm_status lfm_wait_here(lfm_condvar *condvar, lfm_mutex *mutex) {
-  RETURN_WAIT_HERE(condvar, mutex, wait_until(condvar, by, word, NULL));
-}
-
-lfm_status lfm_wait_for_here(lfm_condvar *condvar, lfm_mutex *mutex, uint64_t nanoseconds) {
-  struct deadline deadline = deadline_after(nanoseconds);
-  RETURN_WAIT_HERE(condvar, mutex, wait_until(condvar, by, word, &deadline));
-}
-
-lfm_status lfm_wait_until_here(lfm_condvar *condvar, lfm_mutex *mutex, int clock, const struct timespec *time) {
-  struct deadline deadline;
-  lfm_status status = deadline_at(clock, time, &deadline);
-  if (status != LFM_DONE) return status;
-  RETURN_WAIT_HERE(condvar, mutex, wait_until(condvar, by, word, &deadline));
-}
-
-lfm_status lfm_wait_all_holds_here(lfm_condvar *condvar, lfm_mutex *mutex) {
-  RETURN_WAIT_HERE(condvar, mutex, wait_with_all_holds(condvar, by, word, NULL));
-}
-
-lfm_status lfm_wait_all_holds_until_here(lfm_condvar *condvar, lfm_mutex *mutex, int clock, const struct timespec *time) {
-  struct deadline deadline;
-  lfm_status status = deadline_at(clock, time, &deadline);
-  if (status != LFM_DONE) return status;
-  RETURN_WAIT_HERE(condvar, mutex, wait_with_all_holds(condvar, by, word, &deadline));
-}
-
-lfm_status lfm_wake_one(lfm_condvar *condvar) { return wake(condvar, own.by, false); }
-lfm_status lfm_wake_all(lfm_condvar *condvar) { return wake(condvar, own.by, true); }
-lfm_status lfm_wake_one_by(lfm_condvar *condvar, lfm_seat *seat) { return CALL_BY(seat, wake(condvar, seat->by, false)); }
-lfm_status lfm_wake_all_by(lfm_condvar *condvar, lfm_seat *seat) { return CALL_BY(seat, wake(condvar, seat->by, true)); }
-
-enum { IS_CLOSING = 1 << 30 };
-
-lfm_status lfm_condvar_close(lfm_condvar *condvar) {
-  if (!condvar) return LFM_BLANK;
-  acquire_latch(&condvar->latch);
-  bool is_waited_for = condvar->oldest;
-  release_latch(&condvar->latch);
-  if (is_waited_for) return LFM_WAITED_FOR;
-  uint32_t inside = __atomic_or_fetch(&condvar->inside, IS_CLOSING, __ATOMIC_ACQUIRE);
-  while (inside != IS_CLOSING) {
-    sleep_while(&condvar->inside, inside, NULL);
-    inside = __atomic_load_n(&condvar->inside, __ATOMIC_ACQUIRE);
-  }
-  memset(condvar, 0, sizeof *condvar);
-  return LFM_DONE;
-}
 
 /* The list. The latch is held for these two. The first load of a wake may come at the same time. */
 
@@ -160,15 +67,17 @@ static bool spin_for_wake(struct participant *by, uint32_t *bell) {
   return is_rung;
 }
 
-/* Why a wait of this participant, which has a seat in the pool of the mutex, is refused, or LFM_DONE. */
-static lfm_status refusal_of_wait(struct participant *by, mutex_word mutex) {
-  uint64_t depth = depth_of(by, mutex);
-  return depth == 0 ? refusal_of_unlock(by, mutex) : depth > 1 ? LFM_NESTED : LFM_DONE;
-}
+/* A flag of `inside`: a close waits until nothing else is left in it. */
+enum { IS_CLOSING = 1 << 30 };
 
-static lfm_status wait_until(lfm_condvar *condvar, struct participant *by, mutex_word mutex, const struct deadline *deadline) {
-  lfm_status status = refusal_of_wait(by, mutex);
-  if (status != LFM_DONE) return status;
+/* Releases the mutex, waits for a wake or the deadline, and acquires the mutex again, as often as it was held. The participant
+ * has a seat in the pool of the mutex. If the wait is refused after the mutex was released, since no lock of it is possible any
+ * more, no hold is left. */
+static lfm_status wait_in(lfm_condvar *condvar, struct participant *by, mutex_word mutex, bool all_holds,
+                          const struct deadline *deadline) {
+  uint64_t depth = depth_of(by, mutex);
+  if (depth == 0) return refusal_of_unlock(by, mutex);
+  if (depth > 1 && !all_holds) return LFM_NESTED;
   struct lfm_waiter waiter = {.mutex = mutex, .bell = SILENT, .is_timed = deadline != NULL};
   hide(condvar, sizeof *condvar);
   hide(&waiter, sizeof waiter);
@@ -177,23 +86,29 @@ static lfm_status wait_until(lfm_condvar *condvar, struct participant *by, mutex
   bool is_alone = !waiter.older;
   if (deadline) __atomic_add_fetch(&condvar->inside, 1, __ATOMIC_RELAXED);
   release_latch(&condvar->latch);
-  unlock(by, mutex);
+  for (uint64_t i = 0; i < depth; i++) unlock(by, mutex);
   bool is_done = (is_alone && spin_for_wake(by, &waiter.bell)) || await_wake(condvar, &waiter, deadline);
   if (deadline && __atomic_sub_fetch(&condvar->inside, 1, __ATOMIC_ACQ_REL) == IS_CLOSING) wake_sleeper(&condvar->inside);
   ring_for_others(&waiter);
   /* Of threads that are woken together each would nap while another holds. In order they go on one after another. */
-  status = is_done && waiter.is_one_of_many ? lock_in_order(by, mutex) : lock(by, mutex);
+  lfm_status status = is_done && waiter.is_one_of_many ? lock_in_order(by, mutex) : lock(by, mutex);
+  for (uint64_t i = 1; i < depth && !lfm_is_refused(status); i++) lock(by, mutex);
   return is_done || lfm_is_refused(status) ? status : LFM_TIMED_OUT;
 }
 
-/* If the wait is refused after the mutex was released, since no lock of it is possible any more, no hold is left. */
-static lfm_status wait_with_all_holds(lfm_condvar *condvar, struct participant *by, mutex_word mutex,
-                                      const struct deadline *deadline) {
-  uint64_t depth = depth_of(by, mutex);
-  for (uint64_t i = 1; i < depth; i++) unlock(by, mutex);
-  lfm_status status = wait_until(condvar, by, mutex, deadline);
-  for (uint64_t i = 1; i < depth && !lfm_is_refused(status); i++) lock(by, mutex);
-  return status;
+/* A wait by a seat in hand, and one by the calling thread. A thread without a seat doesn't hold. */
+
+static lfm_status wait_by(lfm_condvar *condvar, lfm_seat *seat, bool all_holds, const struct deadline *deadline) {
+  if (deadline && deadline->refused) return deadline->refused;
+  return condvar ? CALL_BY(seat, wait_in(condvar, seat->by, seat->mutex, all_holds, deadline)) : LFM_BLANK;
+}
+
+static lfm_status wait_here(lfm_condvar *condvar, lfm_mutex *mutex, bool all_holds, const struct deadline *deadline) {
+  if (deadline && deadline->refused) return deadline->refused;
+  if (!condvar) return LFM_BLANK;
+  mutex_word word = load_mutex(mutex);
+  struct participant *by = own.by;
+  return has_seat(word) ? end_here(by, wait_in(condvar, by, word, all_holds, deadline)) : status_without_seat(mutex);
 }
 
 /* Wakes */
@@ -205,16 +120,7 @@ static bool may_put_off(struct participant *by, const struct lfm_waiter *waiter)
   return depth_of(by, waiter->mutex) != 0;
 }
 
-/* Rings for a waiter that was taken out of its list, or puts it off. */
-static void ring_for(struct lfm_waiter *waiter, struct participant *by) {
-  if (!may_put_off(by, waiter)) {
-    ring(&waiter->bell);
-    return;
-  }
-  by->unrung_at = waiter->mutex;
-  put_off_ring(by, waiter);
-}
-
+/* Wakes the oldest waiter, or all, for a caller that is this participant. */
 static lfm_status wake(lfm_condvar *condvar, struct participant *by, bool all) {
   if (!condvar) return LFM_BLANK;
   if (!__atomic_load_n(&condvar->oldest, __ATOMIC_RELAXED)) return LFM_NOBODY;
@@ -228,7 +134,67 @@ static lfm_status wake(lfm_condvar *condvar, struct participant *by, bool all) {
   for (struct lfm_waiter *waiter = first, *next; waiter; waiter = next) {
     next = waiter == last ? NULL : waiter->newer;
     waiter->is_one_of_many = first != last;
-    ring_for(waiter, by);
+    if (may_put_off(by, waiter))
+      put_off_ring(by, waiter);
+    else
+      ring(&waiter->bell);
   }
   return first ? LFM_DONE : LFM_NOBODY;
+}
+
+/* The calls */
+
+lfm_status lfm_wait(lfm_condvar *condvar, lfm_seat *seat) { return wait_by(condvar, seat, false, NULL); }
+lfm_status lfm_wait_all_holds(lfm_condvar *condvar, lfm_seat *seat) { return wait_by(condvar, seat, true, NULL); }
+lfm_status lfm_wait_here(lfm_condvar *condvar, lfm_mutex *mutex) { return wait_here(condvar, mutex, false, NULL); }
+lfm_status lfm_wait_all_holds_here(lfm_condvar *condvar, lfm_mutex *mutex) { return wait_here(condvar, mutex, true, NULL); }
+
+lfm_status lfm_wait_for(lfm_condvar *condvar, lfm_seat *seat, uint64_t nanoseconds) {
+  struct deadline deadline = deadline_after(nanoseconds);
+  return wait_by(condvar, seat, false, &deadline);
+}
+
+lfm_status lfm_wait_for_here(lfm_condvar *condvar, lfm_mutex *mutex, uint64_t nanoseconds) {
+  struct deadline deadline = deadline_after(nanoseconds);
+  return wait_here(condvar, mutex, false, &deadline);
+}
+
+lfm_status lfm_wait_until(lfm_condvar *condvar, lfm_seat *seat, int clock, const struct timespec *time) {
+  struct deadline deadline = deadline_at(clock, time);
+  return wait_by(condvar, seat, false, &deadline);
+}
+
+lfm_status lfm_wait_until_here(lfm_condvar *condvar, lfm_mutex *mutex, int clock, const struct timespec *time) {
+  struct deadline deadline = deadline_at(clock, time);
+  return wait_here(condvar, mutex, false, &deadline);
+}
+
+lfm_status lfm_wait_all_holds_until(lfm_condvar *condvar, lfm_seat *seat, int clock, const struct timespec *time) {
+  struct deadline deadline = deadline_at(clock, time);
+  return wait_by(condvar, seat, true, &deadline);
+}
+
+lfm_status lfm_wait_all_holds_until_here(lfm_condvar *condvar, lfm_mutex *mutex, int clock, const struct timespec *time) {
+  struct deadline deadline = deadline_at(clock, time);
+  return wait_here(condvar, mutex, true, &deadline);
+}
+
+lfm_status lfm_wake_one(lfm_condvar *condvar) { return wake(condvar, own.by, false); }
+lfm_status lfm_wake_all(lfm_condvar *condvar) { return wake(condvar, own.by, true); }
+lfm_status lfm_wake_one_by(lfm_condvar *condvar, lfm_seat *seat) { return CALL_BY(seat, wake(condvar, seat->by, false)); }
+lfm_status lfm_wake_all_by(lfm_condvar *condvar, lfm_seat *seat) { return CALL_BY(seat, wake(condvar, seat->by, true)); }
+
+lfm_status lfm_condvar_close(lfm_condvar *condvar) {
+  if (!condvar) return LFM_BLANK;
+  acquire_latch(&condvar->latch);
+  bool is_waited_for = condvar->oldest;
+  release_latch(&condvar->latch);
+  if (is_waited_for) return LFM_WAITED_FOR;
+  uint32_t inside = __atomic_or_fetch(&condvar->inside, IS_CLOSING, __ATOMIC_ACQUIRE);
+  while (inside != IS_CLOSING) {
+    sleep_while(&condvar->inside, inside, NULL);
+    inside = __atomic_load_n(&condvar->inside, __ATOMIC_ACQUIRE);
+  }
+  memset(condvar, 0, sizeof *condvar);
+  return LFM_DONE;
 }

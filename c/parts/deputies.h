@@ -9,27 +9,31 @@
  * The state of a deputy is a word. Its participant makes the steps ──►, and the thread that has to wake it ══►.
  *
  *            ask            time is over                  end of the participant
- *     RESTS ─────► TIMED ────────────────► ABANDONED ────────────────────────────► ORPHANED
- *      ▲ ▲          ║ ▲                       │  ║                                     ║
- *      ║ ╚══════════╝ └───────────────────────┘  ║ passes it by                        ║ passes it by
- *      ║    ring          next lock              ▼                                     ▼
- *      ╚═══════════════════════════════════ PASSING ───────────────────────────► ORPHAN_PASSING ═══► given back
+ *     RESTS ─────► TIMED ────────────────► ABANDONED ────────────────────────────► ORPHANED ═══► given back
+ *      ▲ ▲          ║ ▲                       │  ║                                     ▲    passes it by
+ *      ║ ╚══════════╝ └───────────────────────┘  ║ passes it by                        │
+ *      ║    ring          next lock              ▼                                     │
+ *      ╚═══════════════════════════════════ PASSING ───────────────────────────────────┘
  *               has passed it by                     end of the participant
  *
- * An ask that doesn't queue also goes back from TIMED to RESTS. A participant that is no deputy rests, and is rung for. Each step
- * from a state that another thread may change is a compare-and-exchange. All are sequentially consistent: the seats of the deputy
- * go with them to the thread that passes it by, and back.
+ * An ask that doesn't queue also goes back from TIMED to RESTS. A participant that is no deputy rests, and is rung for. Each
+ * step from a state that another thread may change is a compare-and-exchange, or at the end of the participant an exchange. All
+ * are sequentially consistent: the seats of the deputy go with them to the thread that passes it by, and back.
  *
  * Each grant is received by one thread. One answer of the library names the seat that it granted the mutex, so one thread has to
  * wake it. If that thread makes TIMED ══► RESTS, the step of the lock to ABANDONED fails: then the lock waits for the ring, and
- * receives. If it makes ABANDONED ══► PASSING or ORPHANED ══► ORPHAN_PASSING, no other thread touches the deputy's seats, and
- * the waker receives and unlocks at once. The answer of that unlock may name the next seat, which it wakes too. So an unlock
- * wakes a seat that waits, or leaves the mutex free or to a thread that has begun to ask.
+ * receives. If it makes ABANDONED ══► PASSING or finds ORPHANED, no other thread touches the deputy's seats, and the waker
+ * receives and unlocks at once. The answer of that unlock may name the next seat, which it wakes too. So an unlock wakes a seat
+ * that waits, or leaves the mutex free or to a thread that has begun to ask.
  *
- * No wake-up is lost. A step of the waker fails only if the deputy's participant has made one, and after any of those another
- * step of the waker is there to be made. Each of them costs the participant a call of a lock, so no number bounds them.
+ * Each deputy is given back once. The end of the participant exchanges any state for ORPHANED. If that was RESTS, the deputy is
+ * not queued, and the participant gives it back. Otherwise the thread that passes it by gives it back: its step from PASSING to
+ * RESTS fails.
  *
- * Here is no wait: a deputy that is being passed by is left alone, and another one is used. */
+ * No wake-up is lost. The waker tries the step from each state. It makes none only if the deputy's participant has made one
+ * meanwhile, and then it tries again. Each step of the participant costs it a call of a lock, so no number bounds them.
+ *
+ * Nothing here waits: a deputy that is being passed by is left alone, and another one is used. */
 
 FAST_PATH enum deputy_state state_of(const struct participant *deputy) {
   return (enum deputy_state)__atomic_load_n(&deputy->state, __ATOMIC_SEQ_CST);
@@ -40,17 +44,9 @@ static bool change_state(struct participant *deputy, enum deputy_state from, enu
   return __atomic_compare_exchange_n(&deputy->state, &found, to, false, __ATOMIC_SEQ_CST, __ATOMIC_SEQ_CST);
 }
 
-/* Takes a participant to be a deputy, or null. At most half of all are: so timed locks, which leave deputies in queues for as long
- * as others hold, don't take the numbers of all threads. */
-static struct participant *take_new_deputy(void) {
-  lfm_status cause;
-  uint32_t count = __atomic_add_fetch(&LFM_PROCESS.deputies, 1, __ATOMIC_RELAXED);
-  struct participant *deputy = count <= MOST_DEPUTIES ? take_participant(&cause) : NULL;
-  if (!deputy) __atomic_sub_fetch(&LFM_PROCESS.deputies, 1, __ATOMIC_RELAXED);
-  return deputy;
-}
-
+/* Gives back a deputy that is not queued. */
 static void give_deputy(struct participant *deputy) {
+  __atomic_store_n(&deputy->state, RESTS, __ATOMIC_SEQ_CST);
   __atomic_sub_fetch(&LFM_PROCESS.deputies, 1, __ATOMIC_RELAXED);
   give_participant(deputy);
 }
@@ -59,38 +55,24 @@ static void give_deputy(struct participant *deputy) {
 
 /* Receives the mutex for a deputy that has abandoned its place, releases it, and lets the deputy rest, or gives it back if it has
  * no participant any more. The number of the seat that is to be woken next, or 0. */
-static uint64_t pass_by(struct participant *deputy, mutex_word mutex) {
+SLOW_PATH uint64_t pass_by(struct participant *deputy, mutex_word mutex) {
   void *seat = seat_in(deputy, mutex);
   lfm_c_pool_receive(seat, index_of(mutex));
   uint64_t next = lfm_c_pool_unlock(seat, index_of(mutex)) >> 8;
-  if (change_state(deputy, PASSING, RESTS)) return next;
-  __atomic_store_n(&deputy->state, RESTS, __ATOMIC_SEQ_CST);
-  give_deputy(deputy);
+  if (!change_state(deputy, PASSING, RESTS)) give_deputy(deputy);
   return next;
 }
 
-/* Wakes a deputy, or passes it by: the number of the seat that is to be woken next, or 0. */
-SLOW_PATH uint64_t wake_or_pass(struct participant *deputy, mutex_word mutex) {
-  for (;;) {
-    enum deputy_state found = state_of(deputy);
-    enum deputy_state next = found == TIMED ? RESTS : found == ABANDONED ? PASSING : ORPHAN_PASSING;
-    if (!change_state(deputy, found, next)) continue;
-    if (next != RESTS) return pass_by(deputy, mutex);
-    ring(&deputy->bell);
-    return 0;
-  }
-}
-
-/* Wakes the seat of this number, which a call of the calling thread has granted the mutex. If it is passed by, the same holds of
- * the next. */
+/* Wakes the seat of this number, which a call of the calling thread has granted the mutex. If it is passed by, the same holds
+ * of the next. */
 static void wake_seat(mutex_word mutex, uint64_t number) {
   while (number) {
     struct participant *granted = participant_of(mutex, number);
-    if (LIKELY(state_of(granted) == RESTS)) {
+    if (LIKELY(state_of(granted) == RESTS) || change_state(granted, TIMED, RESTS)) {
       ring(&granted->bell);
       return;
     }
-    number = wake_or_pass(granted, mutex);
+    if (change_state(granted, ABANDONED, PASSING) || state_of(granted) == ORPHANED) number = pass_by(granted, mutex);
   }
 }
 
@@ -102,11 +84,11 @@ FAST_PATH lfm_status wake_named(mutex_word mutex, uint64_t answer) {
 
 /* The deputies of a participant */
 
-/* The deputy that holds the mutex, or null. */
-SLOW_PATH struct participant *holding_deputy(const struct participant *by, mutex_word mutex) {
+/* The deputy that holds the mutex, or else the participant itself, which may hold it by its own seat. */
+static struct participant *holder_of(struct participant *by, mutex_word mutex) {
   struct participant *deputy = by->deputies;
   while (deputy && (deputy->at != mutex || !deputy->holds)) deputy = deputy->next;
-  return deputy;
+  return deputy ? deputy : by;
 }
 
 /* Takes up the place of a deputy that has abandoned it in this mutex: the deputy, or null if there is none. */
@@ -116,34 +98,29 @@ SLOW_PATH struct participant *resumed_deputy(const struct participant *by, mutex
   return deputy;
 }
 
-/* A deputy that rests, or null if there are too many. */
+/* A deputy that rests, or null if there are too many. At most half of all participants are deputies: so timed locks, which leave
+ * them in queues for as long as others hold, don't take the numbers of all threads. */
 static struct participant *take_deputy(struct participant *by) {
+  lfm_status cause;
   for (struct participant *deputy = by->deputies; deputy; deputy = deputy->next)
     if (!deputy->holds && state_of(deputy) == RESTS) return deputy;
-  struct participant *deputy = take_new_deputy();
-  if (!deputy) return NULL;
+  uint32_t count = __atomic_add_fetch(&LFM_PROCESS.deputies, 1, __ATOMIC_RELAXED);
+  struct participant *deputy = count <= MOST_DEPUTIES ? take_participant(&cause) : NULL;
+  if (!deputy) {
+    __atomic_sub_fetch(&LFM_PROCESS.deputies, 1, __ATOMIC_RELAXED);
+    return NULL;
+  }
   deputy->next = by->deputies;
   by->deputies = deputy;
   return deputy;
 }
 
-/* Parts with a deputy, which doesn't hold: who passes it by gives it back if it is still queued. */
-static void part_with(struct participant *deputy) {
-  for (;;) {
-    enum deputy_state found = state_of(deputy);
-    if (found == RESTS) {
-      give_deputy(deputy);
-      return;
-    }
-    if (change_state(deputy, found, found == ABANDONED ? ORPHANED : ORPHAN_PASSING)) return;
-  }
-}
-
-/* Parts with all deputies of a participant that holds nothing. */
+/* Parts with all deputies of a participant that holds nothing. Those that are still queued, or are being passed by, are given
+ * back by the threads that pass them by. */
 SLOW_PATH void part_with_deputies(struct participant *by) {
   while (by->deputies) {
     struct participant *deputy = by->deputies;
     by->deputies = deputy->next;
-    part_with(deputy);
+    if (__atomic_exchange_n(&deputy->state, ORPHANED, __ATOMIC_SEQ_CST) == RESTS) give_deputy(deputy);
   }
 }

@@ -32,13 +32,9 @@ lfm_status lfm_mutex_close(lfm_mutex *mutex) {
   uint64_t count = word ? count_here(word) : IS_UNKNOWN;
   if (word) {
     if (seats_in_hand(info_of(word))) return LFM_NOT_BACK;
-    if (is_of_process(word)) {
-      if (count && count != IS_UNKNOWN) return LFM_HOLDING;
-    } else if (depth_of(own.by, word) != 0) {
-      return LFM_HOLDING;
-    }
-    lfm_seat *seat = find_seat_here(word);
-    if (seat) forget_seat_here(seat);
+    bool is_held = is_of_process(word) ? count && count != IS_UNKNOWN : depth_of(own.by, word) != 0;
+    if (is_held) return LFM_HOLDING;
+    forget_seat_here(find_seat_here(word));
   }
   memset(mutex, 0, sizeof *mutex);
   if (count == 0) give_mutex(word);
@@ -59,8 +55,8 @@ static lfm_status replace_mutex(lfm_mutex *mutex, struct participant *by, uint64
   lfm_status cause;
   mutex_word taken = take_mutex(&cause);
   if (!taken) return cause;
-  struct participant *deputy = holding_deputy(by, load_mutex(mutex));
-  if (deputy) deputy->holds = 0;
+  struct participant *holder = holder_of(by, load_mutex(mutex));
+  if (holder != by) holder->holds = 0;
   take_seats(by, taken);
   for (uint64_t i = 0; i < depth; i++) try_by(by, taken);
   mutex->core = (struct lfm_core *)(uintptr_t)taken;
@@ -80,18 +76,14 @@ static lfm_status renew_mutex(lfm_mutex *mutex, struct participant *by, lfm_seat
   return LFM_DONE;
 }
 
-/* Whether it is a seat in hand that was taken in a process which forked this one. */
-static bool is_of_parent(const lfm_seat *seat) {
-  return seat && !seat->is_of_library && seat->forks != LFM_PROCESS.forks;
-}
-
+/* If the mutex is new already, a seat in hand that was taken in a process which forked this one is refused. */
 lfm_status lfm_after_fork(lfm_mutex *mutex, lfm_seat *seat) {
   lfm_status cause;
   if (!mutex || mutex->version == 0 || (seat && !seat->by)) return LFM_BLANK;
   mutex_word word = load_mutex(mutex);
   if (seat && seat->mutex != word) return LFM_FOREIGN;
   if (!word) return LFM_DONE;
-  if (is_of_process(word)) return is_of_parent(seat) ? LFM_FOREIGN : LFM_DONE;
+  if (is_of_process(word)) return seat && !seat->is_of_library && seat->forks != LFM_PROCESS.forks ? LFM_FOREIGN : LFM_DONE;
   struct participant *by = seat ? seat->by : take_own(&cause);
   if (!by) return cause;
   take_seats(by, word);

@@ -1,6 +1,7 @@
-/* Forks: how often a process was forked from the first one, and that no latch is held by a thread that a child lacks. The latches
- * of the process and of its pools are held over a fork, with signals blocked, as always. What a child does with mutexes of its
- * parent is in end.h. */
+/* Forks: how often a process was forked from the first one, and that no latch of the process or of its pools is held by a
+ * thread that a child lacks. The thread that forks holds these latches over the fork, with signals blocked, as always. The latch
+ * of a condition variable is not covered: a child sets the condition variable to zero if other threads of its parent may have
+ * been in a call of it. What a child does with mutexes of its parent is in end.h. */
 
 /* Holds a latch over a fork. `blocked` has the signals that were blocked before; only its holder writes it. */
 static void hold_over_fork(uint32_t *latch, sigset_t *blocked) {

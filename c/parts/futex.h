@@ -7,6 +7,7 @@ enum { NANOSECONDS = 1000000000 };
 
 /* Until when a timed call waits. */
 struct deadline {
+  lfm_status refused; /* why the time that a caller gave is refused, or LFM_DONE */
   int clock;
   struct timespec time;
 };
@@ -108,7 +109,7 @@ static uint64_t time_left(const struct deadline *deadline) {
 /* The deadline that lies this far ahead. 2^64 nanoseconds are less than 600 years, so the sum is no greater than a
  * time_t. */
 static struct deadline deadline_after(uint64_t ahead) {
-  struct deadline deadline = {CLOCK_MONOTONIC, time_of(CLOCK_MONOTONIC)};
+  struct deadline deadline = {LFM_DONE, CLOCK_MONOTONIC, time_of(CLOCK_MONOTONIC)};
   deadline.time.tv_sec += (time_t)(ahead / NANOSECONDS);
   deadline.time.tv_nsec += (long)(ahead % NANOSECONDS);
   if (deadline.time.tv_nsec >= NANOSECONDS) {
@@ -118,13 +119,10 @@ static struct deadline deadline_after(uint64_t ahead) {
   return deadline;
 }
 
-/* The deadline that a caller gives, or LFM_LIMIT or LFM_BLANK. The system refuses times before 0, which are over. */
-static lfm_status deadline_at(int clock, const struct timespec *time, struct deadline *deadline) {
-  if (!time) return LFM_BLANK;
+/* The deadline that a caller gives, which may be refused. The system refuses times before 0, which are over. */
+static struct deadline deadline_at(int clock, const struct timespec *time) {
+  if (!time) return (struct deadline){.refused = LFM_BLANK};
   bool is_clock = clock == LFM_REALTIME || clock == LFM_MONOTONIC;
-  if (!is_clock || time->tv_nsec < 0 || time->tv_nsec >= NANOSECONDS) return LFM_LIMIT;
-  deadline->clock = clock;
-  deadline->time = *time;
-  if (time->tv_sec < 0) deadline->time = (struct timespec){0, 0};
-  return LFM_DONE;
+  if (!is_clock || time->tv_nsec < 0 || time->tv_nsec >= NANOSECONDS) return (struct deadline){.refused = LFM_LIMIT};
+  return (struct deadline){LFM_DONE, clock, time->tv_sec < 0 ? (struct timespec){0, 0} : *time};
 }

@@ -52,9 +52,8 @@ lfm_status lfm_try_lock_for(lfm_seat *seat, uint64_t nanoseconds) {
 }
 
 lfm_status lfm_try_lock_until(lfm_seat *seat, int clock, const struct timespec *time) {
-  struct deadline deadline;
-  lfm_status status = deadline_at(clock, time, &deadline);
-  return status == LFM_DONE ? CALL_BY(seat, lock_until(seat->by, seat->mutex, &deadline)) : status;
+  struct deadline deadline = deadline_at(clock, time);
+  return deadline.refused ? deadline.refused : CALL_BY(seat, lock_until(seat->by, seat->mutex, &deadline));
 }
 
 uint64_t lfm_number(lfm_seat *seat) { return is_taken(seat) ? seat->by->number : 0; }

@@ -56,9 +56,8 @@ lfm_status lfm_try_lock_for_here(lfm_mutex *mutex, uint64_t nanoseconds) {
 }
 
 lfm_status lfm_try_lock_until_here(lfm_mutex *mutex, int clock, const struct timespec *time) {
-  struct deadline deadline;
-  lfm_status status = deadline_at(clock, time, &deadline);
-  if (status != LFM_DONE) return status;
+  struct deadline deadline = deadline_at(clock, time);
+  if (deadline.refused) return deadline.refused;
   RETURN_CALL_HERE(mutex, lock_until(by, word, &deadline));
 }
 
@@ -150,8 +149,7 @@ lfm_status lfm_seat_give_here(lfm_mutex *mutex) {
   mutex_word word = load_mutex(mutex);
   if (!has_seat(word)) return LFM_BLANK;
   if (depth_of(own.by, word)) return LFM_HOLDING;
-  lfm_seat *seat = find_seat_here(word);
-  if (seat) forget_seat_here(seat);
+  forget_seat_here(find_seat_here(word));
   return LFM_DONE;
 }
 

@@ -6,6 +6,9 @@
  * Its operations are sequentially consistent, except the load before one: the handle of a pool goes with its latch, and so
  * do those of its seats that are not taken. */
 
+/* How many loads a thread makes before it sleeps. */
+enum { SHORT_SPIN = 64 };
+
 SLOW_PATH void acquire_latch_slowly(uint32_t *latch) {
   for (int loads = 0; loads < LFM_ROUNDS(SHORT_SPIN); loads++) {
     uint32_t found = 0;

@@ -15,12 +15,12 @@ enum { MOST_PARTICIPANTS = LFM_MOST_PARTICIPANTS, MOST_DEPUTIES = (MOST_PARTICIP
  * is not open is 0. */
 typedef uint64_t mutex_word;
 
-/* Flags of a participant. If one is set, its calls don't take the fast path. IS_WATCHED tells tools. IS_LATE gives the
- * participant back after a call that leaves it without a hold, since its thread ends. */
+/* Flags of a participant. If one is set, its calls don't take the fast path. IS_WATCHED: its calls tell tools of locks and
+ * unlocks. IS_LATE: its thread is ending, so the call that leaves it without a hold gives it back. */
 enum { IS_WATCHED = 1, IS_LATE = 2 };
 
 /* What a deputy does: see deputies.h. */
-enum deputy_state { RESTS, TIMED, ABANDONED, PASSING, ORPHANED, ORPHAN_PASSING };
+enum deputy_state { RESTS, TIMED, ABANDONED, PASSING, ORPHANED };
 
 /* Who takes part in mutexes: a thread, a seat in hand, or a deputy. It has one number and one bell, and one seat in each pool.
  * Its own thread alone changes it, except for the bell and the state, and for the seats of a deputy that has abandoned its
@@ -32,6 +32,7 @@ struct participant {
   struct participant *deputies;  /* those that it has taken and not given back */
   struct lfm_waiter *unrung;     /* the oldest waiter whose ring is put off until it releases `unrung_at`, or null */
   struct lfm_waiter *last_unrung;
+  struct lfm_waiter *ringer; /* of those whose rings are put off, the one that rings for the last, or the only one */
   mutex_word unrung_at;
   uint16_t number;
   uint8_t flags;

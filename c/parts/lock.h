@@ -53,10 +53,7 @@ FAST_PATH lfm_status note_hold(struct participant *by, lfm_status status) {
 
 /* How many times the participant holds the mutex, by its own seat or by a deputy. */
 static uint64_t depth_of(struct participant *by, mutex_word mutex) {
-  if (by->pools < pool_in(mutex)) return 0;
-  uint64_t depth = depth_by(by, mutex);
-  struct participant *deputy = depth == 0 && by->deputies ? holding_deputy(by, mutex) : NULL;
-  return deputy ? depth_by(deputy, mutex) : depth;
+  return by->pools < pool_in(mutex) ? 0 : depth_by(holder_of(by, mutex), mutex);
 }
 
 /* The queue */
@@ -86,12 +83,12 @@ SLOW_PATH lfm_status await_deputy(struct participant *by, struct participant *de
 /* Makes the call by a deputy that holds the mutex or is still queued there: whether there is one. The own seat, which doesn't
  * hold, would wait behind it. */
 SLOW_PATH bool is_by_deputy(struct participant *by, mutex_word mutex, const struct deadline *deadline, lfm_status *status) {
-  struct participant *deputy = holding_deputy(by, mutex);
-  if (deputy) {
-    *status = try_by(deputy, mutex);
+  struct participant *holder = holder_of(by, mutex);
+  if (holder != by) {
+    *status = try_by(holder, mutex);
     return true;
   }
-  deputy = resumed_deputy(by, mutex);
+  struct participant *deputy = resumed_deputy(by, mutex);
   if (deputy) *status = await_deputy(by, deputy, deadline);
   return deputy;
 }
@@ -193,19 +190,18 @@ FAST_PATH lfm_status lock_plainly(struct participant *by, mutex_word mutex) {
   return LIKELY(!lfm_is_refused(status)) ? note_hold(by, status) : lock_slowly(by, mutex, status);
 }
 
-SLOW_PATH lfm_status try_by_deputy(struct participant *by, mutex_word mutex) {
-  struct participant *deputy = holding_deputy(by, mutex);
-  return deputy ? try_by(deputy, mutex) : LFM_BUSY;
+SLOW_PATH lfm_status try_by_holder(struct participant *by, mutex_word mutex) {
+  return note_hold(by, try_by(holder_of(by, mutex), mutex));
 }
 
 FAST_PATH lfm_status try_plainly(struct participant *by, mutex_word mutex) {
   lfm_status status = note_hold(by, try_by(by, mutex));
-  return UNLIKELY(status == LFM_BUSY && by->deputies) ? try_by_deputy(by, mutex) : status;
+  return UNLIKELY(status == LFM_BUSY && by->deputies) ? try_by_holder(by, mutex) : status;
 }
 
 SLOW_PATH lfm_status unlock_by_deputy(struct participant *by, mutex_word mutex) {
-  struct participant *deputy = holding_deputy(by, mutex);
-  if (!deputy) return LFM_NOT_OWNER;
+  struct participant *deputy = holder_of(by, mutex);
+  if (deputy == by) return LFM_NOT_OWNER;
   uint64_t answer = unlock_by(deputy, mutex);
   deputy->holds = status_of(answer) == LFM_STILL;
   return wake_named(mutex, answer);

@@ -13,7 +13,6 @@
 
 static uint32_t pool_in(mutex_word mutex) { return (uint32_t)(mutex >> 32); }
 static uint32_t number_in(mutex_word mutex) { return (uint32_t)mutex; }
-static mutex_word word_of(uint32_t pool, uint32_t number) { return (mutex_word)pool << 32 | number; }
 
 /* What the proved calls take for the mutex: an index from 0. */
 FAST_PATH uint64_t index_of(mutex_word mutex) { return (uint32_t)mutex - UINT32_C(1); }
@@ -83,7 +82,7 @@ SLOW_PATH lfm_status grow(uint32_t known) {
   return status;
 }
 
-/* Takes a mutex of a pool that is not open: its word, or 0 and the cause. */
+/* Takes a mutex that is not open from one of the pools: its word, or 0 and the cause. */
 static mutex_word take_mutex(lfm_status *cause) {
   for (;;) {
     uint32_t known = __atomic_load_n(&LFM_PROCESS.count_of_pools, __ATOMIC_ACQUIRE);
@@ -94,7 +93,7 @@ static mutex_word take_mutex(lfm_status *cause) {
       struct mutex_info *info = &pool->infos[number - 1];
       info->forks = LFM_PROCESS.forks;
       info->in_hand = 0;
-      return word_of(i, number);
+      return (mutex_word)i << 32 | number;
     }
     *cause = grow(known);
     if (*cause != LFM_DONE) return 0;
@@ -103,23 +102,18 @@ static mutex_word take_mutex(lfm_status *cause) {
 
 static void give_mutex(mutex_word mutex) { give_number(&pool_of(mutex)->numbers, number_in(mutex)); }
 
-/* Takes a seat in this pool for the participant. The pool has as many seats as there are participants. */
-static void take_seat(struct participant *by, uint32_t number) {
-  void *seat = by->seats[number - 1];
-  struct pool *pool = pool_at(number);
-  sigset_t before;
-  lfm_c_blank_pool_seat(seat);
-  block_signals_and_acquire(&pool->latch, &before);
-  lfm_c_pool_take_seat(pool->handle, seat);
-  release_and_restore_signals(&pool->latch, &before);
-  __atomic_store_n(&pool->of_seat[lfm_c_pool_number(seat)], by, __ATOMIC_RELEASE);
-}
-
-/* Takes seats for the participant in the pool of the mutex and in those before it, if it has none there. */
+/* Takes seats for the participant in the pool of the mutex and in those before it, if it has none there. A pool has as many
+ * seats as there are participants. */
 static void take_seats(struct participant *by, mutex_word mutex) {
-  while (by->pools < pool_in(mutex)) {
-    take_seat(by, by->pools + 1);
-    by->pools++;
+  for (; by->pools < pool_in(mutex); by->pools++) {
+    void *seat = by->seats[by->pools];
+    struct pool *pool = pool_at(by->pools + 1);
+    sigset_t before;
+    lfm_c_blank_pool_seat(seat);
+    block_signals_and_acquire(&pool->latch, &before);
+    lfm_c_pool_take_seat(pool->handle, seat);
+    release_and_restore_signals(&pool->latch, &before);
+    __atomic_store_n(&pool->of_seat[lfm_c_pool_number(seat)], by, __ATOMIC_RELEASE);
   }
   by->plain_pools = by->flags ? 0 : by->pools;
 }

@@ -1,7 +1,7 @@
 /* The participant of each thread: taken by its first call of a mutex, and given back when the thread ends. The calls that use it
  * are in here.h. No mutex is acquired or released here. */
 
-/* It has no seat, so no call of it takes the fast path. */
+/* Stands for the participant of a thread that has none. It has no seats, so no call takes the fast path. */
 static struct participant nobody;
 
 static _Thread_local struct {
@@ -18,7 +18,7 @@ enum { NO_KEY = 0 };
 static uint32_t end_key;
 _Static_assert(sizeof(pthread_key_t) <= sizeof end_key, "the word has room for a key, which is a small number");
 
-/* Takes a seat of lfm_seat_here out of the list of its thread, and frees it: whether it was there. */
+/* Takes a seat of lfm_seat_here out of the list of its thread, and frees it: whether it was there. It may be null. */
 static bool forget_seat_here(lfm_seat *seat) {
   lfm_seat **at = &own.seats_here;
   while (*at && *at != seat) at = &(*at)->next;

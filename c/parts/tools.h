@@ -5,7 +5,6 @@
  * found. An unlock orders something only if it releases the mutex. From valgrind's tools the library hides its own memory,
  * since they don't know atomic operations. */
 
-#if defined(__has_include)
 #if __has_include(<valgrind/helgrind.h>) && __has_include(<valgrind/drd.h>)
 #include <valgrind/helgrind.h>
 static void tell_helgrind_before(void *of) { ANNOTATE_HAPPENS_BEFORE(of); }
@@ -16,9 +15,7 @@ SLOW_PATH void hide_in_valgrind(void *at, size_t bytes) {
   VALGRIND_HG_DISABLE_CHECKING(at, bytes);
   ANNOTATE_BENIGN_RACE_SIZED(at, bytes, "of ligdrosa");
 }
-#endif
-#endif
-#ifndef IS_IN_VALGRIND
+#else
 #define IS_IN_VALGRIND 0
 #define ANNOTATE_HAPPENS_AFTER(of) ((void)(of))
 #define ANNOTATE_HAPPENS_BEFORE(of) ((void)(of))
@@ -33,28 +30,20 @@ static void hide(void *at, size_t bytes) {
   if (IS_IN_VALGRIND) hide_in_valgrind(at, bytes);
 }
 
-/* How many processors the calling thread may use; 8 if the system doesn't tell. It is asked once, and errno stays as it
- * was. */
-static uint32_t processors(void) {
-  static uint32_t known;
-  uint32_t count = __atomic_load_n(&known, __ATOMIC_RELAXED);
-  if (count) return count;
-  hide(&known, sizeof known);
+/* How many processors the program's first thread could use when the library was loaded: 8 until the system is asked, and also if
+ * it doesn't tell. */
+static uint32_t processors = 8;
+
+__attribute__((constructor(101))) static void count_processors(void) {
   unsigned long mask[128];
-  int before = errno;
-  long bytes = syscall(SYS_sched_getaffinity, 0, sizeof mask, mask);
-  errno = before;
+  uint32_t count = 0;
+  long bytes = syscall(SYS_sched_getaffinity, getpid(), sizeof mask, mask);
   for (long i = 0; i < bytes / (long)sizeof mask[0]; i++) count += (uint32_t)__builtin_popcountl(mask[i]);
-  if (count == 0) count = 8;
-  __atomic_store_n(&known, count, __ATOMIC_RELAXED);
-  return count;
+  if (count) processors = count;
 }
 
 /* A seat spins only if at most this number are queued: the number of processors, or 0 if there is one. */
-static uint32_t most_spinners(void) {
-  uint32_t count = processors();
-  return count == 1 ? 0 : count;
-}
+static uint32_t most_spinners(void) { return processors == 1 ? 0 : processors; }
 
 /* Memory that is all 0, or null. errno stays as it was. It is asked of the system, and not of malloc, which may itself lock a
  * mutex of this library. */

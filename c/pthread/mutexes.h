@@ -53,11 +53,12 @@ SLOW_PATH int end_lock(struct own_mutex *ours, lfm_status status, const struct d
 
 /* The system looks at a time only if it has to wait. */
 static int lock_at_most_until(struct own_mutex *ours, clockid_t clock, const struct timespec *end) {
-  struct deadline deadline = {0, {0, 0}};
+  struct deadline deadline = {0};
   lfm_status status = lfm_try_lock_here(&ours->by);
   if (status == LFM_DONE) return 0;
   bool waits = status == LFM_BUSY || (status == LFM_AGAIN && is_for_one_hold(ours));
-  if (waits && deadline_at(clock, end, &deadline) != LFM_DONE) {
+  if (waits) deadline = deadline_at(clock, end);
+  if (deadline.refused) {
     if (status == LFM_AGAIN) lfm_unlock_here(&ours->by);
     return EINVAL;
   }

@@ -118,7 +118,7 @@ static void *explorer_reserve(size_t bytes) {
 size_t explorer_own_size(void) { return sizeof own; }
 void *explorer_own_at(void) { return &own; }
 void explorer_end_thread(void *at) { end_thread(at); }
-void explorer_warm(void) { processors(); } /* so that it is known in all runs */
+void explorer_warm(void) { count_processors(); } /* as many as an option names */
 size_t explorer_process_size(void) { return sizeof(struct process); }
 
 /* What is so when no thread has anything any more */
